@@ -35,7 +35,7 @@ IsRefused (words.Office office) old new = PrintsAnswer Failed old new
 IsRefused (words.Statement statement) old new = Appends old new unknown_line
 IsRefused _ old new = ⊥
 
--- the lines of some file are told, where it tells its bytes
+-- the lines of some file are answered, where it shows its bytes
 pub record PrintsLines {File : Type 0} (bytes : File → Option Bytes) (old new : Option Bytes)
     : Type 0 where
   pub file : File
@@ -54,7 +54,7 @@ BeginsLinesOf bytes old new = BeginsSomeLines bytes old new ⊎ (new ≡ old)
 
 -- an import has printed its counts; an operator's command its answer, and a statement the month
 -- that is asked for or that there is no such account, with which they end so; a replay what the
--- lines of a file are told, by the bytes that files tell
+-- lines of a file are answered, by the bytes that files show
 abbrev pub HasPrinted : {File : Type 0} → (File → Option Bytes) → ProgramWords → Option Bytes →
     Option Bytes → Status → Type 0
 HasPrinted bytes (words.Import import) old new status = PrintsCounts old new

@@ -40,7 +40,7 @@ abbrev pub OnlyDatabase : (DatabaseFault → Type 0) → ProgramFault → Type 0
 OnlyDatabase says (program.Database fault) = says fault
 OnlyDatabase says _ = ⊥
 
--- or of the writer to which it is told that all is done
+-- or of the writer to which it is printed that all is done
 abbrev pub OnlyDone : (DatabaseFault → Type 0) → ProgramFault → Type 0
 OnlyDone says (program.Database fault) = says fault
 OnlyDone says (program.Stream fault) = fault ≡ stream.Write

@@ -14,7 +14,7 @@ use Rattle.request_lines.specs.Served.{text_of}
 abbrev pub once_text : Book → Micros → Bytes → Bytes
 once_text b credit stream = text_of (one_book b) [] (Some credit) stream
 
--- where the reader tells its bytes, that text of them is written
+-- where the reader shows its bytes, that text of them is written
 abbrev pub WritesOnce : Book → Micros → Option Bytes → Option Bytes → Option Bytes → Type 0
 WritesOnce b credit bytes old new =
     IfSome bytes (λ stream. Appends old new (once_text b credit stream))

@@ -29,7 +29,8 @@ pub record PrintsSaid {File : Type 0} (bytes : File → Option Bytes) (said : Pr
   pub fault : status ≡ Failed → IfOnce said (λ once.
       BeginsOnce (once_book once.price once.block) once.credit stream old new)
 
--- it ends as the words say, what they ask for is printed or a beginning of it, and a fault is told
+-- it ends as the words say, what they ask for is printed or a beginning of it, and a fault is
+-- reported
 pub record Runs {F I O E : Type 0} (bytes : F → Option Bytes) (remaining : I → Option Bytes)
     (contents : O → Option Bytes) (faults : E → Option Bytes) (texts : List Text) (input rest : I)
     (old new : O) (before after : E) (status : Status) : Type 0 where

@@ -1,4 +1,4 @@
--- What the program tells on standard error.
+-- What the program reports on standard error.
 -- Source: profile.
 use Rattle.std.specs.Prelude.{◌≡◌, ◌≤◌, ◌⊎◌, ◌++◌, ◌∷◌, ℕ, List, [], Option, Some, None, codes}
 use Rattle.std.specs.Io.KnownBytes.{Keeps}
@@ -30,7 +30,7 @@ use Rattle.ocs.specs.declared.fault.ProgramFault.TheVariants as program
 
 -- ---- lines, without their line feeds
 
--- what a fault is told by: what failed, and its number where it has one
+-- what a fault is reported by: what failed, and its number where it has one
 abbrev pub about_fault : ProgramFault → FaultWords
 about_fault (program.Lines fault) = about_lines fault
 about_fault (program.Stream fault) = about_stream fault
@@ -101,9 +101,9 @@ IsSilent _ fault = IfStream fault (λ _. ⊥)
 abbrev pub LeavesOutput : ProgramWords → Option Bytes → Option Bytes → ProgramFault → Type 0
 LeavesOutput said before after fault = IsSilent said fault → after ≡ before
 
--- ---- what is told
+-- ---- what is reported
 
--- a fault of which this is so is told by its line, as far as it can be written
+-- a fault of which this is so is reported by its line, as far as it can be written
 pub record TellsFault (Reached Silent : ProgramFault → Type 0) (old new : Option Bytes)
     : Type 0 where
   pub fault : ProgramFault
@@ -152,7 +152,7 @@ IsToldOf fault.Memory status old new = TellsFault IsMemoryFault (λ _. Unit {0})
 
 -- ---- the same by what the words say
 
--- what is told of what ends well, or is refused
+-- what is printed of what ends well, or is refused
 abbrev pub IsToldAtEnd : ProgramWords → Option Bytes → Option Bytes → Type 0
 IsToldAtEnd (words.Serve serve) old new = ConnectionsTold serve.connections old new
 IsToldAtEnd _ old new = new ≡ old

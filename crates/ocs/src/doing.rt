@@ -117,7 +117,7 @@ fn answer_lines<I: Read, O: Write>(
     lines(alloc, &mut keeper, &shelf, Some(once.credit), input, output)
 }
 
-/// The shelf on which the book of one price stands alone: `price` micro-units a block of `block`
+/// The shelf on which the book of one price is alone: `price` micro-units a block of `block`
 /// seconds.
 fn once_shelf(alloc: Global, price: u64, block: u64) -> Result<TariffShelf, AllocError>
     requires price { price ≤ 1_000_000_000 }

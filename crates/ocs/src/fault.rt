@@ -28,7 +28,7 @@ pub enum ProgramFault {
 }
 
 impl ProgramFault {
-    /// The line that tells it on standard error, without its number.
+    /// The line that reports it on standard error, without its number.
     pub(crate) fn line(self) -> &'static str
         ensures { result.now ≡ (about_fault self).line }
     {

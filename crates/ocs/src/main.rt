@@ -72,7 +72,7 @@ pub fn run_words<'a, F: Files, I: Read, O: Write, E: Write>(
     }
 }
 
-/// Does what the words say, and tells a fault.
+/// Does what the words say, and reports a fault.
 #[tactic(auto, using(crate::proofs::EndLemmas::ended_told, crate::proofs::EndLemmas::ended_end, crate::proofs::EndLemmas::fault_end))]
 fn run_said<F: Files, I: Read, O: Write, E: Write>(
     rt: &HostRuntime,

@@ -34,7 +34,7 @@ pub(crate) fn answer_office<O: Write>(
     command_office(rt, words, output).map_err(ProgramFault::Database)
 }
 
-/// Tells an account's month.
+/// Prints an account's month.
 pub(crate) fn answer_statement<O: Write>(
     rt: &HostRuntime,
     words: StatementWords,
@@ -53,7 +53,7 @@ pub(crate) fn answer_statement<O: Write>(
     state_office(rt, words, output).map_err(ProgramFault::Database)
 }
 
-/// Adds the vouchers of a file, and tells what became of them.
+/// Adds the vouchers of a file, and prints what became of them.
 pub(crate) fn answer_import<O: Write>(
     rt: &HostRuntime,
     import: ImportWords,

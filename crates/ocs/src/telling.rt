@@ -17,10 +17,10 @@ use std::alloc::Global;
 use std::io::{self, Write};
 use texts::{StreamFault, write_whole};
 
-/// What is told of words of which one isn't what its place takes.
+/// What is reported of words of which one isn't what its place takes.
 const INVALID: &str = "ocs: a word is not one that its place takes";
 
-/// Tells a fault by its line, as far as it can be written.
+/// Reports a fault by its line, as far as it can be written.
 pub(crate) fn tell_fault<E: Write>(errors: &mut E, fault: ProgramFault) -> Status
     ensures status { result ≡ Failed }
     ensures told { WritesBeginning (E.contents errors.old) (E.contents errors.new)
@@ -30,7 +30,7 @@ pub(crate) fn tell_fault<E: Write>(errors: &mut E, fault: ProgramFault) -> Statu
     Status::Failed
 }
 
-/// Tells a fault of a stream, or want of memory.
+/// Reports a fault of a stream, or want of memory.
 fn tell_stream<E: Write>(errors: &mut E, fault: StreamFault) -> Status
     ensures status { result ≡ Failed }
     ensures told { WritesBeginning (E.contents errors.old) (E.contents errors.new)
@@ -46,7 +46,7 @@ fn is_text(kind: ErrorKind) -> bool
     matches!(kind, ErrorKind::DisplayHelp | ErrorKind::DisplayVersion)
 }
 
-/// Tells an error of `clap` by its text: the help and the version on the output, any other on the
+/// Reports an error of `clap` by its text: the help and the version on the output, any other on the
 /// errors.
 fn tell_error<O: Write, E: Write>(
     alloc: Global,
@@ -72,7 +72,7 @@ fn tell_error<O: Write, E: Write>(
     }
 }
 
-/// Tells why words weren't read.
+/// Reports why words weren't read.
 pub(crate) fn tell_unread<O: Write, E: Write>(
     alloc: Global,
     fault: WordsFault,
@@ -94,7 +94,7 @@ pub(crate) fn tell_unread<O: Write, E: Write>(
     }
 }
 
-/// Tells why the words that the program is started with weren't handed over: one isn't text, or
+/// Reports why the words that the program is started with weren't handed over: one isn't text, or
 /// memory was refused.
 pub(crate) fn tell_start<E: Write>(errors: &mut E, kind: io::ErrorKind) -> Status {
     match kind {

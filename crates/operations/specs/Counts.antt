@@ -22,7 +22,7 @@ counted_as Present n = record n { present = n.present + 1 }
 counted_as Conflicting n = record n { conflicting = n.conflicting + 1 }
 
 -- the same by what was decided of its command: accepted it is new; refused, one of other terms
--- stands under its code; else it stood there
+-- is under its code; otherwise it was there
 abbrev pub counted_unaccepted : Answer → Counts → Counts
 counted_unaccepted (answer.Refused refusal) n = record n { conflicting = n.conflicting + 1 }
 counted_unaccepted given n = record n { present = n.present + 1 }
@@ -31,7 +31,7 @@ abbrev pub counted : Bool → Answer → Counts → Counts
 counted true given n = record n { new = n.new + 1 }
 counted false given n = counted_unaccepted given n
 
--- what is told of them
+-- what is printed of them
 abbrev pub counts_text : Counts → Bytes
 counts_text n = codes "new " ++ (decimal n.new ++ (codes " present " ++ (decimal n.present
     ++ (codes " conflicting " ++ decimal n.conflicting))))

@@ -136,7 +136,7 @@ pub record ServesImport {A W : Type 0} (contents : W → Option Bytes)
 
 -- ---- one voucher
 
--- it was added, or stood there, or another does: it counts as it was decided
+-- it was added, or was there, or another is: it counts as it was decided
 pub record IsAdded (b : Shelf) (list : List Accepted) (d : DatedCommand) (old new : Tables)
     (addition : Addition) : Type 0 where
   pub counts : (n : Counts) → counted_as addition n ≡ counted_after b list d n

@@ -1,5 +1,5 @@
--- What is told of an account's month: a statement or an export of it, or that there is no account.
--- Source: profile.
+-- What is printed of an account's month: a statement or an export of it, or that there is no
+-- account. Source: profile.
 use Rattle.std.specs.Prelude.{◌≡◌, ◌≢◌, ◌⊎◌, ◌+◌, ◌≤◌, List, Option, Result, if◌then◌else◌, IfOk}
 use Rattle.std.specs.Prelude.{Ok, Err, IsErrOf, OnErr, OnOk, min}
 use Rattle.std.specs.Io.KnownBytes.{Appends}
@@ -54,7 +54,8 @@ ledger_text b q t ledger =
 abbrev pub unknown_line : Bytes
 unknown_line = answer_line (Refused AccountUnknown)
 
--- what is told of an account by its history, and how that ends: one that wasn't opened is refused
+-- what is printed of an account by its history, and how that ends: one that wasn't opened is
+-- refused
 abbrev pub month_text : Shelf → MonthQuery → Moment → History → Bytes
 month_text b q t h = if h.opened then ledger_text b q t h.ledger else unknown_line
 
@@ -69,7 +70,7 @@ pub record Tells (ends : Status) (old new : Option Bytes) (text : Bytes)
   pub whole : IfOk result (λ status. (status ≡ ends) × Appends old new text)
   pub beginning : OnErr result (WritesBeginning old new text)
 
--- so the month is told as of the moment of a command, for every list of accepted commands whose
+-- so the month is printed as of the moment of a command, for every list of accepted commands whose
 -- tables a keeper holds
 abbrev pub IsMonthTold : Shelf → MonthQuery → Moment → Tables → Option Bytes → Option Bytes →
     Result Status OfficeFault → Type 0
@@ -120,7 +121,7 @@ pub record OnlyReads (old new : Seen) (result : Result Status OfficeFault) : Typ
 
 -- ---- over a keeper
 
--- an account's month is told, or that there is no account; nothing is changed
+-- an account's month is printed, or that there is no account; nothing is changed
 pub record ServesStatement {W : Type 0} (contents : W → Option Bytes)
     (b : Shelf) (q : MonthQuery) (t : Moment) (old new : Seen) (before after : W)
     (result : Result Status OfficeFault) : Type 0 where

@@ -1,4 +1,4 @@
--- What a call that carries something out over a keeper and tells it leaves of both at a store
+-- What a call that carries something out over a keeper and prints it leaves of both at a store
 -- fault.
 -- Source: profile.
 use Rattle.std.specs.Prelude.{◌≡◌, ◌+◌, ◌≤◌, Err, Result, min}

@@ -1,4 +1,4 @@
--- What an operator's command tells: its answer as a line, a fault as one line, and a status.
+-- What an operator's command prints: its answer as a line, a fault as one line, and a status.
 -- Source: profile.
 use Rattle.std.specs.Prelude.{ℕ, ◌++◌, ◌∷◌, [], codes, Option, Some, None, if◌then◌else◌}
 use Rattle.std.specs.Fmt.{decimal}
@@ -30,7 +30,7 @@ status_number Unread = 2
 
 -- ---- the lines of faults, without their line feeds
 
--- what a fault is told by: what failed, and its number where it has one
+-- what a fault is reported by: what failed, and its number where it has one
 pub record FaultWords : Type 0 where
   pub line : Bytes
   pub number : Option ℕ

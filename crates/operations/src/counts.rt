@@ -6,15 +6,15 @@ ghost use Rattle.operations.specs.Counts.{counted_as, counts_text, no_counts, to
 use std::alloc::{AllocError, Global};
 use voucher_rules::Addition;
 
-/// How many vouchers were added, stood there with the same terms, and were refused since one of
-/// other terms stands under their code (`O5`). Only the first changed anything.
+/// How many vouchers were added, were there with the same terms, and were refused since their code
+/// has a voucher of other terms (`O5`). Only the first changed anything.
 #[derive(Clone, Copy)]
 pub struct Counts {
     /// Added by this import.
     pub new: u64,
     /// There already, with the same terms.
     pub present: u64,
-    /// Refused: another of these codes has other terms.
+    /// Refused: their code has a voucher of other terms.
     pub conflicting: u64,
 }
 
@@ -50,7 +50,7 @@ pub(crate) fn count_one(counts: Counts, addition: Addition) -> Counts
     }
 }
 
-/// What is told of them: `new 3 present 0 conflicting 0`.
+/// What is printed of them: `new 3 present 0 conflicting 0`.
 pub(crate) fn counts_text(alloc: Global, counts: Counts) -> Result<String, AllocError>
     ensures { IfOk result (λ text. string_bytes text ≡ counts_text counts) }
 {

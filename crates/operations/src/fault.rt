@@ -7,7 +7,7 @@ use keepers::StoreFault;
 use texts::StreamFault;
 use thiserror::Error;
 
-/// Why an operator's command wasn't done, or its answer not told.
+/// Why an operator's command wasn't done, or its answer not printed.
 #[derive(Clone, Copy, Debug, Drop, Error, PartialEq, Eq)]
 pub enum OfficeFault {
     /// The keeper didn't do what it was asked: nothing has changed, but of vouchers a beginning was
@@ -20,7 +20,7 @@ pub enum OfficeFault {
 }
 
 impl OfficeFault {
-    /// The line that tells it on standard error, without its number and its line feed.
+    /// The line that reports it on standard error, without its number and its line feed.
     pub fn line(self) -> &'static str
         ensures { result.now ≡ (about_office self).line }
     {
@@ -61,14 +61,14 @@ impl From<StreamFault> for OfficeFault {
     }
 }
 
-/// The line that tells a fault of a store, without its number and its line feed.
+/// The line that reports a fault of a store, without its number and its line feed.
 pub fn store_line() -> &'static str
     ensures { result.now ≡ store_line }
 {
     "ocs: store fault"
 }
 
-/// The line that tells a fault of a stream, without its line feed. It has no number.
+/// The line that reports a fault of a stream, without its line feed. It has no number.
 pub fn stream_line(fault: StreamFault) -> &'static str
     ensures { result.now ≡ stream_line fault }
 {

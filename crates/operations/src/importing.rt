@@ -50,7 +50,7 @@ pub fn import<K: Keeper>(
     Ok(counts)
 }
 
-/// Adds a voucher by a command, and tells what it is over what stood under its code.
+/// Adds a voucher by a command, and says what it is over what was under its code.
 fn add_voucher<K: Keeper>(
     alloc: Global,
     keeper: &mut K,

@@ -1,4 +1,4 @@
-//! What an operator's command does over a keeper, and what it tells: its answer as a line, what
+//! What an operator's command does over a keeper, and what it prints: its answer as a line, what
 //! became of vouchers, an account's month, or one line of its fault.
 #![tactic(auto)]
 

@@ -122,7 +122,7 @@ fn month_fault(fault: StatementFault) -> OfficeFault
     }
 }
 
-/// Tells that the account isn't there.
+/// Prints that the account isn't there.
 fn tell_unknown<W: Write>(alloc: Global, writer: &mut W) -> Result<Status, OfficeFault>
     ensures told { Tells Failed (W.contents writer.old)
         (W.contents writer.new) unknown_line result }

@@ -93,8 +93,8 @@ fn tell_end<E: Write>(errors: &mut E, number: Option<u8>, place: Option<u64>)
     }
 }
 
-/// Tells a fault by its line, its number where it has one, the record of a file that it is at where
-/// it is one of that, and a line feed, as far as they can be written. It takes no memory.
+/// Reports a fault by its line, its number where it has one, the record of a file that it is at
+/// where it is one of that, and a line feed, as far as they can be written. It takes no memory.
 pub fn tell_fault<E: Write>(errors: &mut E, line: &str, number: Option<u8>, place: Option<u64>)
     ensures { WritesBeginning (E.contents errors.old) (E.contents errors.new)
         (((line.now ++ number_told number) ++ place_told place) ++ 10 ∷ []) }

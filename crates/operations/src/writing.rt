@@ -23,7 +23,7 @@ pub fn write_line<W: Write>(writer: &mut W, text: String) -> Result<(), StreamFa
     Ok(())
 }
 
-/// Writes an answer as a line, its text as it stands; this takes no memory.
+/// Writes an answer as a line, its text as it is; this takes no memory.
 ///
 /// # Errors
 /// `Write` where the writer failed: then a beginning of the line is written.

@@ -1,4 +1,4 @@
--- The lines of a stream as they are kept: what each is told, and the requests among them.
+-- The lines of a stream as they are kept: what each is answered, and the requests among them.
 -- Source: profile.
 use Rattle.std.specs.Prelude.{◌≡◌, List, map, Option, Some, None, Result}
 use Rattle.json_fields.specs.declared.fault.WireFault.{WireFault}
@@ -17,7 +17,7 @@ wire_fault NotRequest = wire.NotRequest
 wire_fault (Missing avp) = wire.Missing avp
 wire_fault (Invalid avp) = wire.Invalid avp
 
--- the fault that a line is told
+-- the fault that a line is answered
 abbrev pub told_fault : Line → Option WireFault
 told_fault Request = None
 told_fault (Fault fault) = Some (wire_fault fault)

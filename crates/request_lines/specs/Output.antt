@@ -1,4 +1,4 @@
--- What a line is told.
+-- What a line is answered.
 -- Source: profile.
 use Rattle.std.specs.Prelude.{Option, Some, None}
 use Rattle.texts.specs.StreamWords.{Bytes}

@@ -1,5 +1,5 @@
 -- What the lines of a stream come to: the commands that they hand in, and the text that each line
--- is told.
+-- is answered.
 -- Source: profile.
 use Rattle.std.specs.Prelude.{ℕ, List, [], ◌∷◌, ◌++◌, codes, length, map, take, drop, Option, Some}
 use Rattle.std.specs.Prelude.{None, IfNone, IfSome, Result, Ok, Err, ◌≡◌, ◌<◌, ◌≤◌, ◌+◌, min}
@@ -88,8 +88,8 @@ fault_of (Err fault) = Some fault
 abbrev pub faults_in : Bytes → List (Option WireFault)
 faults_in stream = map fault_of (map line_request (lines_of stream))
 
--- each line is told its fault, or the next answer, with a line feed after it, up to a request that
--- has no answer
+-- each line is answered its fault, or the next answer, with a line feed after it, up to a request
+-- that has no answer
 abbrev pub answer_texts : List (Option WireFault) → List Answer → Bytes
 answer_texts [] answers = []
 answer_texts (Some fault ∷ lines) answers = fault_text fault ++ 10 ∷ answer_texts lines answers
@@ -170,7 +170,7 @@ pub record IsRunOpened {F : Type 0} (b : Shelf) (opening requests : List DatedCo
 
 -- ---- over a keeper, a reader and a writer
 
--- what answering lines leaves of a keeper that stays clean, where the reader tells its bytes: all
+-- what answering lines leaves of a keeper that stays clean, where the reader shows its bytes: all
 -- are answered, or a beginning of them, and the faults of the keeper and of the writer say which
 pub record AnswersLines {A : Type 0} (b : Shelf) (opening : Option Micros)
     (bytes empty full : Option Bytes) (old new : Seen) (result : Result A LinesFault) : Type 0 where
@@ -196,7 +196,7 @@ pub record AnswersLines {A : Type 0} (b : Shelf) (opening : Option Micros)
 
 -- ---- whatever a keeper holds
 
--- each line of a stream is told its fault or an answer, and none is left out
+-- each line of a stream is answered its fault or an answer, and none is left out
 pub record TellsLines (old new : Option Bytes) (stream : Bytes) : Type 0 where
   pub answers : List Answer
   pub all : length answers ≡ length (requests_in stream)

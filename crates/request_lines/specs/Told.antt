@@ -1,10 +1,10 @@
--- What is told of a fault of lines on standard error.
+-- What is reported of a fault of lines on standard error.
 -- Source: profile.
 use Rattle.operations.specs.Told.{FaultWords, about_store, about_stream}
 use Rattle.request_lines.specs.declared.fault.LinesFault.{LinesFault}
 use Rattle.request_lines.specs.declared.fault.LinesFault.TheVariants.{Read, Store, Both, Write}
 
--- what it is told by
+-- what is reported of it
 abbrev pub about_lines : LinesFault → FaultWords
 about_lines (Read fault) = about_stream fault
 about_lines (Store fault) = about_store fault

@@ -28,7 +28,7 @@ pub enum LinesFault {
 }
 
 impl LinesFault {
-    /// The line that tells it on standard error, without its number and its line feed.
+    /// The line that reports it on standard error, without its number and its line feed.
     pub fn line(self) -> &'static str
         ensures { result.now ≡ (about_lines self).line }
     {

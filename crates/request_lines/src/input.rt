@@ -1,4 +1,4 @@
-//! The lines of a stream as they are read: what each is told, and the requests among them.
+//! The lines of a stream as they are read: what each is answered, and the requests among them.
 
 ghost use Rattle.std.specs.Prelude.{◌≡◌, ◌≢◌, ◌++◌, ◌∷◌, [], map, List, Result, Some, None, OnOk};
 ghost use Rattle.std.specs.Prelude.{OnErr, IfOk, IfSome};
@@ -28,7 +28,7 @@ pub(crate) enum LineFault {
     Invalid(Avp),
 }
 
-/// What a line is told.
+/// What a line is answered.
 #[derive(Clone, Copy)]
 pub(crate) enum Line {
     /// The answer to its request.
@@ -41,7 +41,7 @@ impl Line {
     ghost use Rattle.std.specs.Prelude.{◌≡◌, is_some, not};
     ghost use Rattle.request_lines.specs.Input.{told_fault};
 
-    /// Whether it is told an answer.
+    /// Whether it is an answer that it gets.
     pub(crate) fn is_request(self) -> bool
         ensures { is_some (told_fault self) ≡ not result }
     {
@@ -52,7 +52,7 @@ impl Line {
 /// The lines of a stream.
 #[derive(Drop)]
 pub(crate) struct Input {
-    /// What each line is told.
+    /// What each line is answered.
     pub(crate) lines: Vec<Line>,
     /// The requests among them, in their order.
     pub(crate) requests: Vec<DatedCommand>,

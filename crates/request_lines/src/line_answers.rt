@@ -1,4 +1,4 @@
-//! Lines that are read, run and told.
+//! Lines that are read, run and answered.
 
 ghost use Rattle.std.specs.Prelude.{◌≡◌, ◌≤◌, ◌+◌, ◌++◌, Err, IfNone};
 ghost use Rattle.std.specs.Prelude.{Some, length, min};
@@ -26,9 +26,9 @@ use texts::StreamFault;
 use units::Money;
 
 /// Answers lines `MOMENT JSON` of requests for credit control, a line each. All lines are read
-/// first; then the requests are run, and what each line is told is written: a request's answer, or
-/// the fault of a line that isn't read as one. Where an opening amount in micro-units is handed in,
-/// the first request's account is opened before it with one bucket of this amount, from the
+/// first; then the requests are run, and what each line is answered is written: a request's answer,
+/// or the fault of a line that isn't read as one. Where an opening amount in micro-units is handed
+/// in, the first request's account is opened before it with one bucket of this amount, from the
 /// beginning and without end (profile; the requests: RFC 8506 sections 5.2 to 5.4 and 6).
 ///
 /// # Errors

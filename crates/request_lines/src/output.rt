@@ -1,4 +1,4 @@
-//! What lines are told, written.
+//! What lines are answered, written.
 
 ghost use Rattle.std.specs.Prelude.{◌≡◌, ◌≢◌, map, option_map, string_bytes, IfErr, IfOk, OnErr};
 ghost use Rattle.std.specs.Prelude.{OnOk};
@@ -16,8 +16,8 @@ use std::io::Write;
 use texts::StreamFault;
 use wire::{WrittenAnswer, write_fault};
 
-/// Writes what each line is told: its fault, or the next answer. It ends at the first request that
-/// has no answer.
+/// Writes what each line is answered: its fault, or the next answer. It ends at the first request
+/// that has no answer.
 pub(crate) fn write_output<W: Write>(
     alloc: Global,
     writer: &mut W,
@@ -43,7 +43,7 @@ pub(crate) fn write_output<W: Write>(
     Ok(())
 }
 
-/// What a line is told: its fault, or the answer, where there is one.
+/// What a line is answered: its fault, or the answer, where there is one.
 fn line_text(
     alloc: Global,
     line: Line,
