@@ -1,5 +1,5 @@
 -- A connection, one request after another: what is written is a function of the bytes that are read
--- and of the clock's moments, but that 503 may stand where memory or the store fails, and not in
+-- and of the clock's moments, but that 503 may come where memory or the store fails, and not in
 -- the place of a refusal.
 -- Source: RFC 9112 sections 2.1, 6 and 9.3; the bounds: profile.
 use Rattle.std.specs.Prelude.{◌≡◌, ◌<◌, ◌≤◌, ◌-◌, ◌==◌, ℕ, zero, suc, Bool, true, if◌then◌else◌}
@@ -184,7 +184,7 @@ pub record IsLeftWithin (b : Shelf) (stream : Bytes) (most : ℕ) (held : Tables
   pub tables : AreTables b last.list held
   pub time : IsInTime last.list
 
--- where the reader tells its bytes, a stop leaves what it left before, or, of a keeper that was
+-- where the reader shows its bytes, a stop leaves what it left before, or, of a keeper that was
 -- clean before, tables to which at most so many of its requests come
 abbrev pub LeavesTurns : Shelf → Option Bytes → ℕ → Seen → Seen → Type 0
 LeavesTurns b bytes most old new = IfSome bytes (λ stream.
@@ -207,7 +207,7 @@ pub record IsShown {C : Type 0} (gives : C → Option Moment → C → Type 0) (
   pub write : IsErrOf result Write → IfSome bytes (λ stream.
       IsCutOff gives b stream before after empty full old held)
 
--- what comes of a connection over a keeper that stays clean, where the reader tells its bytes: it
+-- what comes of a connection over a keeper that stays clean, where the reader shows its bytes: it
 -- is served to its end, or a beginning of it is, and each fault says which; at most 1,000 requests
 -- are answered, and the accepted commands go on, also those that are found after a stop: these are
 -- of a beginning of its requests

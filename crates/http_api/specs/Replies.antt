@@ -58,7 +58,7 @@ reply_at b list c (Some t) = record {
   after = with_command b list c (moment_of list t);
 }
 
--- a statement is a text; that there is no account is told as an answer is
+-- a statement is a text; that there is no account is written as an answer is
 abbrev pub statement_media : Bool → Media
 statement_media true = Text
 statement_media false = Json
@@ -108,7 +108,7 @@ MayAsk (reads (Ok c)) moments = length moments ≤ 1
 MayAsk (states q) moments = length moments ≤ 1
 
 -- what is due; or 503 where memory or the store fails: then the request isn't accepted. A refusal
--- takes neither, and is always told.
+-- takes neither, and is always written.
 abbrev pub IsReply : Shelf → List Accepted → Asking → List (Option Moment) → Reply → Type 0
 IsReply b list (refuses code) moments reply = IsDue b list (refuses code) moments reply
 IsReply b list (reads read) moments reply = IsDue b list (reads read) moments reply
@@ -137,7 +137,7 @@ pub record Replies {C : Type 0} (gives : C → Option Moment → C → Type 0) (
   pub written : Writes text
   pub replied : ForEachList b old (IsReplied b asking closes moments text new)
 
--- what is told of tables and of those after them, over a store that may not be asked any more: of
+-- what is said of tables and of those after them, over a store that may not be asked any more: of
 -- the tables at the last moment at which it could be asked
 pub record ShowsReply {A : Type 0} (Told : (Bytes → Type 0) → Tables → Tables → Type 0)
     (empty full : Option Bytes) (held : Tables) (Now : Tables → Type 0)

@@ -1,10 +1,10 @@
-//! What tells the time of requests.
+//! What gives the time of requests.
 
 ghost use Rattle.std.specs.Prelude.{◌≡◌, ℕ, Option, Some};
 
 use units::Moment;
 
-/// What tells the time.
+/// What gives the time.
 pub trait Clock {
     /// A call gives this moment, in seconds since 1970, or none, and leaves the clock like this. A
     /// clock that says nothing of its moments holds of all.
@@ -15,7 +15,7 @@ pub trait Clock {
         ensures { gives self.old result self.new };
 }
 
-/// A clock that stands still.
+/// A clock that doesn't move.
 #[derive(Clone, Copy)]
 pub struct FixedClock {
     /// The moment that the clock gives, at each call.

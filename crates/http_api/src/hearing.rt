@@ -21,7 +21,7 @@ pub(crate) struct Heard {
     pub(crate) closes: bool,
 }
 
-/// Takes the next request off a stream, and tells what it asks; None where the stream ends before a
+/// Takes the next request off a stream, and gives what it asks; None where the stream ends before a
 /// request does.
 ///
 /// # Errors

@@ -29,7 +29,7 @@ pub struct Served {
 /// the reader with its body, answered at the clock's moment, and its answer written before the next
 /// is read. At most 1,000 are answered.
 ///
-/// Over a reader that doesn't tell its bytes, as a socket, the keeper's tables are still those of
+/// Over a reader that doesn't show its bytes, as a socket, the keeper's tables are still those of
 /// dated commands.
 ///
 /// # Errors

@@ -1,5 +1,6 @@
 -- What is printed of an account's month: a statement or an export of it, or that there is no
--- account. Source: profile.
+-- account.
+-- Source: profile.
 use Rattle.std.specs.Prelude.{◌≡◌, ◌≢◌, ◌⊎◌, ◌+◌, ◌≤◌, List, Option, Result, if◌then◌else◌, IfOk}
 use Rattle.std.specs.Prelude.{Ok, Err, IsErrOf, OnErr, OnOk, min}
 use Rattle.std.specs.Io.KnownBytes.{Appends}

@@ -1,4 +1,4 @@
--- What becomes of a tariff book that is added, and which faults are told.
+-- What becomes of a tariff book that is added, and which faults are reported.
 -- Source: profile.
 use Rattle.std.specs.Prelude.{◌≡◌, Result, Ok, Err}
 use Rattle.operations.specs.declared.fault.OfficeFault.TheVariants.{Store}
@@ -12,7 +12,7 @@ abbrev pub of_adding : Result (Unit {0}) AddFault → Result (Unit {0}) Database
 of_adding (Ok unit) = Ok unit
 of_adding (Err fault) = Err (adding_fault fault)
 
--- this is so of the keeper's answer, which is told
+-- this is so of the keeper's answer, which is reported
 pub record IsOfAdding (says : Result (Unit {0}) AddFault → Type 0)
     (result : Result (Unit {0}) DatabaseFault) : Type 0 where
   pub answer : Result (Unit {0}) AddFault

@@ -1,5 +1,5 @@
 -- What becomes of a file of vouchers, for every list of accepted commands whose tables a keeper
--- holds, and which faults are told.
+-- holds, and which faults are reported.
 -- Source: profile.
 use Rattle.std.specs.Prelude.{◌≡◌, ◌≤◌, List, Option, Result, Ok, Err, IsTrue, false}
 use Rattle.std.specs.Prelude.{IfErr, IfSome, OnOk}
@@ -65,7 +65,7 @@ abbrev pub IsImportEnd : Option Moment → ImportFault → Type 0
 IsImportEnd at (Vouchers fault) = Unit {0}
 IsImportEnd at (Database fault) = IsCommandFault at fault
 
--- nothing was told
+-- nothing was printed
 abbrev pub IsUntold : ImportFault → Type 0
 IsUntold (Vouchers fault) = Unit {0}
 IsUntold (Database fault) = IsUnanswered fault

@@ -1,4 +1,4 @@
--- Which faults the making of a book's database tells.
+-- Which faults the making of a book's database reports.
 -- Source: profile.
 use Rattle.std.specs.Prelude.{◌≡◌}
 use Rattle.shelves.specs.Words.{BookText}
@@ -21,7 +21,7 @@ IsInitFault (Open fault) = Unit {0}
 IsInitFault Memory = Unit {0}
 IsInitFault _ = ⊥
 
--- this is so of why the tables weren't made, which is told as the fault
+-- this is so of why the tables weren't made, which is reported as the fault
 pub record IsNotMade (left : CreateFault → Type 0) (fault : DatabaseFault) : Type 0 where
   pub made : CreateFault
   pub is : fault ≡ making_fault made

@@ -1,4 +1,4 @@
--- Which faults a call tells.
+-- Which faults a call reports.
 -- Source: profile.
 use Rattle.std.specs.Prelude.{◌≡◌, Option, None}
 use Rattle.units.specs.Words.{Moment}
@@ -9,7 +9,7 @@ use Rattle.service.specs.declared.fault.DatabaseFault.{DatabaseFault}
 use Rattle.service.specs.declared.fault.DatabaseFault.TheVariants.{File, Clock, Open}
 use Rattle.service.specs.declared.fault.DatabaseFault.TheVariants.{Memory, Office}
 
--- this is so of why the tables weren't opened, which is told as the fault
+-- this is so of why the tables weren't opened, which is reported as the fault
 pub record IsNotFound (left : OpenFault → Type 0) (fault : DatabaseFault) : Type 0 where
   pub opened : OpenFault
   pub is : fault ≡ Open opened

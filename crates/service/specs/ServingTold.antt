@@ -1,4 +1,5 @@
--- What is told of a port and of its connections, and which faults come before the first connection.
+-- What is reported of a port and of its connections, and which faults come before the first
+-- connection.
 -- Source: profile.
 use Rattle.std.specs.Prelude.{◌≡◌, ◌≤◌, ℕ, List, [], ◌∷◌, ◌++◌, codes, length, Option, Result}
 use Rattle.std.specs.Prelude.{IfErr, IfOk, OnErr, OnOk}
@@ -50,7 +51,7 @@ pub record TellsFaults (count : ℕ) (old new : Option Bytes) : Type 0 where
 
 -- ---- before the first connection
 
--- a fault of the database, of the port, or of the line that tells it
+-- a fault of the database, of the port, or of the line that reports it
 abbrev pub IsServeFault : DatabaseFault → Type 0
 IsServeFault database.File = Unit {0}
 IsServeFault (database.Open fault) = Unit {0}
@@ -58,7 +59,7 @@ IsServeFault database.Net = Unit {0}
 IsServeFault database.Memory = Unit {0}
 IsServeFault _ = ⊥
 
--- one after which nothing is told of the port
+-- one after which nothing is printed of the port
 abbrev pub IsUnlistened : DatabaseFault → Type 0
 IsUnlistened database.File = ⊥
 IsUnlistened database.Memory = ⊥
@@ -72,8 +73,8 @@ IsTellFault _ = ⊥
 
 -- ---- a port
 
--- that it is listened to is told, and so many of its connections' faults; or a fault comes before
--- the first connection
+-- that it is listened to is printed, and so many of its connections' faults; or a fault comes
+-- before the first connection
 pub record Listens {A O E : Type 0} (contents : O → Option Bytes) (faults : E → Option Bytes)
     (words : ServeWords) (failed : A → ℕ) (old new : O) (before after : E)
     (result : Result A DatabaseFault) : Type 0 where
@@ -102,8 +103,8 @@ pub record ListensOver {D O E : Type 0} {g : disk.Ghosts D} (image : Image)
   pub untold : OnErr result (after ≡ before)
   pub fault : IfErr result IsServeFault
 
--- so many connections at most end in a fault, each of which is told; what was accepted is what the
--- tables go on by
+-- so many connections at most end in a fault, each of which is reported; what was accepted is what
+-- the tables go on by
 pub record ServesConnections {E : Type 0} (faults : E → Option Bytes)
     (b : Shelf) (connections : ℕ) (old new : Seen) (before after : E) (result : ℕ) : Type 0 where
   pub told : TellsFaults result (faults before) (faults after)

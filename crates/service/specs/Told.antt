@@ -1,4 +1,4 @@
--- What a fault of a command over a database is told by.
+-- What a fault of a command over a database is reported by.
 -- Source: profile.
 use Rattle.std.specs.Prelude.{codes}
 use Rattle.tariffs.specs.Faults.{book_fault_number}
@@ -16,7 +16,7 @@ use Rattle.service.specs.declared.fault.DatabaseFault.TheVariants.{File, Clock, 
 use Rattle.service.specs.declared.fault.DatabaseFault.TheVariants.{Shelf, Net, Memory}
 use Rattle.service.specs.declared.fault.DatabaseFault.TheVariants.{Office}
 
--- what a fault is told by: what failed, and its number where it has one
+-- what a fault is reported by: what failed, and its number where it has one
 abbrev pub about_database : DatabaseFault → FaultWords
 about_database File = plain_words (codes "ocs: file fault")
 about_database Clock = plain_words (codes "ocs: clock fault")
@@ -27,14 +27,14 @@ about_database Net = plain_words (codes "ocs: net fault")
 about_database Memory = plain_words (codes "ocs: memory fault")
 about_database (Office fault) = about_office fault
 
--- a database that isn't made is told as one that isn't opened
+-- a database that isn't made is reported as one that isn't opened
 abbrev pub making_fault : CreateFault → DatabaseFault
 making_fault (create.Book fault) = Book fault
 making_fault create.Present = Open opening.Foreign
 making_fault create.Store = Open opening.Store
 making_fault create.Memory = Open opening.Memory
 
--- a book that isn't added is told by its cause, one of the store as of a command
+-- a book that isn't added is reported by its cause, one of the store as of a command
 abbrev pub adding_fault : AddFault → DatabaseFault
 adding_fault (add.Book fault) = Book fault
 adding_fault (add.Shelf fault) = Shelf fault

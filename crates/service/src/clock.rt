@@ -8,7 +8,7 @@ use crate::fault::DatabaseFault;
 use std::time::{SystemTime, UNIX_EPOCH};
 use units::Moment;
 
-/// The machine's moment; None where its clock doesn't answer, or tells none of a command.
+/// The machine's moment; None where its clock doesn't answer, or gives none of a command.
 pub fn machine_moment(rt: &HostRuntime) -> Option<Moment>
     ensures { IfSome result (λ t. t < 4_102_444_800) }
 {

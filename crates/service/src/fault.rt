@@ -45,7 +45,7 @@ pub enum DatabaseFault {
 }
 
 impl DatabaseFault {
-    /// The line that tells it on standard error, without its number and its line feed.
+    /// The line that reports it on standard error, without its number and its line feed.
     pub fn line(self) -> &'static str
         ensures { result.now ≡ (about_database self).line }
     {

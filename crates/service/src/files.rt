@@ -71,7 +71,7 @@ fn is_filled(rt: &HostRuntime, path: &str) -> Result<bool, DatabaseFault>
     }
 }
 
-/// Whether the folder is there in which a path stands.
+/// Whether the folder is there in which a path is.
 fn has_folder(rt: &HostRuntime, path: &str) -> bool {
     match Path::new(path).parent() {
         Some(folder) => folder.as_str().is_empty() || folder.exists(rt),

@@ -28,7 +28,7 @@ use thiserror::Error;
 use units::Moment;
 use vouchers::{VoucherFault, read_vouchers};
 
-/// Why the vouchers of a file weren't all added and told.
+/// Why the vouchers of a file weren't all added and counted on the output.
 #[derive(Clone, Copy, Debug, Drop, Error)]
 pub enum ImportFault {
     /// The file has a fault, or wasn't read to its end: nothing has changed.

@@ -25,13 +25,13 @@ use std::net::{Ipv4Addr, TcpListener};
 use texts::{StreamFault, write_whole};
 
 /// Serves the connections of the words over their database, one after another, and answers how many
-/// of them ended in a fault. Once the port of 127.0.0.1 is listened to, `output` is told so in a
-/// line; each connection's fault is a line on `errors`, and the next one is served. Nothing is
+/// of them ended in a fault. Once the port of 127.0.0.1 is listened to, `output` gets a line that
+/// says so; each connection's fault is a line on `errors`, and the next one is served. Nothing is
 /// supposed of a write of the database that was torn.
 ///
 /// # Errors
 /// In this order, each before the first connection: as `open_office`; `Net` where the port can't be
-/// listened to; `Memory` or `File` where that it is isn't told on `output`.
+/// listened to; `Memory` or `File` where the line that says so isn't written.
 pub fn serve_database<O: Write, E: Write>(
     rt: &HostRuntime,
     words: &ServeWords,
@@ -95,14 +95,14 @@ fn serve_office<S: Alter + Drop, O: Write, E: Write>(
     Ok((failed, keeper))
 }
 
-/// The line that tells that a port is listened to, with its line feed.
+/// The line that says that a port is listened to, with its line feed.
 fn listening_line(alloc: Global, port: u16) -> Result<String, AllocError>
     ensures { IfOk result (λ line. string_bytes line ≡ listening_line port) }
 {
     format!(in alloc; "listening 127.0.0.1:{port}\n")
 }
 
-/// Tells that a port is listened to.
+/// Prints that a port is listened to.
 fn tell_listening<O: Write>(alloc: Global, port: u16, output: &mut O) -> Result<(), DatabaseFault>
     ensures ok { OnOk result (Appends (O.contents output.old) (O.contents output.new)
         (listening_line port)) }

@@ -62,7 +62,7 @@ pub fn migrate_over<S: Start>(
 ///
 /// # Errors
 /// The connection is given back, and nothing is changed. `Open`: the tables aren't this system's,
-/// their version isn't known, a rowid stands twice or a row that is read is out of its rules, the
+/// their version isn't known, a rowid comes twice or a row that is read is out of its rules, the
 /// store failed, or memory was refused.
 pub fn migrate_tables<S: Alter + Drop>(
     alloc: Global,

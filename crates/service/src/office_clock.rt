@@ -6,7 +6,7 @@ use crate::clock::machine_moment;
 use http_api::Clock;
 use units::Moment;
 
-/// The clock of an office: it stands at the moment that the words say, or is the machine's.
+/// The clock of an office: it stays at the moment that the words say, or is the machine's.
 #[derive(Clone, Copy)]
 pub struct OfficeClock {
     rt: HostRuntime,
@@ -14,7 +14,7 @@ pub struct OfficeClock {
 }
 
 impl OfficeClock {
-    /// The clock that stands at a moment; the machine's where there is none.
+    /// The clock that stays at a moment; the machine's where there is none.
     pub fn new(rt: &HostRuntime, at: Option<Moment>) -> OfficeClock
         ensures { result.at ≡ at }
     {

@@ -51,7 +51,7 @@ pub fn open_office<S: Start>(
 ///
 /// # Errors
 /// The connection is given back. `Open`: the tables aren't this system's, their version isn't
-/// known, a rowid stands twice or a row is out of the rules of its table, the store failed, or
+/// known, a rowid comes twice or a row is out of the rules of its table, the store failed, or
 /// memory was refused.
 pub fn open_tables<S: Alter + Drop>(
     alloc: Global,

@@ -41,7 +41,8 @@ pub fn serve_connections<K: ChargeSource, C: Clock, E: Write>(
     failed
 }
 
-/// Serves the next connection of a listener, and tells its fault: how many there were, none or one.
+/// Serves the next connection of a listener, and reports its fault: how many there were, none or
+/// one.
 fn serve_next<K: ChargeSource, C: Clock, E: Write>(
     rt: &HostRuntime,
     listener: &TcpListener,

@@ -1,4 +1,4 @@
-//! What is told of connections on standard error.
+//! What is reported of connections on standard error.
 
 ghost use Rattle.std.specs.Prelude.{◌≡◌};
 ghost use Rattle.operations.specs.Written.{WritesBeginning};
@@ -8,7 +8,7 @@ use http_api::ServeFault;
 use std::io::Write;
 use texts::write_whole;
 
-/// The line that tells a connection's fault, with its line feed.
+/// The line that reports a connection's fault, with its line feed.
 fn fault_line(fault: ServeFault) -> &'static str
     ensures { result.now ≡ connection_line fault }
 {
@@ -19,7 +19,7 @@ fn fault_line(fault: ServeFault) -> &'static str
     }
 }
 
-/// Tells a connection's fault by its line, as far as it can be written.
+/// Reports a connection's fault by its line, as far as it can be written.
 pub(crate) fn tell_fault<E: Write>(errors: &mut E, fault: ServeFault)
     ensures { WritesBeginning (E.contents errors.old) (E.contents errors.new)
         (connection_line fault) }
