@@ -26,7 +26,7 @@ use Rattle.sql_keeper.specs.Shelves.{IsShelfOf}
 use Rattle.sql_keeper.specs.Stops.{trees_in}
 use Rattle.sql_keeper.proofs.OneShelf.{one_shelf}
 use Rattle.operations.specs.Counts.{counts_line}
-use Rattle.operations.specs.Months.{BeginsMonth, IsMonthTold, WritesMonth}
+use Rattle.operations.specs.Months.{BeginsMonth, IsMonthTold, PrintsMonth, WritesMonth}
 use Rattle.operations.specs.Written.{WritesBeginning}
 use Rattle.operations.specs.declared.fault.OfficeFault.{OfficeFault}
 use Rattle.operations.specs.declared.stating.MonthQuery.{MonthQuery}
@@ -36,7 +36,7 @@ use Rattle.operator.specs.declared.parsed.StatementWords.{StatementWords}
 use Rattle.service.specs.Importing.{IsFileImported}
 use Rattle.service.specs.Over.{Comes, IsImportDone, IsMadeIn, IsMigratedIn, IsMomentOf}
 use Rattle.service.specs.Over.{IsMonthDone, IsOpenedIn, query_of}
-use Rattle.service.specs.Stating.{BeginsMonthOf, IsOfOffice, of_office}
+use Rattle.service.specs.Stating.{BeginsMonthOf, IsOfOffice, PrintsMonthOf, of_office}
 use Rattle.service.specs.declared.fault.DatabaseFault.{DatabaseFault}
 use Rattle.service.specs.declared.fault.DatabaseFault.TheVariants.{Office}
 
@@ -223,3 +223,20 @@ begins_of words shelf q old new same (inl month) = inl (record {
   begun = subst (λ (x : MonthQuery). WritesMonth shelf x (WritesBeginning old new)) same month;
 })
 begins_of words shelf q old new same (inr line) = inr line
+
+-- what it prints is what is asked for
+pub prints_of : (words : StatementWords) (shelf : Shelf) (q : MonthQuery)
+    (old new : Option (List ℕ)) (status : Status) → q ≡ query_of words →
+    PrintsMonth shelf q old new status → PrintsMonthOf words old new status
+prints_of words shelf q old new status same printed = record {
+  shelf = shelf;
+  printed = subst (λ (x : MonthQuery). PrintsMonth shelf x old new status) same printed;
+}
+
+-- what it tells is
+pub tells_of : (words : StatementWords) (shelf : Shelf) (q : MonthQuery) (t : ℕ) (old : Tables)
+    (before after : Option (List ℕ)) (given : Result Status OfficeFault) → q ≡ query_of words →
+    IsMonthTold shelf q t old before after given →
+    IsMonthTold shelf (query_of words) t old before after given
+tells_of words shelf q t old before after given same told =
+    subst (λ (x : MonthQuery). IsMonthTold shelf x t old before after given) same told

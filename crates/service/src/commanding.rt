@@ -47,10 +47,8 @@ pub fn command_office<O: Write>(
 ) -> Result<Status, DatabaseFault>
     ensures { CommandsOffice O.contents words.at output.old output.new result }
 {
-    match command_over(rt, words, output, Wary) {
-        Ok((status, _keeper)) => Ok(status),
-        Err(fault) => Err(fault),
-    }
+    let (status, _keeper) = command_over(rt, words, output, Wary)?;
+    Ok(status)
 }
 
 /// Carries out an operator's command as `command_office`, whatever the files held (`start`), and
@@ -122,8 +120,5 @@ fn carry_out<K: Keeper, O: Write>(
     ensures cleanness { (K.seen keeper.new).clean → (K.seen keeper.old).clean }
     ensures failures { (K.seen keeper.old).failed ≤ (K.seen keeper.new).failed }
 {
-    match serve_office(alloc, keeper, shelf, words.command, moment, output) {
-        Ok(status) => Ok(status),
-        Err(fault) => Err(DatabaseFault::Office(fault)),
-    }
+    Ok(serve_office(alloc, keeper, shelf, words.command, moment, output)?)
 }

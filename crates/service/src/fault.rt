@@ -3,6 +3,7 @@
 ghost use Rattle.std.specs.Prelude.{◌≡◌};
 ghost use Rattle.service.specs.Adding.{IsAddingFault};
 ghost use Rattle.service.specs.Opening.{IsUnopened};
+ghost use Rattle.service.specs.ServingTold.{IsTellFault};
 ghost use Rattle.service.specs.Told.{about_database, adding_fault, making_fault};
 
 use operations::OfficeFault;
@@ -12,6 +13,7 @@ use sql_tables::OpenFault;
 use sqlite::{Error, ErrorCode};
 use std::io;
 use tariffs::BookFault;
+use texts::StreamFault;
 use thiserror::Error;
 
 /// Why a command over a database isn't carried out, in the order in which it is looked for.
@@ -78,11 +80,21 @@ impl DatabaseFault {
     }
 }
 
+impl From<OfficeFault> for DatabaseFault {
+    ghost use Rattle.service.specs.declared.fault.DatabaseFault.TheVariants.{Office};
+
+    ghost from_gives = { λ fault e. e ≡ Office fault };
+
+    fn from(fault: OfficeFault) -> DatabaseFault {
+        DatabaseFault::Office(fault)
+    }
+}
+
 /// The fault of a call of the system that failed on a file.
-pub(crate) fn file_fault(kind: io::ErrorKind) -> DatabaseFault
+pub(crate) fn file_fault(error: io::Error) -> DatabaseFault
     ensures { IsUnopened result }
 {
-    match kind {
+    match error.kind() {
         io::ErrorKind::OutOfMemory => DatabaseFault::Memory,
         _ => DatabaseFault::File,
     }
@@ -119,5 +131,15 @@ pub(crate) fn adding_fault(fault: AddFault) -> DatabaseFault
         AddFault::Book(fault) => DatabaseFault::Book(fault),
         AddFault::Shelf(fault) => DatabaseFault::Shelf(fault),
         AddFault::Store(fault) => DatabaseFault::Office(OfficeFault::Store(fault)),
+    }
+}
+
+/// The fault of a port that isn't told.
+pub(crate) fn telling_fault(fault: StreamFault) -> DatabaseFault
+    ensures { IsTellFault result }
+{
+    match fault {
+        StreamFault::Memory => DatabaseFault::Memory,
+        _ => DatabaseFault::File,
     }
 }

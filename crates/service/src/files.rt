@@ -23,10 +23,7 @@ use std::path::Path;
 pub fn open_file<F: Files>(files: &F, path: &str) -> Result<F::File, DatabaseFault>
     ensures { IfErr result IsUnopened }
 {
-    match fs::open(files, path) {
-        Ok(file) => Ok(file),
-        Err(error) => Err(file_fault(error.kind())),
-    }
+    fs::open(files, path).map_err(file_fault)
 }
 
 /// The bytes of the file at a path.
@@ -36,10 +33,7 @@ pub fn open_file<F: Files>(files: &F, path: &str) -> Result<F::File, DatabaseFau
 pub(crate) fn read_file(rt: &HostRuntime, path: &str) -> Result<Vec<u8>, DatabaseFault>
     ensures { IfErr result IsUnopened }
 {
-    match fs::read(rt, path) {
-        Ok(bytes) => Ok(bytes),
-        Err(error) => Err(file_fault(error.kind())),
-    }
+    fs::read(rt, path).map_err(file_fault)
 }
 
 /// A connection to the database at a path, whose file is made where there is none. `start` says
@@ -67,7 +61,7 @@ fn is_filled(rt: &HostRuntime, path: &str) -> Result<bool, DatabaseFault>
     match fs::metadata(rt, path) {
         Ok(found) => Ok(!found.is_file() || found.len() > 0),
         Err(error) if error.kind() == ErrorKind::NotFound && has_folder(rt, path) => Ok(false),
-        Err(error) => Err(file_fault(error.kind())),
+        Err(error) => Err(file_fault(error)),
     }
 }
 

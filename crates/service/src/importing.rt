@@ -16,7 +16,7 @@ use crate::fault::DatabaseFault;
 use crate::files::open_file;
 use crate::opening::{Office, open_office};
 use keepers::Keeper;
-use operations::serve_import;
+use operations::{OfficeFault, serve_import};
 use operator::ImportWords;
 use shelves::TariffShelf;
 use sql_keeper::SqlKeeper;
@@ -50,6 +50,29 @@ impl From<DatabaseFault> for ImportFault {
     }
 }
 
+impl From<VoucherFault> for ImportFault {
+    ghost use Rattle.std.specs.Prelude.{◌≡◌};
+    ghost use Rattle.service.specs.declared.importing.ImportFault.TheVariants.{Vouchers};
+
+    ghost from_gives = { λ fault e. e ≡ Vouchers fault };
+
+    fn from(fault: VoucherFault) -> ImportFault {
+        ImportFault::Vouchers(fault)
+    }
+}
+
+impl From<OfficeFault> for ImportFault {
+    ghost use Rattle.std.specs.Prelude.{◌≡◌};
+    ghost use Rattle.service.specs.declared.fault.DatabaseFault.TheVariants.{Office};
+    ghost use Rattle.service.specs.declared.importing.ImportFault.TheVariants.{Database};
+
+    ghost from_gives = { λ fault e. e ≡ Database (Office fault) };
+
+    fn from(fault: OfficeFault) -> ImportFault {
+        ImportFault::Database(DatabaseFault::Office(fault))
+    }
+}
+
 /// Adds the vouchers of the file of the words to their database, and writes what became of them as
 /// a line. The file is opened before the database, and read after it.
 ///
@@ -64,10 +87,8 @@ pub fn import_office<O: Write>(
     ensures { ImportsOffice O.contents words.at output.old output.new result }
 {
     let reader = open_file(rt, words.file.as_str())?;
-    match import_over(rt, &words, reader, output, Wary) {
-        Ok(_keeper) => Ok(()),
-        Err(fault) => Err(fault),
-    }
+    import_over(rt, &words, reader, output, Wary)?;
+    Ok(())
 }
 
 /// Adds the vouchers of a reader to the database of the words as `import_office` does those of
@@ -134,12 +155,7 @@ pub fn import_file<K: Keeper, R: Read + Drop, O: Write>(
     ensures { ImportsFile O.contents shelf.now (R.remaining reader) moment
         (K.seen keeper.old) (K.seen keeper.new) output.old output.new result }
 {
-    let rows = match read_vouchers(alloc, reader) {
-        Ok(rows) => rows,
-        Err(fault) => return Err(ImportFault::Vouchers(fault)),
-    };
-    match serve_import(alloc, keeper, shelf, rows, moment, output) {
-        Ok(()) => Ok(()),
-        Err(fault) => Err(ImportFault::Database(DatabaseFault::Office(fault))),
-    }
+    let rows = read_vouchers(alloc, reader)?;
+    serve_import(alloc, keeper, shelf, rows, moment, output)?;
+    Ok(())
 }

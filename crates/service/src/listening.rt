@@ -11,7 +11,7 @@ ghost use Rattle.service.specs.ServingTold.{Listens, ListensOver};
 ghost use Rattle.service.specs.ServingTold.{listening_line};
 
 use crate::database_files::DatabaseFiles;
-use crate::fault::DatabaseFault;
+use crate::fault::{DatabaseFault, telling_fault};
 use crate::office_clock::OfficeClock;
 use crate::opening::{Office, open_office};
 use crate::serving::{Connections, serve_connections};
@@ -41,10 +41,8 @@ pub fn serve_database<O: Write, E: Write>(
     ensures { Listens O.contents E.contents words.now (λ failed. failed) output.old output.new
         errors.old errors.new result }
 {
-    match serve_over(rt, words, output, errors, Wary) {
-        Ok((failed, _keeper)) => Ok(failed),
-        Err(fault) => Err(fault),
-    }
+    let (failed, _keeper) = serve_over(rt, words, output, errors, Wary)?;
+    Ok(failed)
 }
 
 /// Serves the connections of the words as `serve_database`, whatever the database's files held
@@ -110,11 +108,7 @@ fn tell_listening<O: Write>(alloc: Global, port: u16, output: &mut O) -> Result<
         (listening_line port)) }
     ensures fault { IfErr result IsTellFault }
 {
-    match write_listening(alloc, port, output) {
-        Ok(()) => Ok(()),
-        Err(StreamFault::Memory) => Err(DatabaseFault::Memory),
-        Err(_) => Err(DatabaseFault::File),
-    }
+    write_listening(alloc, port, output).map_err(telling_fault)
 }
 
 /// Writes that a port is listened to.
@@ -126,8 +120,5 @@ fn write_listening<O: Write>(alloc: Global, port: u16, output: &mut O) -> Result
 {
     let line = listening_line(alloc, port)?;
     write_whole(output, line.as_bytes())?;
-    match output.flush() {
-        Ok(()) => Ok(()),
-        Err(_) => Err(StreamFault::Write),
-    }
+    output.flush().map_err(|_| StreamFault::Write)
 }

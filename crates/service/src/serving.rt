@@ -73,8 +73,8 @@ fn serve_accepted<K: ChargeSource, C: Clock>(
 ) -> Result<Served, ServeFault>
     ensures { GoesOn shelf.now (K.seen keeper.old) (K.seen keeper.new) }
 {
-    match listener.accept() {
-        Ok((stream, _)) => serve_socket(rt, &stream, keeper, shelf, clock),
-        Err(_) => Err(ServeFault::Read),
-    }
+    let Ok((stream, _)) = listener.accept() else {
+        return Err(ServeFault::Read);
+    };
+    serve_socket(rt, &stream, keeper, shelf, clock)
 }

@@ -40,10 +40,8 @@ pub fn state_office<O: Write>(
 ) -> Result<Status, DatabaseFault>
     ensures { StatesOffice O.contents words output.old output.new result }
 {
-    match state_over(rt, words, output, Wary) {
-        Ok((status, _keeper)) => Ok(status),
-        Err(fault) => Err(fault),
-    }
+    let (status, _keeper) = state_over(rt, words, output, Wary)?;
+    Ok(status)
 }
 
 /// Writes the month of an account as `state_office`, whatever the files held (`start`), and answers
@@ -134,8 +132,5 @@ fn tell_month<K: ChargeSource, O: Write>(
     ensures fault { IfErr result IsOfficeFault }
 {
     let query = query_of(words);
-    match serve_statement(alloc, keeper, shelf, &query, moment, output) {
-        Ok(status) => Ok(status),
-        Err(fault) => Err(DatabaseFault::Office(fault)),
-    }
+    Ok(serve_statement(alloc, keeper, shelf, &query, moment, output)?)
 }

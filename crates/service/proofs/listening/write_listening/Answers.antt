@@ -1,5 +1,6 @@
 use Rattle.std.proofs.Common.{subst, ◌∙◌}
 use Rattle.std.specs.Io.KnownBytes.{Appends}
+use Rattle.keepers.proofs.Placed.{on_ok}
 use Rattle.operations.specs.Written.{WritesBeginning}
 use Rattle.operations.proofs.Beginnings.{on_err, some_written}
 use Rattle.service.specs.ServingTold.{listening_line}
@@ -15,11 +16,11 @@ returns-in_err-write_whole-clause-err g c =
     (g.O.Write.contents c.write_whole.new.writer) c.as_bytes.result.now
     c.in_err-write_whole.ensures.err.0 c.in_err-write_whole.ensures.err.1))
 
-pub returns-in-Ok-clause-ok : goal.returns-in-Ok-clause-ok
-returns-in-Ok-clause-ok g c =
-    written_kept (g.O.Write.contents c.args.output.now)
+pub returns-clause-ok : goal.returns-clause-ok
+returns-clause-ok g c =
+    on_ok c.map_err.result (written_kept (g.O.Write.contents c.args.output.now)
     (g.O.Write.contents c.write_whole.new.writer) (g.O.Write.contents c.flush.new.self)
     (listening_line c.args.port) (subst
     (Appends (g.O.Write.contents c.args.output.now) (g.O.Write.contents c.write_whole.new.writer))
     (c.as_bytes.ensures.value ∙ c.in_ok-line.ensures) c.in_ok-write_whole.ensures.ok)
-    c.in-Ok.ensures.bytes
+    c.flush.ensures.bytes)
