@@ -134,7 +134,7 @@ pub(crate) fn adding_fault(fault: AddFault) -> DatabaseFault
     }
 }
 
-/// The fault of a port that isn't told.
+/// The fault of a port that isn't printed.
 pub(crate) fn telling_fault(fault: StreamFault) -> DatabaseFault
     ensures { IsTellFault result }
 {
