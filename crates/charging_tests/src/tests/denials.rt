@@ -52,8 +52,8 @@ charges:
 = {"CC-Request-Number":0,"CC-Request-Type":1,"Result-Code":4012,"Session-Id":"s19d"}
 account: 1767607200 false 1
 buckets: (1000000; 0, 1000000, 0, 0)
-sessions: s19b 0 1767607200 NeverOpened; s19c 0 1767607200 NeverOpened;
-   s19 0 1767607200 Open; s19d 0 1767607200 NeverOpened; s19e 0 1767607200 NeverOpened;"##;
+sessions: s19 0 1767607200 Open; s19b 0 1767607200 NeverOpened;
+   s19c 0 1767607200 NeverOpened; s19d 0 1767607200 NeverOpened; s19e 0 1767607200 NeverOpened;"##;
 
 #[test]
 fn unknown_groups_and_a_bar(rt: HostRuntime) {
