@@ -11,15 +11,15 @@ ghost use Rattle.ledger.specs.Ledger.{Ledger};
 ghost use Rattle.reserving.specs.Left.{LeftRows, IsWith};
 ghost use Rattle.decisions.specs.Known.{is_known};
 ghost use Rattle.keepers.specs.Change.{IsLoad};
-ghost use Rattle.keepers.specs.Keeping.{KeeperReads};
-ghost use Rattle.charging.specs.Outcomes.{is_over, repeated};
+ghost use Rattle.charging.specs.Outcomes.{is_over};
 ghost use Rattle.charging.specs.Parts.{Leaves, PartKeeps};
 ghost use Rattle.charging.specs.Stepping.{ServesAt, WritesAt, Allows, Makes, LeavesRefused};
 
 use crate::committing::{commit, moment_on};
 use crate::refusing::refuse;
+use crate::repetition::{find_referenced, first_or_conflict};
 use commands::{Allowance, AllowanceBlocks, Answer, Content, Refusal, is_kept_allowance};
-use keepers::{Keeper, KeptAnswer, Key, Loaded, StoreFault};
+use keepers::{Keeper, Loaded, StoreFault};
 use reserving::{Account, AccountFault};
 use shelves::TariffShelf;
 use std::alloc::{AllocError, Global};
@@ -43,46 +43,16 @@ pub(crate) fn serve_allowance<K: Keeper>(
     ensures left { Leaves (K.seen keeper.old) (K.seen keeper.new)
         (WritesAt shelf.now (command.Allow allowance) moment (K.seen keeper.old).tables) }
 {
-    let kept = find_allowance(keeper, &allowance)?;
+    let kept = find_referenced(keeper, &allowance.account, &allowance.reference)?;
     if let Some(kept) = kept {
+        let is_same = is_kept_allowance(&kept.content, &allowance);
         let conflict = Answer::Refused(Refusal::ContentDiffers);
-        return Ok(repeated_allowance(alloc, kept, &allowance, conflict)?);
+        return Ok(first_or_conflict(alloc, kept, is_same, conflict)?);
     }
     let Some(loaded) = keeper.load(shelf, &allowance.account, moment)? else {
         return Ok(refuse(alloc, Refusal::AccountUnknown)?);
     };
     allow_account(alloc, keeper, loaded, allowance, moment)
-}
-
-/// The answer to an allowance whose reference is kept: its first answer where it is the same one.
-fn repeated_allowance(
-    alloc: Global,
-    kept: KeptAnswer,
-    allowance: &Allowance,
-    conflict: Answer,
-) -> Result<WrittenAnswer, AllocError>
-    ensures { IfOk result (λ given. given ≡
-        repeated kept (content.Allow allowance.now) conflict) }
-{
-    if is_kept_allowance(&kept.content, allowance) {
-        Ok(kept.answer)
-    } else {
-        WrittenAnswer::new(alloc, conflict)
-    }
-}
-
-/// What is kept under an allowance's reference.
-fn find_allowance<K: Keeper>(
-    keeper: &mut K,
-    allowance: &Allowance,
-) -> Result<Option<KeptAnswer>, StoreFault>
-    ensures { KeeperReads (K.seen keeper.old) (K.seen keeper.new)
-        (λ found. found ≡ (K.seen keeper.old).tables.answers allowance.now.account
-        (key_of (content.Allow allowance.now)))
-        result }
-{
-    let key = Key::Reference(allowance.reference.clone()?);
-    keeper.find_answer(&allowance.account, &key)
 }
 
 /// Whether there is no moment left at which an allowance could be used.

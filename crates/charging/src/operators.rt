@@ -11,17 +11,17 @@ ghost use Rattle.buckets.specs.declared.kind.BucketKind.{BucketKind};
 ghost use Rattle.ledger.specs.Ledger.{Ledger};
 ghost use Rattle.reserving.specs.Left.{LeftRows, IsWith};
 ghost use Rattle.keepers.specs.Change.{IsLoad};
-ghost use Rattle.keepers.specs.Keeping.{KeeperReads};
-ghost use Rattle.charging.specs.Outcomes.{is_unusable, repeated};
+ghost use Rattle.charging.specs.Outcomes.{is_unusable};
 ghost use Rattle.charging.specs.Parts.{Leaves, PartKeeps};
 ghost use Rattle.charging.specs.Stepping.{ServesAt, WritesAt, Credits, Makes, bar_command};
 ghost use Rattle.charging.specs.Stepping.{LeavesRefused};
 
 use crate::committing::{commit, moment_on};
 use crate::refusing::refuse;
+use crate::repetition::{find_referenced, first_or_conflict};
 use commands::{Answer, Content, Credit, KeptCredit, Refusal, is_kept_credit};
 use identifiers::AccountNumber;
-use keepers::{Keeper, KeptAnswer, Key, Loaded, StoreFault};
+use keepers::{Keeper, Loaded, StoreFault};
 use reserving::{Account, AccountFault};
 use shelves::TariffShelf;
 use std::alloc::{AllocError, Global};
@@ -141,43 +141,16 @@ pub(crate) fn serve_credit<K: Keeper>(
     ensures left { Leaves (K.seen keeper.old) (K.seen keeper.new)
         (WritesAt shelf.now (command.Credit credit) moment (K.seen keeper.old).tables) }
 {
-    let kept = find_credit(keeper, &credit)?;
+    let kept = find_referenced(keeper, &credit.account, &credit.reference)?;
     if let Some(kept) = kept {
+        let is_same = is_kept_credit(&kept.content, &credit);
         let conflict = Answer::Refused(Refusal::ContentDiffers);
-        return Ok(repeated_credit(alloc, kept, &credit, conflict)?);
+        return Ok(first_or_conflict(alloc, kept, is_same, conflict)?);
     }
     let Some(loaded) = keeper.load(shelf, &credit.account, moment)? else {
         return Ok(refuse(alloc, Refusal::AccountUnknown)?);
     };
     credit_account(alloc, keeper, loaded, credit, moment)
-}
-
-/// The answer to a credit whose reference is kept: its first answer where it is the same credit.
-fn repeated_credit(
-    alloc: Global,
-    kept: KeptAnswer,
-    credit: &Credit,
-    conflict: Answer,
-) -> Result<WrittenAnswer, AllocError>
-    ensures { IfOk result (λ given. given ≡
-        repeated kept (content.Credit credit.now) conflict) }
-{
-    if is_kept_credit(&kept.content, credit) {
-        Ok(kept.answer)
-    } else {
-        WrittenAnswer::new(alloc, conflict)
-    }
-}
-
-/// What is kept under a credit's reference.
-fn find_credit<K: Keeper>(keeper: &mut K, credit: &Credit) -> Result<Option<KeptAnswer>, StoreFault>
-    ensures { KeeperReads (K.seen keeper.old) (K.seen keeper.new)
-        (λ found. found ≡
-        (K.seen keeper.old).tables.answers credit.now.account (key_of (content.Credit credit.now)))
-        result }
-{
-    let key = Key::Reference(credit.reference.clone()?);
-    keeper.find_answer(&credit.account, &key)
 }
 
 /// Whether a credit is of nothing, or there is no moment left at which it could be used.

@@ -7,18 +7,18 @@ ghost use Rattle.commands.specs.declared.command.Content.TheVariants as content;
 ghost use Rattle.commands.specs.Keys.{key_of};
 ghost use Rattle.shelves.specs.Shelves.{Shelf};
 ghost use Rattle.keepers.specs.Change.{IsLoad};
-ghost use Rattle.keepers.specs.Keeping.{KeeperReads};
 ghost use Rattle.voucher_rules.specs.Redeeming.{redemption};
-ghost use Rattle.charging.specs.Outcomes.{book_days, refused_as, repeated};
+ghost use Rattle.charging.specs.Outcomes.{book_days, refused_as};
 ghost use Rattle.charging.specs.Parts.{Leaves, PartKeeps};
 ghost use Rattle.charging.specs.Stepping.{ServesAt, WritesAt, LeavesRefused};
 
 use crate::committing::{commit, moment_on};
 use crate::operators::make_bucket;
 use crate::refusing::refuse;
+use crate::repetition::{find_referenced, first_or_conflict};
 use commands::{Answer, Content, Refusal, VoucherAddition, VoucherRedemption, is_kept_redemption};
 use identifiers::VoucherCode;
-use keepers::{Keeper, KeptAnswer, Key, Loaded, Redeemed, StoreFault};
+use keepers::{Keeper, Loaded, Redeemed, StoreFault};
 use shelves::TariffShelf;
 use std::alloc::{AllocError, Global};
 use units::Moment;
@@ -87,10 +87,11 @@ pub(crate) fn serve_redemption<K: Keeper>(
     ensures left { Leaves (K.seen keeper.old) (K.seen keeper.new)
         (WritesAt shelf.now (command.Redeem asked) moment (K.seen keeper.old).tables) }
 {
-    let kept = find_redemption(keeper, &asked)?;
+    let kept = find_referenced(keeper, &asked.account, &asked.reference)?;
     if let Some(kept) = kept {
+        let is_same = is_kept_redemption(&kept.content, &asked);
         let conflict = Answer::Refused(Refusal::ContentDiffers);
-        return Ok(repeated_redemption(alloc, kept, &asked, conflict)?);
+        return Ok(first_or_conflict(alloc, kept, is_same, conflict)?);
     }
     let found = keeper.find_voucher(&asked.code)?;
     let redeemed = redeem_by(shelf, found, &asked, moment)?;
@@ -105,37 +106,6 @@ pub(crate) fn serve_redemption<K: Keeper>(
             Ok(refuse(alloc, told_refusal(refusal))?)
         }
     }
-}
-
-/// The answer to a redemption whose reference is kept: its first answer where it is the same one.
-fn repeated_redemption(
-    alloc: Global,
-    kept: KeptAnswer,
-    asked: &VoucherRedemption,
-    conflict: Answer,
-) -> Result<WrittenAnswer, AllocError>
-    ensures { IfOk result (λ given. given ≡
-        repeated kept (content.Redeem asked.now) conflict) }
-{
-    if is_kept_redemption(&kept.content, asked) {
-        Ok(kept.answer)
-    } else {
-        WrittenAnswer::new(alloc, conflict)
-    }
-}
-
-/// What is kept under a redemption's reference.
-fn find_redemption<K: Keeper>(
-    keeper: &mut K,
-    asked: &VoucherRedemption,
-) -> Result<Option<KeptAnswer>, StoreFault>
-    ensures { KeeperReads (K.seen keeper.old) (K.seen keeper.new)
-        (λ found. found ≡
-        (K.seen keeper.old).tables.answers asked.now.account (key_of (content.Redeem asked.now)))
-        result }
-{
-    let key = Key::Reference(asked.reference.clone()?);
-    keeper.find_answer(&asked.account, &key)
 }
 
 /// What a redemption comes to by the days of the book at its moment, over what is under its

@@ -13,9 +13,11 @@ use Rattle.charging.proofs.allowances.serve_allowance.Goals.{After-allow_account
 pub returns-in-Some-clause-served : goal.returns-in-Some-clause-served
 returns-in-Some-clause-served g c = λ clean list time is le.
     allow-again c.args.shelf.now list c.args.allowance c.args.moment
-    (g.K.Keeper.seen c.args.keeper.now).tables (g.K.Keeper.seen c.find_allowance.new.keeper).tables
-    c.in-Some.kept c.in_ok-repeated_allowance.field-0 time le is
-    (sym (c.in_ok-kept.ensures.found clean) ∙ c.in-Some.is) c.in_ok-repeated_allowance.ensures
+    (g.K.Keeper.seen c.args.keeper.now).tables (g.K.Keeper.seen c.find_referenced.new.keeper).tables
+    c.in-Some.kept c.in_ok-first_or_conflict.field-0 time le is
+    (sym (c.in_ok-kept.ensures.found clean) ∙ c.in-Some.is)
+    (c.in_ok-first_or_conflict.ensures (content.Allow c.args.allowance)
+    c.is_kept_allowance-is_same.ensures)
     (c.in_ok-kept.ensures.same clean)
 
 pub returns-in_default-2-clause-served : goal.returns-in_default-2-clause-served
@@ -27,7 +29,7 @@ returns-in_default-2-clause-served g c = λ clean list time is le.
     (allow-unknown c.args.shelf.now list c.args.allowance c.args.moment
     (g.K.Keeper.seen c.args.keeper.now).tables (g.K.Keeper.seen c.load.new.self).tables time le is
     (none_loaded c.args.shelf.now c.args.moment c.args.allowance.account
-    (g.K.Keeper.seen c.find_allowance.new.keeper).tables
+    (g.K.Keeper.seen c.find_referenced.new.keeper).tables
     (g.K.Keeper.seen c.args.keeper.now).tables c.in_ok-loaded.field-0 same
     (c.in_ok-loaded.ensures.found clean) c.in_default-2.is)
     (c.in_ok-loaded.ensures.same clean ∙ same))
@@ -45,7 +47,7 @@ taken g c clean_load =
     let same_load = c.in_ok-loaded.ensures.same clean_load in
     let same = c.in_ok-kept.ensures.same clean_find in
     let loads = some_loaded c.args.shelf.now c.args.moment c.args.allowance.account
-    (g.K.Keeper.seen c.find_allowance.new.keeper).tables
+    (g.K.Keeper.seen c.find_referenced.new.keeper).tables
     (g.K.Keeper.seen c.load.new.self).tables c.in_ok-loaded.field-0 c.in-Some-2.loaded
     (sym same_load) (c.in_ok-loaded.ensures.found clean_load) c.in-Some-2.is in
     let fresh = (λ i. ((same_load ∙ same) i).answers c.args.allowance.account

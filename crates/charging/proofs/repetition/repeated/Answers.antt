@@ -1,17 +1,14 @@
-use Rattle.std.proofs.Common.{◌∙◌, ap, sym, if◌then◌else◌}
-use Rattle.charging.proofs.KeptKeys.{same-content}
-use Rattle.charging.proofs.Serving.{given-as}
+use Rattle.std.proofs.Common.{◌≡◌, ◌↔◌, IsTrue}
+use Rattle.std.proofs.lemmas.Result.{IfOk-weaker}
+use Rattle.commands.specs.declared.command.Content.{Content}
+use Rattle.charging.specs.Outcomes.{repeated}
 use Rattle.charging.proofs.repetition.repeated.Goals as goal
 
-pub returns-then-same_content : goal.returns-then-same_content
-returns-then-same_content c =
-    let same = sym (same-content c.same_content.result c.args.kept.content c.args.content.now
-    c.same_content.ensures) ∙ c.if-same_content.true in
-    sym (ap (λ v. if v then c.args.kept.answer else c.args.conflict) same)
-
-pub returns-else-same_content : goal.returns-else-same_content
-returns-else-same_content c =
-    let same = sym (same-content c.same_content.result c.args.kept.content c.args.content.now
-    c.same_content.ensures) ∙ c.if-same_content.false in
-    given-as c.new.result c.args.conflict _ c.new.ensures
-    (sym (ap (λ v. if v then c.args.kept.answer else c.args.conflict) same))
+pub returns : goal.returns
+returns c = IfOk-weaker c.first_or_conflict.result
+    (λ given. (new : Content) →
+    (IsTrue c.same_content-is_same.result ↔ (c.args.kept.content ≡ new)) →
+    given ≡ repeated c.args.kept new c.args.conflict)
+    (λ given. given ≡ repeated c.args.kept c.args.content.now c.args.conflict)
+    (λ given says. says c.args.content.now c.same_content-is_same.ensures)
+    c.first_or_conflict.ensures

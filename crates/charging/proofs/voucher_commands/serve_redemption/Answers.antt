@@ -16,9 +16,11 @@ use Rattle.charging.proofs.voucher_commands.serve_redemption.Goals.{After-credit
 pub returns-in-Some-clause-served : goal.returns-in-Some-clause-served
 returns-in-Some-clause-served g c = λ clean list time is le.
     redeem-again c.args.shelf.now list c.args.asked c.args.moment
-    (g.K.Keeper.seen c.args.keeper.now).tables (g.K.Keeper.seen c.find_redemption.new.keeper).tables
-    c.in-Some.kept c.in_ok-repeated_redemption.field-0 time le is
-    (sym (c.in_ok-kept.ensures.found clean) ∙ c.in-Some.is) c.in_ok-repeated_redemption.ensures
+    (g.K.Keeper.seen c.args.keeper.now).tables (g.K.Keeper.seen c.find_referenced.new.keeper).tables
+    c.in-Some.kept c.in_ok-first_or_conflict.field-0 time le is
+    (sym (c.in_ok-kept.ensures.found clean) ∙ c.in-Some.is)
+    (c.in_ok-first_or_conflict.ensures (content.Redeem c.args.asked)
+    c.is_kept_redemption-is_same.ensures)
     (c.in_ok-kept.ensures.same clean)
 
 -- what was loaded and what was looked for, of the tables before the call
