@@ -14,10 +14,17 @@ use Rattle.service.specs.Adding.{IsAdditionFault}
 use Rattle.service.specs.Making.{IsInitFault}
 use Rattle.service.specs.Opening.{IsCommandFault, IsUnopened}
 use Rattle.service.specs.declared.fault.DatabaseFault.{DatabaseFault}
+use Rattle.service.specs.declared.importing.ImportFault.{ImportFault}
+use Rattle.service.specs.declared.importing.ImportFault.TheVariants as importing
 use Rattle.service.specs.ServingTold.{IsServeFault}
 use Rattle.ocs.specs.Ends.{Says}
 use Rattle.ocs.specs.declared.fault.ProgramFault.{ProgramFault}
 use Rattle.ocs.specs.declared.fault.ProgramFault.TheVariants as program
+
+-- why the vouchers of a file weren't all added and told
+abbrev pub of_import : ImportFault → ProgramFault
+of_import (importing.Vouchers fault) = program.Vouchers fault
+of_import (importing.Database fault) = program.Database fault
 
 -- ---- by what is done
 

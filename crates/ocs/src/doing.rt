@@ -93,7 +93,7 @@ fn answer_once<I: Read, O: Write>(
     ensures fault { OnErr result (BeginsOnce (once_book once.price once.block) once.credit
         (I.remaining input.old) (O.contents output.old) (O.contents output.new)) }
 {
-    answer_lines(alloc, once, input, output).map_err(ProgramFault::Lines)?;
+    answer_lines(alloc, once, input, output)?;
     Ok(Status::Done)
 }
 
@@ -126,8 +126,8 @@ fn once_shelf(alloc: Global, price: u64, block: u64) -> Result<TariffShelf, Allo
     ensures { IfOk result (λ s. s ≡ one_book (once_book price block)) }
 {
     let book = once_book(alloc, price, block)?;
-    match TariffShelf::new(alloc, book) {
-        Ok(shelf) => Ok(shelf),
-        Err(_) => Err(AllocError),
-    }
+    let Ok(shelf) = TariffShelf::new(alloc, book) else {
+        return Err(AllocError);
+    };
+    Ok(shelf)
 }

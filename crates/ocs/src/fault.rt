@@ -1,11 +1,12 @@
 //! Why the program ends with status 1.
 
 ghost use Rattle.std.specs.Prelude.{◌≡◌};
+ghost use Rattle.ocs.specs.Faults.{of_import};
 ghost use Rattle.ocs.specs.Told.{about_fault, fault_place};
 
 use operations::stream_line;
 use request_lines::LinesFault;
-use service::DatabaseFault;
+use service::{DatabaseFault, ImportFault};
 use texts::StreamFault;
 use thiserror::Error;
 use vouchers::VoucherFault;
@@ -61,6 +62,47 @@ impl ProgramFault {
             ProgramFault::Stream(_) => None,
             ProgramFault::Database(_) => None,
             ProgramFault::Vouchers(fault) => Some(fault.record_number),
+        }
+    }
+}
+
+impl From<StreamFault> for ProgramFault {
+    ghost use Rattle.ocs.specs.declared.fault.ProgramFault.TheVariants.{Stream};
+
+    ghost from_gives = { λ fault e. e ≡ Stream fault };
+
+    fn from(fault: StreamFault) -> ProgramFault {
+        ProgramFault::Stream(fault)
+    }
+}
+
+impl From<LinesFault> for ProgramFault {
+    ghost use Rattle.ocs.specs.declared.fault.ProgramFault.TheVariants.{Lines};
+
+    ghost from_gives = { λ fault e. e ≡ Lines fault };
+
+    fn from(fault: LinesFault) -> ProgramFault {
+        ProgramFault::Lines(fault)
+    }
+}
+
+impl From<DatabaseFault> for ProgramFault {
+    ghost use Rattle.ocs.specs.declared.fault.ProgramFault.TheVariants.{Database};
+
+    ghost from_gives = { λ fault e. e ≡ Database fault };
+
+    fn from(fault: DatabaseFault) -> ProgramFault {
+        ProgramFault::Database(fault)
+    }
+}
+
+impl From<ImportFault> for ProgramFault {
+    ghost from_gives = { λ fault e. e ≡ of_import fault };
+
+    fn from(fault: ImportFault) -> ProgramFault {
+        match fault {
+            ImportFault::Vouchers(fault) => ProgramFault::Vouchers(fault),
+            ImportFault::Database(fault) => ProgramFault::Database(fault),
         }
     }
 }

@@ -27,10 +27,8 @@ fn print_done<O: Write>(output: &mut O, line: &str) -> Result<Status, ProgramFau
         line.now) }
     ensures stream { IfErr result (λ fault. IfStream fault (λ _. ⊥) → output.new ≡ output.old) }
 {
-    match write_whole(output, line.as_bytes()) {
-        Ok(()) => Ok(Status::Done),
-        Err(fault) => Err(ProgramFault::Stream(fault)),
-    }
+    write_whole(output, line.as_bytes())?;
+    Ok(Status::Done)
 }
 
 /// Makes the database of a tariff book, and says that it is made.
@@ -49,7 +47,7 @@ pub(crate) fn answer_init<O: Write>(
     ensures unwritten { IfErr result (λ fault.
         IfStream fault (λ _. ⊥) → output.new ≡ output.old) }
 {
-    make_database(rt, init).map_err(ProgramFault::Database)?;
+    make_database(rt, init)?;
     print_done(output, "ok\n")
 }
 
@@ -69,7 +67,7 @@ pub(crate) fn answer_migrate<O: Write>(
     ensures unwritten { IfErr result (λ fault.
         IfStream fault (λ _. ⊥) → output.new ≡ output.old) }
 {
-    migrate_database(rt, migrate).map_err(ProgramFault::Database)?;
+    migrate_database(rt, migrate)?;
     print_done(output, "version 3\n")
 }
 
@@ -89,6 +87,6 @@ pub(crate) fn answer_book<O: Write>(
     ensures unwritten { IfErr result (λ fault.
         IfStream fault (λ _. ⊥) → output.new ≡ output.old) }
 {
-    add_book(rt, book).map_err(ProgramFault::Database)?;
+    add_book(rt, book)?;
     print_done(output, "ok\n")
 }

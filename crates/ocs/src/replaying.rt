@@ -44,11 +44,9 @@ pub(crate) fn answer_replay<F: Files, O: Write>(
     ensures reached { IfErr result IsReplayFault }
     ensures unwritten { IfErr result (λ fault. IfLines fault AreUnread → output.new ≡ output.old) }
 {
-    let file = open_file(files, replay.file.as_str()).map_err(ProgramFault::Database)?;
-    match replay_over(rt, replay, file, output, Wary) {
-        Ok(_keeper) => Ok(Status::Done),
-        Err(fault) => Err(fault),
-    }
+    let file = open_file(files, replay.file.as_str())?;
+    replay_over(rt, replay, file, output, Wary)?;
+    Ok(Status::Done)
 }
 
 /// Answers the lines of a reader over the database of the words, whatever its files held (`start`),
@@ -70,10 +68,7 @@ fn replay_over<S: Start, R: Read + Drop, O: Write>(
     ensures reached { IfErr result IsReplayFault }
     ensures unwritten { IfErr result (λ fault. IfLines fault AreUnread → output.new ≡ output.old) }
 {
-    let office = match open_office(rt, &replay.database, start) {
-        Ok(office) => office,
-        Err(fault) => return Err(ProgramFault::Database(fault)),
-    };
+    let office = open_office(rt, &replay.database, start)?;
     answer_over(rt.alloc(), office, reader, output)
 }
 
@@ -125,10 +120,8 @@ fn answer_reader<K: Keeper, R: Read + Drop, O: Write>(
     let Ok(mut buffered) = BufReader::new(alloc, reader) else {
         return Err(ProgramFault::Stream(StreamFault::Memory));
     };
-    match answer_requests(alloc, keeper, shelf, &mut buffered, output) {
-        Ok(()) => Ok(()),
-        Err(fault) => Err(ProgramFault::Lines(fault)),
-    }
+    answer_requests(alloc, keeper, shelf, &mut buffered, output)?;
+    Ok(())
 }
 
 /// Answers the lines of a reader over a keeper, which may fail.

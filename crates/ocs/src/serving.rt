@@ -33,6 +33,6 @@ pub(crate) fn answer_serve<O: Write, E: Write>(
         IfDatabase fault IsUnlistened → output.new ≡ output.old) }
     ensures untold { OnErr result (errors.new ≡ errors.old) }
 {
-    serve_database(rt, serve, output, errors).map_err(ProgramFault::Database)?;
+    serve_database(rt, serve, output, errors)?;
     Ok(Status::Done)
 }

@@ -13,7 +13,7 @@ ghost use Rattle.ocs.specs.Told.{IfDatabase};
 use crate::fault::ProgramFault;
 use operations::Status;
 use operator::{ImportWords, OfficeWords, StatementWords};
-use service::{ImportFault, command_office, import_office, state_office};
+use service::{command_office, import_office, state_office};
 use std::io::Write;
 
 /// Carries out an operator's command.
@@ -31,7 +31,7 @@ pub(crate) fn answer_office<O: Write>(
     ensures unwritten { IfErr result (λ fault.
         IfDatabase fault IsUnanswered → output.new ≡ output.old) }
 {
-    command_office(rt, words, output).map_err(ProgramFault::Database)
+    Ok(command_office(rt, words, output)?)
 }
 
 /// Prints an account's month.
@@ -50,7 +50,7 @@ pub(crate) fn answer_statement<O: Write>(
     ensures unwritten { IfErr result (λ fault.
         IfDatabase fault IsUnasked → output.new ≡ output.old) }
 {
-    state_office(rt, words, output).map_err(ProgramFault::Database)
+    Ok(state_office(rt, words, output)?)
 }
 
 /// Adds the vouchers of a file, and prints what became of them.
@@ -65,9 +65,6 @@ pub(crate) fn answer_import<O: Write>(
     ensures unwritten { IfErr result (λ fault.
         IfDatabase fault IsUnanswered → output.new ≡ output.old) }
 {
-    match import_office(rt, import, output) {
-        Ok(()) => Ok(Status::Done),
-        Err(ImportFault::Vouchers(fault)) => Err(ProgramFault::Vouchers(fault)),
-        Err(ImportFault::Database(fault)) => Err(ProgramFault::Database(fault)),
-    }
+    import_office(rt, import, output)?;
+    Ok(Status::Done)
 }

@@ -301,6 +301,12 @@ none_begun w None = tt
 none_begun w (Some stream) =
     record { answers = []; written = nothing_written w (answer_texts (faults_in stream) []) }
 
+-- then it isn't one of writing
+pub not_written : {A : Type 0} (result : Result A LinesFault) (f g : StreamFault) →
+    result ≡ Err (Read f) → result ≡ Err (Write g) → ⊥
+not_written {A = A} result f g is told =
+    subst (λ (res : Result A LinesFault). IsRead res) (sym is ∙ told) tt
+
 -- nothing was run and nothing was written
 pub none_answered : {A : Type 0} (b : Shelf) (amount : Option ℕ) (r w : Option (List ℕ))
     (keeper : Seen) (result : Result A LinesFault) (f : StreamFault) → result ≡ Err (Read f) →

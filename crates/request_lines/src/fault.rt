@@ -63,3 +63,15 @@ impl From<AllocError> for LinesFault {
         LinesFault::Read(StreamFault::Memory)
     }
 }
+
+impl From<StreamFault> for LinesFault {
+    ghost use Rattle.std.specs.Prelude.{◌≡◌};
+    ghost use Rattle.request_lines.specs.declared.fault.LinesFault.TheVariants.{Read};
+
+    ghost from_gives = { λ fault e. e ≡ Read fault };
+
+    /// One of reading the lines, as each is that `?` hands on.
+    fn from(fault: StreamFault) -> LinesFault {
+        LinesFault::Read(fault)
+    }
+}

@@ -48,13 +48,9 @@ pub fn lines<K: Keeper, R: Read, W: Write>(
     ensures { LinesOver K.seen W.contents shelf.now opening
         (R.remaining reader.old) keeper.old keeper.new writer.old writer.new result }
 {
-    let Input { lines, requests } = match read_input(alloc, reader) {
-        Ok(input) => input,
-        Err(fault) => return Err(LinesFault::Read(fault)),
-    };
-    let Ok(opening) = open_first(alloc, opening, &requests) else {
-        return Err(LinesFault::Read(StreamFault::Memory));
-    };
+    let input = read_input(alloc, reader)?;
+    let Input { lines, requests } = input;
+    let opening = open_first(alloc, opening, &requests)?;
     let Run { answers, fault } = run_opened(alloc, keeper, shelf, opening, requests);
     let written = write_output(alloc, writer, &lines, &answers);
     ended_as(fault, written)

@@ -3,5 +3,5 @@ use Rattle.tariffs.specs.Books.{Book}
 use Rattle.shelves.specs.Shelves.{one_book}
 use Rattle.ocs.proofs.doing.once_shelf.Goals as goal
 
-pub returns-in-Ok : goal.returns-in-Ok
-returns-in-Ok c = c.in-Ok.ensures.value ∙ ap (λ (b : Book). one_book b) c.in_ok-book.ensures
+pub returns : goal.returns
+returns c = c.in-Ok.ensures.value ∙ ap (λ (b : Book). one_book b) c.in_ok-book.ensures

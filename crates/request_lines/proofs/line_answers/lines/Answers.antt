@@ -1,4 +1,5 @@
-use Rattle.std.proofs.Common.{rules, ◌≡◌, ℕ, List, subst, map, refl, inl, inr}
+use Rattle.std.proofs.Common.{rules, ◌≡◌, ◌∙◌, ℕ, List, subst, ap, map, inl, inr, Err}
+use Rattle.std.proofs.lemmas.Result.{err_from_is_err_and}
 use Rattle.std.specs.Io.KnownBytes.{Appends}
 use Rattle.std.specs.Prelude.{◌≢◌, OnErr, OnOk}
 use Rattle.texts.specs.declared.streams.StreamFault.{StreamFault}
@@ -14,41 +15,49 @@ use Rattle.request_lines.proofs.Ended.{IsWritten, ended-answered, ended-asked, e
 use Rattle.request_lines.proofs.Ended.{ended-both}
 use Rattle.request_lines.proofs.Ended.{begun_in, ended-cut, ended-read, ended-stopped, ended-store}
 use Rattle.request_lines.proofs.Ended.{ended-stands, ended-told, ended-untold, ended-write}
-use Rattle.request_lines.proofs.Ended.{none_answered, none_begun}
+use Rattle.request_lines.proofs.Ended.{none_answered, none_begun, not_written}
 use Rattle.request_lines.proofs.HeldLines.{held-stream}
 use Rattle.request_lines.proofs.line_answers.lines.Goals as goal
 
-pub returns-in-Err : goal.returns-in-Err
-returns-in-Err g c = record {
-  answers = none_answered c.args.shelf.now c.args.opening
-      (g.R.Read.remaining c.args.reader.now) (g.W.Write.contents c.args.writer.now)
-      (g.K.Keeper.seen c.args.keeper.now) _ _ refl;
-  told = search rules;
-  begun = none_begun (g.W.Write.contents c.args.writer.now) (g.R.Read.remaining c.args.reader.now);
-  unread = search rules;
-  unwritten = search rules;
-  fault = search rules;
-  honesty = search rules;
-  stands = search rules;
-  asked = search rules;
-  left = λ clean honest t left. inl left;
-}
+pub returns-in_err-input : goal.returns-in_err-input
+returns-in_err-input g c =
+    let p = err_from_is_err_and c.from_residual.result c.from_residual.ensures.1 in
+    let is = p.1 ∙ ap Err p.2 in
+    record {
+      answers = none_answered c.args.shelf.now c.args.opening
+          (g.R.Read.remaining c.args.reader.now) (g.W.Write.contents c.args.writer.now)
+          (g.K.Keeper.seen c.args.keeper.now) c.from_residual.result _ is;
+      told = search rules;
+      begun = on_err c.from_residual.result (none_begun (g.W.Write.contents c.args.writer.now)
+          (g.R.Read.remaining c.args.reader.now));
+      unread = search rules;
+      unwritten = search rules;
+      fault = λ fault told. absurd (not_written c.from_residual.result _ fault is told);
+      honesty = search rules;
+      stands = search rules;
+      asked = λ fault told. absurd (not_written c.from_residual.result _ fault is told);
+      left = λ clean honest t left. inl left;
+    }
 
-pub returns-in_default : goal.returns-in_default
-returns-in_default g c = record {
-  answers = none_answered c.args.shelf.now c.args.opening
-      (g.R.Read.remaining c.args.reader.now) (g.W.Write.contents c.args.writer.now)
-      (g.K.Keeper.seen c.args.keeper.now) _ _ refl;
-  told = search rules;
-  begun = none_begun (g.W.Write.contents c.args.writer.now) (g.R.Read.remaining c.args.reader.now);
-  unread = search rules;
-  unwritten = search rules;
-  fault = search rules;
-  honesty = search rules;
-  stands = search rules;
-  asked = search rules;
-  left = λ clean honest t left. inl left;
-}
+pub returns-in_err-opening : goal.returns-in_err-opening
+returns-in_err-opening g c =
+    let p = err_from_is_err_and c.from_residual-in_err-opening.result c.from_residual-in_err-opening.ensures.1 in
+    let is = p.1 ∙ ap Err p.2 in
+    record {
+      answers = none_answered c.args.shelf.now c.args.opening
+          (g.R.Read.remaining c.args.reader.now) (g.W.Write.contents c.args.writer.now)
+          (g.K.Keeper.seen c.args.keeper.now) c.from_residual-in_err-opening.result _ is;
+      told = search rules;
+      begun = on_err c.from_residual-in_err-opening.result (none_begun (g.W.Write.contents c.args.writer.now)
+          (g.R.Read.remaining c.args.reader.now));
+      unread = search rules;
+      unwritten = search rules;
+      fault = λ fault told. absurd (not_written c.from_residual-in_err-opening.result _ fault is told);
+      honesty = search rules;
+      stands = search rules;
+      asked = λ fault told. absurd (not_written c.from_residual-in_err-opening.result _ fault is told);
+      left = λ clean honest t left. inl left;
+    }
 
 pub returns : goal.returns
 returns g c =
@@ -65,26 +74,26 @@ returns g c =
     let is = c.ended_as.ensures in
     let given = c.run_opened-answers.result.answers.items in
     let whole : OnOk written
-    (Appends w0 w1 (answer_texts (map told_fault c.in-Ok.input.lines.items) given)) =
+    (Appends w0 w1 (answer_texts (map told_fault c.in_ok-input.input.lines.items) given)) =
     subst (λ (t : List ℕ). OnOk written (Appends w0 w1 t))
     (λ i. answer_texts (map told_fault (c.deref-2.ensures.value i)) (c.deref-3.ensures.value i))
     c.write_output-written.ensures.written in
     let part : OnErr written
-    (WritesBeginning w0 w1 (answer_texts (map told_fault c.in-Ok.input.lines.items) given)) =
+    (WritesBeginning w0 w1 (answer_texts (map told_fault c.in_ok-input.input.lines.items) given)) =
     subst (λ (t : List ℕ). OnErr written (WritesBeginning w0 w1 t))
     (λ i. answer_texts (map told_fault (c.deref-2.ensures.value i)) (c.deref-3.ensures.value i))
     c.write_output-written.ensures.err in
-    let opened : c.in-Ok-open_first.opening.items
-    ≡ opening_for opening c.in-Ok.input.requests.items =
-    subst (λ (rs : List DatedCommand). c.in-Ok-open_first.opening.items ≡ opening_for opening rs)
-    c.deref.ensures.value c.in-Ok-open_first.ensures in
+    let opened : c.in_ok-opening.opening.items
+    ≡ opening_for opening c.in_ok-input.input.requests.items =
+    subst (λ (rs : List DatedCommand). c.in_ok-opening.opening.items ≡ opening_for opening rs)
+    c.deref.ensures.value c.in_ok-opening.ensures in
     let h : (g.K.Keeper.seen c.run_opened-answers.new.keeper).clean →
     IsWritten b opening w0 w1 r old new fault written =
     λ clean. record {
-      input = c.in-Ok.input;
-      opening = c.in-Ok-open_first.opening.items;
+      input = c.in_ok-input.input;
+      opening = c.in_ok-opening.opening.items;
       given = given;
-      read = c.in-Ok.ensures;
+      read = c.in_ok-input.ensures;
       opened = opened;
       runs = c.run_opened-answers.ensures.runs clean;
       whole = whole;
@@ -102,8 +111,8 @@ returns g c =
             ended-cut b opening w0 w1 r old new fault written result f is k (h clean);
         untold = λ f k clean.
             ended-untold b opening w0 w1 r old new fault written result f is k (h clean);
-        continued = λ clean. continued-run b c.in-Ok-open_first.opening.items
-            c.in-Ok.input.requests.items old new c.run_opened-answers.result.answers.items fault
+        continued = λ clean. continued-run b c.in_ok-opening.opening.items
+            c.in_ok-input.input.requests.items old new c.run_opened-answers.result.answers.items fault
             (c.run_opened-answers.ensures.runs clean);
         cleanness = c.run_opened-answers.ensures.cleanness;
         failures = c.run_opened-answers.ensures.failures;
@@ -112,11 +121,11 @@ returns g c =
         cause_of_both = λ k. c.run_opened-answers.ensures.cause
             (ended-both fault written result StoreFailed is k);
       };
-      told = ended-told w0 w1 c.in-Ok.input given fault written result r is c.in-Ok.ensures
+      told = ended-told w0 w1 c.in_ok-input.input given fault written result r is c.in_ok-input.ensures
           c.run_opened-answers.ensures.whole whole;
-      begun = on_err result (begun_in w0 w1 c.in-Ok.input given r c.in-Ok.ensures
+      begun = on_err result (begun_in w0 w1 c.in_ok-input.input given r c.in_ok-input.ensures
           (whole_or_begun written w0 w1
-          (answer_texts (map told_fault c.in-Ok.input.lines.items) given) whole part));
+          (answer_texts (map told_fault c.in_ok-input.input.lines.items) given) whole part));
       unread = λ f k. absurd (ended-read fault written result f is k);
       unwritten = λ f k. absurd (ended-read fault written result f is k);
       fault = λ f k. ended-write (λ (e : StreamFault). e ≢ ReadFailed) fault written result f is k
@@ -128,7 +137,7 @@ returns g c =
       asked = λ f k honest clean.
           ended-asked fault written result f is k
           (c.run_opened-answers.ensures.stands honest clean);
-      left = λ clean honest t left. inr (held-stream b old t opening c.in-Ok.input
-          c.in-Ok-open_first.opening.items r c.in-Ok.ensures opened
+      left = λ clean honest t left. inr (held-stream b old t opening c.in_ok-input.input
+          c.in_ok-opening.opening.items r c.in_ok-input.ensures opened
           (c.run_opened-answers.ensures.held honest clean t left));
     }
