@@ -3,7 +3,6 @@ use Rattle.std.proofs.Common.{◌≡◌, ℕ, List, Bool, true, false, Option, S
 use Rattle.std.proofs.Common.{Result, Err, sym, ap, ◌∙◌, subst}
 use Rattle.std.specs.Str.{IsUtf8, is_utf8}
 use Rattle.std.proofs.lemmas.Str.{IsUtf8-from_is_utf8, is_utf8-from_IsUtf8}
-use Rattle.std.specs.declared.alloc.Global.{Global}
 use Rattle.json.specs.declared.value.Value.{Value}
 use Rattle.serde_json.specs.Data.{Data}
 use Rattle.serde_json.specs.Read.{read}
@@ -20,7 +19,7 @@ json_found bytes d text is =
     ap (λ b. cond b (read bytes) None) (is_utf8-from_IsUtf8 bytes text) ∙ is
 
 -- a text that was read
-pub text_read : (r : Result (Value Global) WireFault) (text bytes : List ℕ) → text ≡ bytes →
+pub text_read : {M : Type 0} (r : Result (Value M) WireFault) (text bytes : List ℕ) → text ≡ bytes →
     IsUtf8 bytes → Gives view r (or_fault NotRequest (read text)) →
     Gives view r (or_fault NotRequest (json_of bytes))
 unfolding json_of

@@ -2,7 +2,6 @@
 use Rattle.std.specs.Prelude.{◌≡◌, List, [], ◌∷◌, Result, Err}
 use Rattle.std.specs.Borrow.{Bor}
 use Rattle.serde_json.specs.Data.{Data, Items, no_items, item}
-use Rattle.std.specs.declared.alloc.Global.{Global}
 use Rattle.json.specs.declared.value.Value.{Value}
 use Rattle.texts.specs.Steps as steps
 use Rattle.texts.specs.Steps.{GivesUnless}
@@ -31,8 +30,8 @@ abbrev pub read_each : {A : Type 0}
 read_each read done ds = steps.collected read done (item_list ds)
 
 -- what a function returns for the items that were read and a value is what `says` gives
-abbrev pub IsReadBy : {A : Type 0}
-    → (Bor (List A) → Bor (Value Global) → Result A WireFault → Type 0)
+abbrev pub IsReadBy : {A M : Type 0}
+    → (Bor (List A) → Bor (Value M) → Result A WireFault → Type 0)
     → (List A → Data → Result A WireFault) → Type 0
-IsReadBy {A} returns says = (done : Bor (List A)) (value : Bor (Value Global)) (r : Result A WireFault)
+IsReadBy {A} {M} returns says = (done : Bor (List A)) (value : Bor (Value M)) (r : Result A WireFault)
     → returns done value r → Gives (λ (x : A). x) r (says done.now (view value.now))

@@ -5,6 +5,7 @@
 mod fault;
 mod numbers;
 mod reading;
+mod scratch;
 mod unit;
 mod value;
 mod writing;
@@ -14,6 +15,7 @@ pub use crate::reading::{
     array, document, is_text, member, number, object, optional_in, optional_moment,
     optional_number, read_each, text, whole_in,
 };
+pub use crate::scratch::{Items, Scratch, Tree};
 pub use crate::unit::{unit_name, unit_told, units_in};
 pub use crate::value::{as_array, as_bool, as_i64, as_str, as_u64, get, is_object};
 pub use crate::writing::{put_moment, put_money, put_number, put_perhaps, put_text, text_of};

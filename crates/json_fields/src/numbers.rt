@@ -9,6 +9,8 @@ ghost use Rattle.serde_json.specs.Read.{number_of, number_from, float_of};
 ghost use Rattle.serde_json.specs.View.{number_view};
 ghost use Rattle.json_fields.specs.View.{is_in_range, are_in_range, members_in_range};
 
+use crate::scratch::{Items, Tree};
+use bumpalo::Bump;
 use fast_float::Numeral;
 use json::Value;
 use serde_json::Number;
@@ -97,7 +99,7 @@ pub(crate) fn whole_number(text: &str) -> Option<u64>
 
 /// Whether each number of a value is in range.
 #[cycle(ranges)]
-pub(crate) fn is_in_range(value: &Value<'_>) -> bool
+pub(crate) fn is_in_range(value: &Tree<'_>) -> bool
     ensures { result ≡ is_in_range (value_view value.now) }
 {
     match value {
@@ -112,7 +114,7 @@ pub(crate) fn is_in_range(value: &Value<'_>) -> bool
 
 #[cycle(ranges)]
 #[inline(never)]
-fn are_in_range<'a>(items: &Vec<Value<'a>>) -> bool
+fn are_in_range<'a>(items: &Items<'a>) -> bool
     ensures { result ≡ are_in_range (items_view items.now.items) }
 {
     for item in items {
@@ -125,7 +127,7 @@ fn are_in_range<'a>(items: &Vec<Value<'a>>) -> bool
 
 #[cycle(ranges)]
 #[inline(never)]
-fn members_in_range<'a>(members: &Vec<(&'a str, Value<'a>)>) -> bool
+fn members_in_range<'a>(members: &Vec<(&'a str, Tree<'a>), &'a Bump>) -> bool
     ensures { result ≡ members_in_range (members_view members.now.items) }
 {
     for member in members {

@@ -8,22 +8,18 @@ ghost use Rattle.json_fields.specs.Fields.{optional_in, optional_at, text_at, ob
 ghost use Rattle.json_fields.specs.View.{view, items_view};
 
 use crate::fault::WireFault;
+use crate::scratch::{Items, Scratch, Tree};
 use crate::value::{as_array, as_str, as_u64, get, is_object, value_of};
 use commands::Avp;
-use json::{Scratch, Value};
 use std::alloc::Global;
 use units::Moment;
 
 #[tactic(auto, using(crate::proofs::Documents::text_read, crate::proofs::Documents::no_text))]
-fn parsed<'a>(
-    alloc: Global,
-    bytes: &'a [u8],
-    scratch: &'a mut Scratch,
-) -> Result<Value<'a>, WireFault>
+fn parsed<'a>(bytes: &'a [u8], scratch: &'a mut Scratch) -> Result<Tree<'a>, WireFault>
     ensures { Gives view result (or_fault WireFault.NotRequest (json_of bytes.now)) }
 {
     match simdutf8::basic::from_utf8(bytes) {
-        Ok(text) => value_of(alloc, text, scratch),
+        Ok(text) => value_of(text, scratch),
         Err(_) => Err(WireFault::NotRequest),
     }
 }
@@ -34,14 +30,10 @@ fn parsed<'a>(
 /// # Errors
 /// `NotRequest` where the bytes are no JSON object, `Memory` where memory ran out.
 #[tactic(auto, unfolding(crate::specs::Fields::document_at))]
-pub fn document<'a>(
-    alloc: Global,
-    bytes: &'a [u8],
-    scratch: &'a mut Scratch,
-) -> Result<Value<'a>, WireFault>
+pub fn document<'a>(bytes: &'a [u8], scratch: &'a mut Scratch) -> Result<Tree<'a>, WireFault>
     ensures { Gives view result (document_at bytes.now) }
 {
-    let value = parsed(alloc, bytes, scratch)?;
+    let value = parsed(bytes, scratch)?;
     if is_object(&value) {
         Ok(value)
     } else {
@@ -54,7 +46,7 @@ pub fn document<'a>(
 /// # Errors
 /// `Missing`, with the name, where it isn't there.
 #[tactic(auto, unfolding(crate::specs::Fields::member_at))]
-pub fn member<'v, 'a>(parent: &'v Value<'a>, name: Avp) -> Result<&'v Value<'a>, WireFault>
+pub fn member<'v, 'a>(parent: &'v Tree<'a>, name: Avp) -> Result<&'v Tree<'a>, WireFault>
     ensures { Says (λ v. view v.now) result (member_at name (view parent.now)) }
 {
     get(parent, name.name()).ok_or(WireFault::Missing(name))
@@ -64,7 +56,7 @@ pub fn member<'v, 'a>(parent: &'v Value<'a>, name: Avp) -> Result<&'v Value<'a>,
 ///
 /// # Errors
 /// `fault` where the value is no such number.
-pub fn whole_in(value: &Value<'_>, fault: WireFault, low: u64, high: u64) -> Result<u64, WireFault>
+pub fn whole_in(value: &Tree<'_>, fault: WireFault, low: u64, high: u64) -> Result<u64, WireFault>
     ensures reads { Says (λ n. n) result (whole_in fault low high (view value.now)) }
     ensures within { IfOk result (λ n. (low ≤ n) × (n ≤ high)) }
 {
@@ -80,7 +72,7 @@ pub fn whole_in(value: &Value<'_>, fault: WireFault, low: u64, high: u64) -> Res
 /// # Errors
 /// `Missing` where it isn't there, `Invalid` where it is no such number, both with the name.
 #[tactic(auto, unfolding(crate::specs::Fields::number_at))]
-pub fn number(parent: &Value<'_>, name: Avp, low: u64, high: u64) -> Result<u64, WireFault>
+pub fn number(parent: &Tree<'_>, name: Avp, low: u64, high: u64) -> Result<u64, WireFault>
     ensures reads { Says (λ n. n) result (number_at name low high (view parent.now)) }
     ensures within { IfOk result (λ n. (low ≤ n) × (n ≤ high)) }
 {
@@ -92,7 +84,7 @@ pub fn number(parent: &Value<'_>, name: Avp, low: u64, high: u64) -> Result<u64,
 /// # Errors
 /// `Invalid`, with the name, where it is there and is no such number.
 pub fn optional_number(
-    parent: &Value<'_>,
+    parent: &Tree<'_>,
     name: Avp,
     low: u64,
     high: u64,
@@ -109,7 +101,7 @@ pub fn optional_number(
 /// `fault` where it is there and is no such number.
 #[tactic(auto, unfolding(crate::specs::Fields::optional_in))]
 pub fn optional_in(
-    parent: &Value<'_>,
+    parent: &Tree<'_>,
     name: &str,
     fault: WireFault,
     low: u64,
@@ -129,7 +121,7 @@ pub fn optional_in(
 /// # Errors
 /// `fault` where it is there and is no such number of seconds since 1970.
 pub fn optional_moment(
-    parent: &Value<'_>,
+    parent: &Tree<'_>,
     name: &str,
     fault: WireFault,
     low: u64,
@@ -158,7 +150,7 @@ fn moment(seconds: Option<u64>) -> Option<Moment>
 /// # Errors
 /// `Missing` where it isn't there, `Invalid` where it is no text, both with the name.
 #[tactic(auto, unfolding(crate::specs::Fields::text_at))]
-pub fn text<'a>(parent: &Value<'a>, name: Avp) -> Result<&'a str, WireFault>
+pub fn text<'a>(parent: &Tree<'a>, name: Avp) -> Result<&'a str, WireFault>
     ensures { Says (λ s. s.now) result (text_at name (view parent.now)) }
 {
     as_str(member(parent, name)?).ok_or(WireFault::Invalid(name))
@@ -169,7 +161,7 @@ pub fn text<'a>(parent: &Value<'a>, name: Avp) -> Result<&'a str, WireFault>
 /// # Errors
 /// `Missing` where it isn't there, `Invalid` where it is no object, both with the name.
 #[tactic(auto, unfolding(crate::specs::Fields::object_at))]
-pub fn object<'v, 'a>(parent: &'v Value<'a>, name: Avp) -> Result<&'v Value<'a>, WireFault>
+pub fn object<'v, 'a>(parent: &'v Tree<'a>, name: Avp) -> Result<&'v Tree<'a>, WireFault>
     ensures { Says (λ v. view v.now) result (object_at name (view parent.now)) }
 {
     let value = member(parent, name)?;
@@ -184,7 +176,7 @@ pub fn object<'v, 'a>(parent: &'v Value<'a>, name: Avp) -> Result<&'v Value<'a>,
 /// # Errors
 /// `Invalid`, with the name `told`, where the value is no array.
 #[tactic(auto, unfolding(crate::specs::Fields::array_of))]
-pub fn array<'v, 'a>(value: &'v Value<'a>, told: Avp) -> Result<&'v Vec<Value<'a>>, WireFault>
+pub fn array<'v, 'a>(value: &'v Tree<'a>, told: Avp) -> Result<&'v Items<'a>, WireFault>
     ensures { Says (λ v. items_view v.now.items) result (array_of told (view value.now)) }
 {
     as_array(value).ok_or(WireFault::Invalid(told))
@@ -194,9 +186,9 @@ pub fn array<'v, 'a>(value: &'v Value<'a>, told: Avp) -> Result<&'v Vec<Value<'a
 ///
 /// # Errors
 /// The first fault of `read`, which ends it; `Memory` where memory ran out.
-pub fn read_each<'a, T: Drop, F: Fn(&[T], &Value<'a>) -> Result<T, WireFault>>(
+pub fn read_each<'a, T: Drop, F: Fn(&[T], &Tree<'a>) -> Result<T, WireFault>>(
     alloc: Global,
-    list: &Vec<Value<'a>>,
+    list: &Items<'a>,
     read: F,
 ) -> Result<Vec<T>, WireFault>
     requires { F.IsAlwaysCallable read }

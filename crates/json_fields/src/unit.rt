@@ -8,8 +8,8 @@ ghost use Rattle.json_fields.specs.Unit.{name_of_unit, has_unit, lacks_others, k
 
 use crate::fault::WireFault;
 use crate::reading::whole_in;
+use crate::scratch::Tree;
 use crate::value::get;
-use json::Value;
 use units::UnitKind;
 
 /// The name of the member that counts units of this kind.
@@ -23,7 +23,7 @@ pub fn unit_name(kind: UnitKind) -> &'static str
     }
 }
 
-fn has_unit(value: &Value<'_>, kind: UnitKind) -> bool
+fn has_unit(value: &Tree<'_>, kind: UnitKind) -> bool
     ensures { result ≡ has_unit kind (view value.now) }
 {
     get(value, unit_name(kind)).is_some()
@@ -31,7 +31,7 @@ fn has_unit(value: &Value<'_>, kind: UnitKind) -> bool
 
 /// The kind of the first unit member that is there.
 #[tactic(auto, unfolding(crate::specs::Unit::kind_told))]
-pub fn unit_told(value: &Value<'_>) -> Option<UnitKind>
+pub fn unit_told(value: &Tree<'_>) -> Option<UnitKind>
     ensures { result ≡ kind_told (view value.now) }
 {
     if has_unit(value, UnitKind::Time) {
@@ -54,7 +54,7 @@ fn most_units(kind: UnitKind) -> u64
     }
 }
 
-fn lacks_others(value: &Value<'_>, kind: UnitKind) -> bool
+fn lacks_others(value: &Tree<'_>, kind: UnitKind) -> bool
     ensures { result ≡ lacks_others kind (view value.now) }
 {
     match kind {
@@ -70,7 +70,7 @@ fn lacks_others(value: &Value<'_>, kind: UnitKind) -> bool
 /// The units of this kind in `value`, alone, at least `low`, and else `fault`.
 #[tactic(auto, unfolding(crate::specs::Unit::units_at))]
 pub fn units_in(
-    value: &Value<'_>,
+    value: &Tree<'_>,
     fault: WireFault,
     low: u64,
     kind: UnitKind,

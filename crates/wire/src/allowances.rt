@@ -11,12 +11,14 @@ ghost use Rattle.wire.specs.Allowances.{allowance_text, IsAllowance};
 use crate::credits::{end, ended, reference, start, started};
 use commands::{Allowance, AllowanceBlocks, Avp};
 use identifiers::AccountNumber;
-use json::{Scratch, Value, Writer};
-use json_fields::{WireFault, document, number, put_moment, put_number, put_text, text_of};
+use json::Writer;
+use json_fields::{
+    Scratch, Tree, WireFault, document, number, put_moment, put_number, put_text, text_of,
+};
 use std::alloc::{AllocError, Global};
 use units::Blocks;
 
-fn blocks(parent: &Value<'_>) -> Result<AllowanceBlocks, WireFault>
+fn blocks(parent: &Tree<'_>) -> Result<AllowanceBlocks, WireFault>
     ensures { Says (λ b. b) result (number_at Avp.Blocks 1 1_000_000_000 (view parent.now)) }
 {
     let number = number(parent, Avp::Blocks, 1, 1_000_000_000)?;
@@ -28,7 +30,7 @@ fn blocks(parent: &Value<'_>) -> Result<AllowanceBlocks, WireFault>
 pub(crate) fn allowance_in(
     alloc: Global,
     account: AccountNumber,
-    parent: &Value<'_>,
+    parent: &Tree<'_>,
 ) -> Result<Allowance, WireFault>
     ensures { Gives (λ a. a) result (allowance_at account (view parent.now)) }
 {
@@ -62,7 +64,7 @@ pub fn read_allow(
 ) -> Result<Allowance, WireFault>
     ensures { Gives (λ a. a) result (allowance_of account bytes.now) }
 {
-    let parent = document(alloc, bytes, scratch)?;
+    let parent = document(bytes, scratch)?;
     allowance_in(alloc, account, &parent)
 }
 

@@ -22,8 +22,7 @@ use crate::credits::{credit_in, credit_written};
 use crate::redeeming::{kept_redemption_in, redemption_written};
 use commands::{Allowance, Avp, Content, KeptCredit, Request, VoucherRedemption};
 use identifiers::AccountNumber;
-use json::{Scratch, Value};
-use json_fields::{WireFault, document, get, is_text};
+use json_fields::{Scratch, Tree, WireFault, document, get, is_text};
 use std::alloc::{AllocError, Global};
 use wire_requests::{request, write_request};
 
@@ -86,7 +85,7 @@ pub fn write_content(alloc: Global, content: &Content) -> Result<String, AllocEr
 fn request_content(
     alloc: Global,
     account: AccountNumber,
-    parent: &Value<'_>,
+    parent: &Tree<'_>,
 ) -> Result<Content, WireFault>
     ensures { Gives (λ c. c) result (request_content_in account (view parent.now)) }
 {
@@ -102,7 +101,7 @@ fn request_content(
 fn credit_content(
     alloc: Global,
     account: AccountNumber,
-    parent: &Value<'_>,
+    parent: &Tree<'_>,
 ) -> Result<Content, WireFault>
     ensures { Gives (λ c. c) result (credit_content_in account (view parent.now)) }
 {
@@ -114,7 +113,7 @@ fn credit_content(
 fn allowance_content(
     alloc: Global,
     account: AccountNumber,
-    parent: &Value<'_>,
+    parent: &Tree<'_>,
 ) -> Result<Content, WireFault>
     ensures { Gives (λ c. c) result (allowance_content_in account (view parent.now)) }
 {
@@ -125,7 +124,7 @@ fn allowance_content(
 fn redemption_content(
     alloc: Global,
     account: AccountNumber,
-    parent: &Value<'_>,
+    parent: &Tree<'_>,
 ) -> Result<Content, WireFault>
     ensures { Gives (λ c. c) result (redemption_content_in account (view parent.now)) }
 {
@@ -141,7 +140,7 @@ fn redemption_content(
 fn given_content(
     alloc: Global,
     account: AccountNumber,
-    parent: &Value<'_>,
+    parent: &Tree<'_>,
 ) -> Result<Content, WireFault>
     ensures { Gives (λ c. c) result
         (given_content_when account (view parent.now)
@@ -157,7 +156,7 @@ fn given_content(
 fn operator_content(
     alloc: Global,
     account: AccountNumber,
-    parent: &Value<'_>,
+    parent: &Tree<'_>,
 ) -> Result<Content, WireFault>
     ensures { Gives (λ c. c) result
         (operator_content_when account (view parent.now)
@@ -173,7 +172,7 @@ fn operator_content(
 fn content_in(
     alloc: Global,
     account: AccountNumber,
-    parent: &Value<'_>,
+    parent: &Tree<'_>,
 ) -> Result<Content, WireFault>
     ensures { Gives (λ c. c) result
         (content_when account (view parent.now) (get (name_of Avp.SessionId) (view parent.now))) }
@@ -189,7 +188,7 @@ fn content(alloc: Global, account: AccountNumber, bytes: &[u8]) -> Result<Conten
     ensures { Gives (λ c. c) result (content_of account bytes.now) }
 {
     let mut scratch = Scratch::new(alloc);
-    let parent = document(alloc, bytes, &mut scratch)?;
+    let parent = document(bytes, &mut scratch)?;
     content_in(alloc, account, &parent)
 }
 

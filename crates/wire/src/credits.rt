@@ -10,16 +10,16 @@ ghost use Rattle.wire.specs.Credits.{IsCredit};
 
 use commands::{Avp, Credit, CreditEnd, CreditStart, KeptCredit};
 use identifiers::{AccountNumber, Reference};
-use json::{Scratch, Value, Writer};
+use json::Writer;
 use json_fields::{
-    WireFault, document, number, optional_moment, optional_number, put_moment, put_number,
-    put_perhaps, put_text, text, text_of,
+    Scratch, Tree, WireFault, document, number, optional_moment, optional_number, put_moment,
+    put_number, put_perhaps, put_text, text, text_of,
 };
 use std::alloc::{AllocError, Global};
 use units::{Moment, Money};
 
 #[tactic(auto, unfolding(crate::specs::Credits::reference_at))]
-pub(crate) fn reference(alloc: Global, parent: &Value<'_>) -> Result<Reference, WireFault>
+pub(crate) fn reference(alloc: Global, parent: &Tree<'_>) -> Result<Reference, WireFault>
     ensures { Gives (λ r. r) result (reference_at (view parent.now)) }
 {
     let text = text(parent, Avp::Reference)?;
@@ -37,7 +37,7 @@ fn scope(group: Option<u64>) -> Option<u32>
     }
 }
 
-fn amount(parent: &Value<'_>) -> Result<Money, WireFault>
+fn amount(parent: &Tree<'_>) -> Result<Money, WireFault>
     ensures { Says (λ m. m) result
         (number_at Avp.Amount 1 1_000_000_000_000_000 (view parent.now)) }
 {
@@ -45,12 +45,7 @@ fn amount(parent: &Value<'_>) -> Result<Money, WireFault>
     Money::new(micros).ok_or(WireFault::Invalid(Avp::Amount))
 }
 
-fn moment_at(
-    parent: &Value<'_>,
-    name: Avp,
-    low: u64,
-    high: u64,
-) -> Result<Option<Moment>, WireFault>
+fn moment_at(parent: &Tree<'_>, name: Avp, low: u64, high: u64) -> Result<Option<Moment>, WireFault>
     requires { high ≤ 4_102_488_000 }
     ensures reads { Says (λ m. m) result (optional_at name low high (view parent.now)) }
     ensures within { IfOk result (λ o. IfSome o (λ m. (low ≤ m) × (m ≤ high))) }
@@ -78,14 +73,14 @@ fn end_of(moment: Option<Moment>) -> Option<CreditEnd>
     }
 }
 
-pub(crate) fn start(parent: &Value<'_>) -> Result<Option<CreditStart>, WireFault>
+pub(crate) fn start(parent: &Tree<'_>) -> Result<Option<CreditStart>, WireFault>
     ensures { Says (λ s. s) result (optional_at Avp.From 0 4_102_444_799 (view parent.now)) }
 {
     let moment = moment_at(parent, Avp::From, 0, 4_102_444_799)?;
     Ok(start_of(moment))
 }
 
-pub(crate) fn end(parent: &Value<'_>) -> Result<Option<CreditEnd>, WireFault>
+pub(crate) fn end(parent: &Tree<'_>) -> Result<Option<CreditEnd>, WireFault>
     ensures { Says (λ e. e) result (optional_at Avp.Until 1 4_102_444_800 (view parent.now)) }
 {
     let moment = moment_at(parent, Avp::Until, 1, 4_102_444_800)?;
@@ -97,7 +92,7 @@ pub(crate) fn end(parent: &Value<'_>) -> Result<Option<CreditEnd>, WireFault>
 pub(crate) fn credit_in(
     alloc: Global,
     account: AccountNumber,
-    parent: &Value<'_>,
+    parent: &Tree<'_>,
 ) -> Result<Credit, WireFault>
     ensures { Gives (λ c. c) result (credit_at account (view parent.now)) }
 {
@@ -131,7 +126,7 @@ pub fn read_credit(
 ) -> Result<Credit, WireFault>
     ensures { Gives (λ c. c) result (credit_of account bytes.now) }
 {
-    let parent = document(alloc, bytes, scratch)?;
+    let parent = document(bytes, scratch)?;
     credit_in(alloc, account, &parent)
 }
 

@@ -29,8 +29,7 @@ pub use crate::redeeming::read_redeem;
 pub use crate::requests::read_request;
 pub use crate::writing::{write_answer, write_fault};
 pub use crate::written::{AnswerRoom, WrittenAnswer};
-pub use json::Scratch;
-pub use json_fields::WireFault;
+pub use json_fields::{Scratch, WireFault};
 pub use wire_requests::{
     request_again, request_fault_is_told, request_in_order, request_is_read, request_is_said,
     write_request,

@@ -6,11 +6,10 @@ ghost use Rattle.json_fields.specs.Fields.{optional_in};
 ghost use Rattle.json_fields.specs.View.{view};
 ghost use Rattle.wire.specs.Members.{member_in, number_in, text_in, object_in};
 
-use json::Value;
-use json_fields::{WireFault, as_str, get, is_object, optional_in, whole_in};
+use json_fields::{Tree, WireFault, as_str, get, is_object, optional_in, whole_in};
 
 /// The member of this name.
-pub(crate) fn member<'v, 'a>(parent: &'v Value<'a>, name: &str) -> Result<&'v Value<'a>, WireFault>
+pub(crate) fn member<'v, 'a>(parent: &'v Tree<'a>, name: &str) -> Result<&'v Tree<'a>, WireFault>
     ensures { Says (λ v. view v.now) result (member_in name.now (view parent.now)) }
 {
     get(parent, name).ok_or(WireFault::NotRequest)
@@ -18,7 +17,7 @@ pub(crate) fn member<'v, 'a>(parent: &'v Value<'a>, name: &str) -> Result<&'v Va
 
 /// The member of this name, a whole number from `low` to `high`.
 #[tactic(auto, unfolding(crate::specs::Members::number_in))]
-pub(crate) fn number(parent: &Value<'_>, name: &str, low: u64, high: u64) -> Result<u64, WireFault>
+pub(crate) fn number(parent: &Tree<'_>, name: &str, low: u64, high: u64) -> Result<u64, WireFault>
     ensures reads { Says (λ n. n) result (number_in name.now low high (view parent.now)) }
     ensures within { IfOk result (λ n. (low ≤ n) × (n ≤ high)) }
 {
@@ -27,7 +26,7 @@ pub(crate) fn number(parent: &Value<'_>, name: &str, low: u64, high: u64) -> Res
 
 /// The member of this name, a text.
 #[tactic(auto, unfolding(crate::specs::Members::text_in))]
-pub(crate) fn text<'a>(parent: &Value<'a>, name: &str) -> Result<&'a str, WireFault>
+pub(crate) fn text<'a>(parent: &Tree<'a>, name: &str) -> Result<&'a str, WireFault>
     ensures { Says (λ s. s.now) result (text_in name.now (view parent.now)) }
 {
     as_str(member(parent, name)?).ok_or(WireFault::NotRequest)
@@ -35,7 +34,7 @@ pub(crate) fn text<'a>(parent: &Value<'a>, name: &str) -> Result<&'a str, WireFa
 
 /// The member of this name, an object.
 #[tactic(auto, unfolding(crate::specs::Members::object_in))]
-pub(crate) fn object<'v, 'a>(parent: &'v Value<'a>, name: &str) -> Result<&'v Value<'a>, WireFault>
+pub(crate) fn object<'v, 'a>(parent: &'v Tree<'a>, name: &str) -> Result<&'v Tree<'a>, WireFault>
     ensures { Says (λ v. view v.now) result (object_in name.now (view parent.now)) }
 {
     let value = member(parent, name)?;
@@ -47,7 +46,7 @@ pub(crate) fn object<'v, 'a>(parent: &'v Value<'a>, name: &str) -> Result<&'v Va
 
 /// The member of this name, a whole number from `low` to `high`, where it is there.
 pub(crate) fn optional(
-    parent: &Value<'_>,
+    parent: &Tree<'_>,
     name: &str,
     low: u64,
     high: u64,

@@ -24,13 +24,12 @@ use commands::names::{
 use commands::{
     Answer, Avp, Balance, Cost, Failure, Outcome, Refusal, RequestAnswer, ServiceFailure,
 };
-use json::{Scratch, Value};
-use json_fields::{WireFault, document, get, is_text, number, object};
+use json_fields::{Scratch, Tree, WireFault, document, get, is_text, number, object};
 use std::alloc::Global;
 use wire_requests::{request_kind, session_id};
 
 #[tactic(auto, unfolding(crate::specs::ReadingAnswers::failed_at))]
-fn failed(parent: &Value<'_>) -> Result<Failure, WireFault>
+fn failed(parent: &Tree<'_>) -> Result<Failure, WireFault>
     ensures { Says (λ f. f) result (failed_at (view parent.now)) }
 {
     let name = members::text(parent, FAILED_AVP)?;
@@ -39,7 +38,7 @@ fn failed(parent: &Value<'_>) -> Result<Failure, WireFault>
 }
 
 #[tactic(auto, unfolding(crate::specs::ReadingAnswers::failure_told))]
-fn failure(code: u64, parent: &Value<'_>) -> Result<Failure, WireFault>
+fn failure(code: u64, parent: &Tree<'_>) -> Result<Failure, WireFault>
     ensures { Says (λ f. f) result (failure_told code (view parent.now)) }
 {
     match code {
@@ -55,7 +54,7 @@ fn failure(code: u64, parent: &Value<'_>) -> Result<Failure, WireFault>
 }
 
 #[tactic(auto, unfolding(crate::specs::ReadingAnswers::cost_in))]
-fn cost(value: &Value<'_>) -> Result<Cost, WireFault>
+fn cost(value: &Tree<'_>) -> Result<Cost, WireFault>
     ensures { Says (λ c. c) result (cost_in (view value.now)) }
 {
     let unit_value = object(value, Avp::UnitValue)?;
@@ -64,7 +63,7 @@ fn cost(value: &Value<'_>) -> Result<Cost, WireFault>
     Ok(Cost { micros, currency })
 }
 
-fn priced(parent: &Value<'_>) -> Result<Outcome, WireFault>
+fn priced(parent: &Tree<'_>) -> Result<Outcome, WireFault>
     ensures { Says (λ o. o) result (priced_when (get cost_information (view parent.now))) }
 {
     match get(parent, COST_INFORMATION) {
@@ -73,7 +72,7 @@ fn priced(parent: &Value<'_>) -> Result<Outcome, WireFault>
     }
 }
 
-fn checked(told: Option<u64>, parent: &Value<'_>) -> Result<Outcome, WireFault>
+fn checked(told: Option<u64>, parent: &Tree<'_>) -> Result<Outcome, WireFault>
     ensures { Says (λ o. o) result (checked_when (view parent.now) told) }
 {
     match told {
@@ -86,14 +85,14 @@ fn checked(told: Option<u64>, parent: &Value<'_>) -> Result<Outcome, WireFault>
 }
 
 #[tactic(auto, unfolding(crate::specs::ReadingAnswers::unserved_in))]
-fn unserved(parent: &Value<'_>) -> Result<Outcome, WireFault>
+fn unserved(parent: &Tree<'_>) -> Result<Outcome, WireFault>
     ensures { Says (λ o. o) result (unserved_in (view parent.now)) }
 {
     let balance = members::optional(parent, CHECK_BALANCE_RESULT, 0, 1)?;
     checked(balance, parent)
 }
 
-fn served(alloc: Global, parent: &Value<'_>) -> Result<Outcome, WireFault>
+fn served(alloc: Global, parent: &Tree<'_>) -> Result<Outcome, WireFault>
     ensures { Gives (λ o. o) result
         (served_when (view parent.now) (get (name_of Avp.Services) (view parent.now))) }
 {
@@ -104,7 +103,7 @@ fn served(alloc: Global, parent: &Value<'_>) -> Result<Outcome, WireFault>
 }
 
 #[tactic(auto, unfolding(crate::specs::ReadingAnswers::outcome_told))]
-fn outcome(alloc: Global, code: u64, parent: &Value<'_>) -> Result<Outcome, WireFault>
+fn outcome(alloc: Global, code: u64, parent: &Tree<'_>) -> Result<Outcome, WireFault>
     ensures { Gives (λ o. o) result (outcome_told code (view parent.now)) }
 {
     if code == 2001 {
@@ -115,7 +114,7 @@ fn outcome(alloc: Global, code: u64, parent: &Value<'_>) -> Result<Outcome, Wire
 }
 
 #[tactic(auto, unfolding(crate::specs::ReadingAnswers::request_answer_at))]
-fn request_answer(alloc: Global, parent: &Value<'_>) -> Result<RequestAnswer, WireFault>
+fn request_answer(alloc: Global, parent: &Tree<'_>) -> Result<RequestAnswer, WireFault>
     ensures { Gives (λ a. a) result (request_answer_at (view parent.now)) }
 {
     let session = session_id(alloc, parent)?;
@@ -132,7 +131,7 @@ fn request_answer(alloc: Global, parent: &Value<'_>) -> Result<RequestAnswer, Wi
 }
 
 #[tactic(auto, unfolding(crate::specs::ReadingAnswers::refusal_at))]
-fn refusal(parent: &Value<'_>) -> Result<Answer, WireFault>
+fn refusal(parent: &Tree<'_>) -> Result<Answer, WireFault>
     ensures { Says (λ a. a) result (refusal_at (view parent.now)) }
 {
     let name = members::text(parent, REFUSAL)?;
@@ -141,7 +140,7 @@ fn refusal(parent: &Value<'_>) -> Result<Answer, WireFault>
 }
 
 #[tactic(auto, unfolding(crate::specs::ReadingAnswers::done_at))]
-fn done(parent: &Value<'_>) -> Result<Answer, WireFault>
+fn done(parent: &Tree<'_>) -> Result<Answer, WireFault>
     ensures { Says (λ a. a) result (done_at (view parent.now)) }
 {
     members::number(parent, RESULT_CODE, 2001, 2001)?;
@@ -154,7 +153,7 @@ fn done(parent: &Value<'_>) -> Result<Answer, WireFault>
     }
 }
 
-fn balance_told(alloc: Global, parent: &Value<'_>) -> Result<Answer, WireFault>
+fn balance_told(alloc: Global, parent: &Tree<'_>) -> Result<Answer, WireFault>
     ensures { Gives (λ a. a) result
         (balance_when (view parent.now) (get account (view parent.now))) }
 {
@@ -164,7 +163,7 @@ fn balance_told(alloc: Global, parent: &Value<'_>) -> Result<Answer, WireFault>
     }
 }
 
-fn refused(alloc: Global, parent: &Value<'_>) -> Result<Answer, WireFault>
+fn refused(alloc: Global, parent: &Tree<'_>) -> Result<Answer, WireFault>
     ensures { Gives (λ a. a) result
         (refused_when (view parent.now) (get refusal (view parent.now))) }
 {
@@ -174,7 +173,7 @@ fn refused(alloc: Global, parent: &Value<'_>) -> Result<Answer, WireFault>
     }
 }
 
-fn answered(alloc: Global, parent: &Value<'_>) -> Result<Answer, WireFault>
+fn answered(alloc: Global, parent: &Tree<'_>) -> Result<Answer, WireFault>
     ensures { Gives (λ a. a) result
         (answer_when (view parent.now) (get (name_of Avp.SessionId) (view parent.now))) }
 {
@@ -189,7 +188,7 @@ fn answer(alloc: Global, bytes: &[u8]) -> Result<Answer, WireFault>
     ensures { Gives (λ a. a) result (answer_of bytes.now) }
 {
     let mut scratch = Scratch::new(alloc);
-    let parent = document(alloc, bytes, &mut scratch)?;
+    let parent = document(bytes, &mut scratch)?;
     answered(alloc, &parent)
 }
 

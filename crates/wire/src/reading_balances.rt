@@ -16,8 +16,7 @@ use commands::names::{
 };
 use commands::{AccountBalance, Avp, BucketBalance, BucketBalances, BucketUnit};
 use identifiers::AccountNumber;
-use json::Value;
-use json_fields::{WireFault, as_array, as_bool, get, read_each};
+use json_fields::{Items, Tree, WireFault, as_array, as_bool, get, read_each};
 use std::alloc::Global;
 use units::Moment;
 
@@ -31,13 +30,13 @@ pub(crate) struct Amounts {
     expired: u64,
 }
 
-fn amount(parent: &Value<'_>, name: &str) -> Result<u64, WireFault>
+fn amount(parent: &Tree<'_>, name: &str) -> Result<u64, WireFault>
     ensures { Says (λ n. n) result (amount_in name.now (view parent.now)) }
 {
     members::number(parent, name, 0, u64::MAX)
 }
 
-fn moment(parent: &Value<'_>, name: &str) -> Result<Moment, WireFault>
+fn moment(parent: &Tree<'_>, name: &str) -> Result<Moment, WireFault>
     ensures { Says (λ m. m) result (moment_in name.now (view parent.now)) }
 {
     let seconds = members::number(parent, name, 0, 4_102_488_000)?;
@@ -45,14 +44,14 @@ fn moment(parent: &Value<'_>, name: &str) -> Result<Moment, WireFault>
 }
 
 #[tactic(auto, unfolding(crate::specs::ReadingBalances::flag_in))]
-fn flag(parent: &Value<'_>, name: &str) -> Result<bool, WireFault>
+fn flag(parent: &Tree<'_>, name: &str) -> Result<bool, WireFault>
     ensures { Says (λ b. b) result (flag_in name.now (view parent.now)) }
 {
     as_bool(members::member(parent, name)?).ok_or(WireFault::NotRequest)
 }
 
 #[tactic(auto, unfolding(crate::specs::ReadingBalances::amounts_in))]
-fn read_amounts(parent: &Value<'_>) -> Result<Amounts, WireFault>
+fn read_amounts(parent: &Tree<'_>) -> Result<Amounts, WireFault>
     ensures { Says (λ a. a) result (amounts_in (view parent.now)) }
 {
     let available = amount(parent, AVAILABLE)?;
@@ -69,7 +68,7 @@ fn read_amounts(parent: &Value<'_>) -> Result<Amounts, WireFault>
     })
 }
 
-fn scope(parent: &Value<'_>) -> Result<Option<u32>, WireFault>
+fn scope(parent: &Tree<'_>) -> Result<Option<u32>, WireFault>
     ensures { Says (λ o. o) result (scope_in (view parent.now)) }
 {
     match members::optional(parent, Avp::Scope.name(), 0, 4_294_967_295)? {
@@ -79,7 +78,7 @@ fn scope(parent: &Value<'_>) -> Result<Option<u32>, WireFault>
 }
 
 /// What the amounts count: which unit the member names is seen where its text is compared.
-fn unit(parent: &Value<'_>) -> BucketUnit
+fn unit(parent: &Tree<'_>) -> BucketUnit
     ensures { result ≡ unit_when (get unit (view parent.now)) }
 {
     match get(parent, UNIT) {
@@ -89,7 +88,7 @@ fn unit(parent: &Value<'_>) -> BucketUnit
 }
 
 #[tactic(auto, unfolding(crate::specs::ReadingBalances::bucket_with))]
-fn bucket_with(amounts: &Amounts, parent: &Value<'_>) -> Result<BucketBalance, WireFault>
+fn bucket_with(amounts: &Amounts, parent: &Tree<'_>) -> Result<BucketBalance, WireFault>
     ensures { Says (λ b. b) result (bucket_with amounts.now (view parent.now)) }
 {
     let from = moment(parent, Avp::From.name())?;
@@ -111,21 +110,21 @@ fn bucket_with(amounts: &Amounts, parent: &Value<'_>) -> Result<BucketBalance, W
 }
 
 #[tactic(auto, unfolding(crate::specs::ReadingBalances::bucket_at))]
-fn bucket(parent: &Value<'_>) -> Result<BucketBalance, WireFault>
+fn bucket(parent: &Tree<'_>) -> Result<BucketBalance, WireFault>
     ensures { Says (λ b. b) result (bucket_at (view parent.now)) }
 {
     let amounts = read_amounts(parent)?;
     bucket_with(&amounts, parent)
 }
 
-fn buckets_from(alloc: Global, list: &Vec<Value<'_>>) -> Result<Vec<BucketBalance>, WireFault>
+fn buckets_from(alloc: Global, list: &Items<'_>) -> Result<Vec<BucketBalance>, WireFault>
     ensures { Gives (λ v. v.items) result (buckets_from (items_view list.now.items)) }
 {
     read_each(alloc, list, |_, value| bucket(value))
 }
 
 #[tactic(auto, unfolding(crate::specs::ReadingBalances::buckets_in))]
-fn buckets(alloc: Global, parent: &Value<'_>) -> Result<BucketBalances, WireFault>
+fn buckets(alloc: Global, parent: &Tree<'_>) -> Result<BucketBalances, WireFault>
     ensures { Gives (λ s. s) result (buckets_in (view parent.now)) }
 {
     let list = as_array(members::member(parent, BUCKETS)?).ok_or(WireFault::NotRequest)?;
@@ -133,7 +132,7 @@ fn buckets(alloc: Global, parent: &Value<'_>) -> Result<BucketBalances, WireFaul
 }
 
 #[tactic(auto, unfolding(crate::specs::ReadingBalances::account_in))]
-fn account(alloc: Global, parent: &Value<'_>) -> Result<AccountNumber, WireFault>
+fn account(alloc: Global, parent: &Tree<'_>) -> Result<AccountNumber, WireFault>
     ensures { Gives (λ a. a) result (account_in (view parent.now)) }
 {
     let text = members::text(parent, ACCOUNT)?;
@@ -142,7 +141,7 @@ fn account(alloc: Global, parent: &Value<'_>) -> Result<AccountNumber, WireFault
 
 /// The balance that an object is.
 #[tactic(auto, unfolding(crate::specs::ReadingBalances::balance_at))]
-pub(crate) fn balance(alloc: Global, parent: &Value<'_>) -> Result<AccountBalance, WireFault>
+pub(crate) fn balance(alloc: Global, parent: &Tree<'_>) -> Result<AccountBalance, WireFault>
     ensures { Gives (λ a. a) result (balance_at (view parent.now)) }
 {
     let account = account(alloc, parent)?;

@@ -19,13 +19,14 @@ use commands::{
     ServiceOutcome,
 };
 use identifiers::RedirectAddress;
-use json::Value;
-use json_fields::{WireFault, array, get, number, optional_moment, read_each, unit_told, units_in};
+use json_fields::{
+    Items, Tree, WireFault, array, get, number, optional_moment, read_each, unit_told, units_in,
+};
 use std::alloc::Global;
 use units::Moment;
 
 #[tactic(auto, unfolding(crate::specs::ReadingAnswers::redirect_at))]
-fn redirect(alloc: Global, parent: &Value<'_>) -> Result<RedirectAddress, WireFault>
+fn redirect(alloc: Global, parent: &Tree<'_>) -> Result<RedirectAddress, WireFault>
     ensures { Gives (λ a. a) result (redirect_at (view parent.now)) }
 {
     let server = members::object(parent, REDIRECT_SERVER)?;
@@ -34,7 +35,7 @@ fn redirect(alloc: Global, parent: &Value<'_>) -> Result<RedirectAddress, WireFa
 }
 
 #[tactic(auto, unfolding(crate::specs::ReadingAnswers::final_told))]
-fn final_told(alloc: Global, action: u64, value: &Value<'_>) -> Result<FinalUnit, WireFault>
+fn final_told(alloc: Global, action: u64, value: &Tree<'_>) -> Result<FinalUnit, WireFault>
     ensures { Gives (λ f. f) result (final_told action (view value.now)) }
 {
     if action == 0 {
@@ -45,7 +46,7 @@ fn final_told(alloc: Global, action: u64, value: &Value<'_>) -> Result<FinalUnit
 }
 
 #[tactic(auto, unfolding(crate::specs::ReadingAnswers::final_in))]
-fn final_in(alloc: Global, value: &Value<'_>) -> Result<FinalUnit, WireFault>
+fn final_in(alloc: Global, value: &Tree<'_>) -> Result<FinalUnit, WireFault>
     ensures { Gives (λ f. f) result (final_in (view value.now)) }
 {
     final_told(
@@ -56,7 +57,7 @@ fn final_in(alloc: Global, value: &Value<'_>) -> Result<FinalUnit, WireFault>
 }
 
 #[tactic(auto, unfolding(crate::specs::ReadingAnswers::final_at))]
-fn final_unit(alloc: Global, parent: &Value<'_>) -> Result<Option<FinalUnit>, WireFault>
+fn final_unit(alloc: Global, parent: &Tree<'_>) -> Result<Option<FinalUnit>, WireFault>
     ensures { Gives (λ f. f) result (final_at (view parent.now)) }
 {
     match get(parent, FINAL_UNIT) {
@@ -66,7 +67,7 @@ fn final_unit(alloc: Global, parent: &Value<'_>) -> Result<Option<FinalUnit>, Wi
 }
 
 #[tactic(auto, unfolding(crate::specs::ReadingAnswers::quantity_in))]
-fn quantity(value: &Value<'_>) -> Result<Quantity, WireFault>
+fn quantity(value: &Tree<'_>) -> Result<Quantity, WireFault>
     ensures { Says (λ q. q) result (quantity_in (view value.now)) }
 {
     let kind = unit_told(value).ok_or(WireFault::NotRequest)?;
@@ -75,7 +76,7 @@ fn quantity(value: &Value<'_>) -> Result<Quantity, WireFault>
 }
 
 /// When the price of a grant changes, where it does.
-fn switch(value: &Value<'_>) -> Result<Option<Moment>, WireFault>
+fn switch(value: &Tree<'_>) -> Result<Option<Moment>, WireFault>
     ensures { Says (λ m. m) result (switch_at (view value.now)) }
 {
     optional_moment(
@@ -92,8 +93,8 @@ fn session_grant(
     alloc: Global,
     quantity: Quantity,
     validity: u32,
-    parent: &Value<'_>,
-    value: &Value<'_>,
+    parent: &Tree<'_>,
+    value: &Tree<'_>,
 ) -> Result<ServiceOutcome, WireFault>
     ensures { Gives (λ o. o) result
         (session_grant_in quantity validity (view parent.now) (view value.now)) }
@@ -111,8 +112,8 @@ fn session_grant(
 #[tactic(auto, unfolding(crate::specs::ReadingAnswers::granted_in))]
 fn granted_in(
     alloc: Global,
-    parent: &Value<'_>,
-    value: &Value<'_>,
+    parent: &Tree<'_>,
+    value: &Tree<'_>,
 ) -> Result<ServiceOutcome, WireFault>
     ensures { Gives (λ o. o) result (granted_in (view parent.now) (view value.now)) }
 {
@@ -123,7 +124,7 @@ fn granted_in(
     session_grant(alloc, quantity, validity as u32, parent, value)
 }
 
-fn success(alloc: Global, parent: &Value<'_>) -> Result<ServiceOutcome, WireFault>
+fn success(alloc: Global, parent: &Tree<'_>) -> Result<ServiceOutcome, WireFault>
     ensures { Gives (λ o. o) result
         (success_when (view parent.now) (get granted_unit (view parent.now))) }
 {
@@ -134,7 +135,7 @@ fn success(alloc: Global, parent: &Value<'_>) -> Result<ServiceOutcome, WireFaul
 }
 
 #[tactic(auto, unfolding(crate::specs::ReadingAnswers::service_told))]
-fn service_told(alloc: Global, code: u64, parent: &Value<'_>) -> Result<ServiceOutcome, WireFault>
+fn service_told(alloc: Global, code: u64, parent: &Tree<'_>) -> Result<ServiceOutcome, WireFault>
     ensures { Gives (λ o. o) result (service_told code (view parent.now)) }
 {
     if code == 2001 {
@@ -146,7 +147,7 @@ fn service_told(alloc: Global, code: u64, parent: &Value<'_>) -> Result<ServiceO
 }
 
 #[tactic(auto, unfolding(crate::specs::ReadingAnswers::service_answer_at))]
-fn service_answer(alloc: Global, value: &Value<'_>) -> Result<ServiceAnswer, WireFault>
+fn service_answer(alloc: Global, value: &Tree<'_>) -> Result<ServiceAnswer, WireFault>
     ensures { Gives (λ s. s) result (service_answer_at (view value.now)) }
 {
     let group = number(value, Avp::RatingGroup, 0, 4_294_967_295)? as u32;
@@ -155,7 +156,7 @@ fn service_answer(alloc: Global, value: &Value<'_>) -> Result<ServiceAnswer, Wir
     Ok(ServiceAnswer { group, outcome })
 }
 
-fn services_from(alloc: Global, list: &Vec<Value<'_>>) -> Result<Vec<ServiceAnswer>, WireFault>
+fn services_from(alloc: Global, list: &Items<'_>) -> Result<Vec<ServiceAnswer>, WireFault>
     ensures { Gives (λ v. v.items) result (services_from (items_view list.now.items)) }
 {
     read_each(alloc, list, |_, value| service_answer(alloc, value))
@@ -163,7 +164,7 @@ fn services_from(alloc: Global, list: &Vec<Value<'_>>) -> Result<Vec<ServiceAnsw
 
 /// The answers to the services of a request.
 #[tactic(auto, unfolding(crate::specs::ReadingAnswers::services_in))]
-pub(crate) fn services_in(alloc: Global, value: &Value<'_>) -> Result<ServiceAnswers, WireFault>
+pub(crate) fn services_in(alloc: Global, value: &Tree<'_>) -> Result<ServiceAnswers, WireFault>
     ensures { Gives (λ s. s) result (services_in (view value.now)) }
 {
     let list = array(value, Avp::Services)?;

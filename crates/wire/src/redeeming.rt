@@ -11,13 +11,13 @@ ghost use Rattle.wire.specs.Redeemed.{IsRedemption};
 use crate::credits::reference;
 use commands::{Avp, VoucherRedemption};
 use identifiers::{AccountNumber, VoucherCode};
-use json::{Scratch, Value, Writer};
-use json_fields::{WireFault, document, put_text, text, text_of};
+use json::Writer;
+use json_fields::{Scratch, Tree, WireFault, document, put_text, text, text_of};
 use std::alloc::{AllocError, Global};
 
 /// The account that a redemption is for.
 #[tactic(auto, unfolding(crate::specs::Redeemed::account_at))]
-fn account(alloc: Global, parent: &Value<'_>) -> Result<AccountNumber, WireFault>
+fn account(alloc: Global, parent: &Tree<'_>) -> Result<AccountNumber, WireFault>
     ensures { Gives (λ a. a) result (account_at (view parent.now)) }
 {
     let text = text(parent, Avp::SubscriptionIdData)?;
@@ -26,7 +26,7 @@ fn account(alloc: Global, parent: &Value<'_>) -> Result<AccountNumber, WireFault
 
 /// The voucher that a redemption as it is kept names.
 #[tactic(auto, unfolding(crate::specs::Redeemed::code_at))]
-fn code(alloc: Global, parent: &Value<'_>) -> Result<VoucherCode, WireFault>
+fn code(alloc: Global, parent: &Tree<'_>) -> Result<VoucherCode, WireFault>
     ensures { Gives (λ c. c) result (code_at (view parent.now)) }
 {
     let text = text(parent, Avp::VoucherCode)?;
@@ -39,7 +39,7 @@ fn code(alloc: Global, parent: &Value<'_>) -> Result<VoucherCode, WireFault>
 fn redemption_in(
     alloc: Global,
     code: VoucherCode,
-    parent: &Value<'_>,
+    parent: &Tree<'_>,
 ) -> Result<VoucherRedemption, WireFault>
     ensures { Gives (λ r. r) result (redemption_at code (view parent.now)) }
 {
@@ -66,7 +66,7 @@ pub fn read_redeem(
 ) -> Result<VoucherRedemption, WireFault>
     ensures { Gives (λ r. r) result (redemption_of code bytes.now) }
 {
-    let parent = document(alloc, bytes, scratch)?;
+    let parent = document(bytes, scratch)?;
     redemption_in(alloc, code, &parent)
 }
 
@@ -74,7 +74,7 @@ pub fn read_redeem(
 #[tactic(auto, unfolding(crate::specs::Redeemed::kept_redemption_at))]
 pub(crate) fn kept_redemption_in(
     alloc: Global,
-    parent: &Value<'_>,
+    parent: &Tree<'_>,
 ) -> Result<VoucherRedemption, WireFault>
     ensures { Gives (λ r. r) result (kept_redemption_at (view parent.now)) }
 {

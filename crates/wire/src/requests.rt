@@ -4,8 +4,7 @@ ghost use Rattle.json_fields.specs.Gives.{Gives};
 ghost use Rattle.wire.specs.Requests.{command_of};
 
 use commands::Command;
-use json::Scratch;
-use json_fields::WireFault;
+use json_fields::{Scratch, WireFault};
 use std::alloc::Global;
 
 /// The command of a gateway that the bytes are, or the first fault.

@@ -2,7 +2,6 @@
 use Rattle.std.proofs.Common.{◌≡◌, List, [], ◌∷◌, is_some, ◌&&◌, length, Bool, true, false, None}
 use Rattle.std.proofs.Common.{Result, Ok, Err, nat_le, refl, sym, ap, ap₂, ◌∙◌}
 use Rattle.std.specs.List.{list_all}
-use Rattle.std.specs.declared.alloc.Global.{Global}
 use Rattle.json.specs.declared.value.Value.{Value}
 use Rattle.serde_json.specs.Data.{Data, Items}
 use Rattle.serde_json.specs.Events.{items_len}
@@ -31,7 +30,7 @@ chosen phase ds few all = do
   objects ← where_holds all (Invalid avp.Services) ds
   services_from phase ds
 
-pub services_said : (phase : Phase) (d : Data) (vs : List (Value Global)) (few all : Bool) →
+pub services_said : {M : Type 0} (phase : Phase) (d : Data) (vs : List (Value M)) (few all : Bool) →
     array_of avp.Services d ≡ Ok (items_view vs)
     → few ≡ (nat_le (fewest phase) (length vs) && nat_le (length vs) 16)
     → all ≡ list_all (λ v. is_some (as_object (view v))) vs

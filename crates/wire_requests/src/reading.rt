@@ -17,8 +17,9 @@ use commands::{
     UpdateServices,
 };
 use identifiers::{AccountNumber, SessionId};
-use json::{Scratch, Value};
-use json_fields::{WireFault, array, document, get, is_object, member, number, object, text};
+use json_fields::{
+    Items, Scratch, Tree, WireFault, array, document, get, is_object, member, number, object, text,
+};
 use std::alloc::Global;
 
 /// The Requested-Action that is no event's (RFC 8506 section 8.41).
@@ -30,7 +31,7 @@ const REFUND_ACCOUNT: u64 = 1;
 /// Of Session-Id: `Missing` where it isn't there, `Invalid` where it isn't the name of a session;
 /// `Memory` where memory ran out.
 #[tactic(auto, unfolding(crate::specs::Reading::session_at))]
-pub fn session_id(alloc: Global, parent: &Value<'_>) -> Result<SessionId, WireFault>
+pub fn session_id(alloc: Global, parent: &Tree<'_>) -> Result<SessionId, WireFault>
     ensures { Gives (λ s. s) result (session_at (view parent.now)) }
 {
     let text = text(parent, Avp::SessionId)?;
@@ -43,7 +44,7 @@ pub fn session_id(alloc: Global, parent: &Value<'_>) -> Result<SessionId, WireFa
 /// Of CC-Request-Type: `Missing` where it isn't there, `Invalid` where it isn't a number from 1 to
 /// 4.
 #[tactic(auto, unfolding(crate::specs::Reading::kind_at))]
-pub fn request_kind(parent: &Value<'_>) -> Result<RequestKind, WireFault>
+pub fn request_kind(parent: &Tree<'_>) -> Result<RequestKind, WireFault>
     ensures { Says (λ k. k) result (kind_at (view parent.now)) }
 {
     let number = number(parent, Avp::RequestType, 1, 4)?;
@@ -57,7 +58,7 @@ pub fn request_kind(parent: &Value<'_>) -> Result<RequestKind, WireFault>
 /// in it Subscription-Id-Type is `Missing`, or `Invalid` where it isn't 0; Subscription-Id-Data is
 /// `Missing`, or `Invalid` where it isn't the number of an account. `Memory` where memory ran out.
 #[tactic(auto, unfolding(crate::specs::Reading::account_at))]
-pub fn account_number(alloc: Global, parent: &Value<'_>) -> Result<AccountNumber, WireFault>
+pub fn account_number(alloc: Global, parent: &Tree<'_>) -> Result<AccountNumber, WireFault>
     ensures { Gives (λ n. n) result (account_at (view parent.now)) }
 {
     let subscription = object(parent, Avp::SubscriptionId)?;
@@ -67,7 +68,7 @@ pub fn account_number(alloc: Global, parent: &Value<'_>) -> Result<AccountNumber
 }
 
 #[tactic(auto, using(crate::proofs::Objects::not_one))]
-fn only_item<'v, 'a>(list: &'v Vec<Value<'a>>) -> Result<&'v Value<'a>, WireFault>
+fn only_item<'v, 'a>(list: &'v Items<'a>) -> Result<&'v Tree<'a>, WireFault>
     ensures { Says (λ v. view v.now) result
         (or_fault (WireFault.Invalid Avp.Services) (only_item (items_view list.now.items))) }
 {
@@ -79,7 +80,7 @@ fn only_item<'v, 'a>(list: &'v Vec<Value<'a>>) -> Result<&'v Value<'a>, WireFaul
 }
 
 #[tactic(auto, unfolding(crate::specs::Reading::event_of))]
-fn event_of(action: EventAction, value: &Value<'_>) -> Result<Event, WireFault>
+fn event_of(action: EventAction, value: &Tree<'_>) -> Result<Event, WireFault>
     ensures { Says (λ e. e) result (event_of action (view value.now)) }
 {
     let list = array(value, Avp::Services)?;
@@ -100,7 +101,7 @@ fn event_of(action: EventAction, value: &Value<'_>) -> Result<Event, WireFault>
 }
 
 #[tactic(auto, unfolding(crate::specs::Reading::event_at))]
-fn event(action: EventAction, parent: &Value<'_>) -> Result<Ask, WireFault>
+fn event(action: EventAction, parent: &Tree<'_>) -> Result<Ask, WireFault>
     ensures { Says (λ a. a) result (event_at action (view parent.now)) }
 {
     let value = member(parent, Avp::Services)?;
@@ -108,7 +109,7 @@ fn event(action: EventAction, parent: &Value<'_>) -> Result<Ask, WireFault>
 }
 
 #[tactic(auto, unfolding(crate::specs::Reading::action_at))]
-fn action(number: u64, parent: &Value<'_>) -> Result<Ask, WireFault>
+fn action(number: u64, parent: &Tree<'_>) -> Result<Ask, WireFault>
     ensures { Says (λ a. a) result (action_at number (view parent.now)) }
 {
     if number == REFUND_ACCOUNT {
@@ -119,7 +120,7 @@ fn action(number: u64, parent: &Value<'_>) -> Result<Ask, WireFault>
 }
 
 #[tactic(auto, using(crate::proofs::Kept::initial, crate::proofs::Kept::update, crate::proofs::Kept::termination), unfolding(crate::specs::Reading::ask_at))]
-fn ask(alloc: Global, kind: RequestKind, parent: &Value<'_>) -> Result<Ask, WireFault>
+fn ask(alloc: Global, kind: RequestKind, parent: &Tree<'_>) -> Result<Ask, WireFault>
     ensures { Gives (λ a. a) result (ask_at kind (view parent.now)) }
 {
     match kind {
@@ -147,7 +148,7 @@ fn ask(alloc: Global, kind: RequestKind, parent: &Value<'_>) -> Result<Ask, Wire
 /// # Errors
 /// `Missing` and `Invalid` as the fields say; `Memory` where memory ran out.
 #[tactic(auto, unfolding(crate::specs::Reading::request_in))]
-pub fn request(alloc: Global, parent: &Value<'_>) -> Result<Request, WireFault>
+pub fn request(alloc: Global, parent: &Tree<'_>) -> Result<Request, WireFault>
     ensures { Gives (λ r. r) result (request_in (view parent.now)) }
 {
     let session = session_id(alloc, parent)?;
@@ -176,7 +177,7 @@ pub fn read_request(
 ) -> Result<Request, WireFault>
     ensures { Gives (λ r. r) result (request_of bytes.now) }
 {
-    let parent = document(alloc, bytes, scratch)?;
+    let parent = document(bytes, scratch)?;
     request(alloc, &parent)
 }
 

@@ -6,12 +6,11 @@ ghost use Rattle.json_fields.specs.View.{view};
 ghost use Rattle.wire_requests.specs.Refunds.{exponent_at, money_at, refund_at};
 
 use commands::{Avp, Refund};
-use json::Value;
-use json_fields::{WireFault, as_i64, get, number, object};
+use json_fields::{Tree, WireFault, as_i64, get, number, object};
 use units::Money;
 
 #[tactic(auto, unfolding(crate::specs::Refunds::exponent_at))]
-fn exponent(parent: &Value<'_>) -> Result<i32, WireFault>
+fn exponent(parent: &Tree<'_>) -> Result<i32, WireFault>
     ensures reads { Says (λ z. z) result (exponent_at (view parent.now)) }
     ensures within { IfOk result (λ z. (negsuc 5 ≤ℤ z) × (z ≤ℤ pos 0)) }
 {
@@ -26,7 +25,7 @@ fn exponent(parent: &Value<'_>) -> Result<i32, WireFault>
 }
 
 #[tactic(auto, using(crate::proofs::Micros::too_many), unfolding(crate::specs::Refunds::money_at))]
-fn money(parent: &Value<'_>) -> Result<Money, WireFault>
+fn money(parent: &Tree<'_>) -> Result<Money, WireFault>
     ensures { Says (λ m. m) result (money_at (view parent.now)) }
 {
     let digits = number(parent, Avp::ValueDigits, 1, u64::MAX)?;
@@ -42,7 +41,7 @@ fn money(parent: &Value<'_>) -> Result<Money, WireFault>
 
 /// The money of a refund.
 #[tactic(auto, using(crate::proofs::Micros::refund_fits), unfolding(crate::specs::Refunds::refund_at))]
-pub(crate) fn refund(parent: &Value<'_>) -> Result<Refund, WireFault>
+pub(crate) fn refund(parent: &Tree<'_>) -> Result<Refund, WireFault>
     ensures { Says (λ r. r) result (refund_at (view parent.now)) }
 {
     let requested = object(parent, Avp::RequestedUnit)?;

@@ -9,9 +9,8 @@ ghost use Rattle.wire_requests.specs.Reports.{used_of};
 
 use commands::names::TARIFF_CHANGE_USAGE;
 use commands::{Avp, Quantity, Requested, UsedParts, usage_numbered};
-use json::Value;
 use json_fields::{
-    WireFault, array, as_u64, get, is_object, member, read_each, unit_told, units_in,
+    Items, Tree, WireFault, array, as_u64, get, is_object, member, read_each, unit_told, units_in,
 };
 use std::alloc::Global;
 use units::{TariffChangeUsage, UnitKind, Units, UsedPart};
@@ -20,7 +19,7 @@ use units::{TariffChangeUsage, UnitKind, Units, UsedPart};
 const MOST_PARTS: usize = 4;
 
 #[tactic(auto, unfolding(crate::specs::Reports::wanted_in))]
-fn wanted_in(told: Option<UnitKind>, value: &Value<'_>) -> Result<Requested, WireFault>
+fn wanted_in(told: Option<UnitKind>, value: &Tree<'_>) -> Result<Requested, WireFault>
     ensures { Says (λ r. r) result (wanted_in told (view value.now)) }
 {
     let Some(kind) = told else {
@@ -31,7 +30,7 @@ fn wanted_in(told: Option<UnitKind>, value: &Value<'_>) -> Result<Requested, Wir
 }
 
 #[tactic(auto, unfolding(crate::specs::Reports::requested_of))]
-pub(crate) fn requested_in(value: &Value<'_>) -> Result<Requested, WireFault>
+pub(crate) fn requested_in(value: &Tree<'_>) -> Result<Requested, WireFault>
     ensures { Says (λ r. r) result (requested_of (view value.now)) }
 {
     if !is_object(value) {
@@ -44,14 +43,14 @@ pub(crate) fn requested_in(value: &Value<'_>) -> Result<Requested, WireFault>
 }
 
 #[tactic(auto, unfolding(crate::specs::Reports::required_at))]
-pub(crate) fn required(parent: &Value<'_>) -> Result<Requested, WireFault>
+pub(crate) fn required(parent: &Tree<'_>) -> Result<Requested, WireFault>
     ensures { Says (λ r. r) result (required_at (view parent.now)) }
 {
     requested_in(member(parent, Avp::RequestedUnit)?)
 }
 
 #[tactic(auto, unfolding(crate::specs::Reports::usage_at))]
-fn usage(parent: &Value<'_>) -> Result<Option<TariffChangeUsage>, WireFault>
+fn usage(parent: &Tree<'_>) -> Result<Option<TariffChangeUsage>, WireFault>
     ensures { Says (λ u. u) result (usage_at (view parent.now)) }
 {
     let Some(value) = get(parent, TARIFF_CHANGE_USAGE) else {
@@ -68,7 +67,7 @@ fn is_taken(done: &[UsedPart], tag: Option<TariffChangeUsage>) -> bool
 }
 
 #[tactic(auto, unfolding(crate::specs::Reports::part_at))]
-fn part(kind: UnitKind, done: &[UsedPart], value: &Value<'_>) -> Result<UsedPart, WireFault>
+fn part(kind: UnitKind, done: &[UsedPart], value: &Tree<'_>) -> Result<UsedPart, WireFault>
     ensures { Says (λ p. p) result (part_at kind done.now (view value.now)) }
 {
     if !is_object(value) {
@@ -86,7 +85,7 @@ fn part(kind: UnitKind, done: &[UsedPart], value: &Value<'_>) -> Result<UsedPart
 }
 
 #[tactic(auto, unfolding(crate::specs::Reports::kind_of_first))]
-fn kind_of_first(list: &Vec<Value<'_>>) -> UnitKind
+fn kind_of_first(list: &Items<'_>) -> UnitKind
     ensures { result ≡ kind_of_first (items_view list.now.items) }
 {
     match list.first() {
@@ -95,18 +94,14 @@ fn kind_of_first(list: &Vec<Value<'_>>) -> UnitKind
     }
 }
 
-fn parts_in(
-    alloc: Global,
-    kind: UnitKind,
-    list: &Vec<Value<'_>>,
-) -> Result<Vec<UsedPart>, WireFault>
+fn parts_in(alloc: Global, kind: UnitKind, list: &Items<'_>) -> Result<Vec<UsedPart>, WireFault>
     ensures { Gives (λ v. v.items) result (parts_from kind (items_view list.now.items)) }
 {
     read_each(alloc, list, |done, value| part(kind, done, value))
 }
 
 #[tactic(auto, using(json_fields::proofs::Counts::counts, crate::proofs::Kept::report), unfolding(crate::specs::Reports::used_of))]
-pub(crate) fn used_in(alloc: Global, value: &Value<'_>) -> Result<UsedParts, WireFault>
+pub(crate) fn used_in(alloc: Global, value: &Tree<'_>) -> Result<UsedParts, WireFault>
     ensures { Gives (λ u. u) result (used_of (view value.now)) }
 {
     let list = array(value, Avp::UsedUnit)?;

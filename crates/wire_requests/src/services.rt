@@ -12,15 +12,14 @@ ghost use Rattle.wire_requests.specs.Phases.{services_at};
 use crate::phase::Phase;
 use crate::reports::{requested_in, required, used_in};
 use commands::{Avp, Requested, Service, UsedParts};
-use json::Value;
-use json_fields::{WireFault, array, get, is_object, number, read_each};
+use json_fields::{Items, Tree, WireFault, array, get, is_object, number, read_each};
 use std::alloc::Global;
 
 /// The most services that a request has.
 const MOST_SERVICES: usize = 16;
 
 #[tactic(auto, unfolding(crate::specs::Phases::requested_at))]
-fn requested(phase: Phase, parent: &Value<'_>) -> Result<Option<Requested>, WireFault>
+fn requested(phase: Phase, parent: &Tree<'_>) -> Result<Option<Requested>, WireFault>
     ensures { Says (λ r. r) result (requested_at phase (view parent.now)) }
 {
     if phase == Phase::Initial {
@@ -34,7 +33,7 @@ fn requested(phase: Phase, parent: &Value<'_>) -> Result<Option<Requested>, Wire
 }
 
 #[tactic(auto, unfolding(crate::specs::Phases::used_at))]
-fn used(alloc: Global, phase: Phase, parent: &Value<'_>) -> Result<Option<UsedParts>, WireFault>
+fn used(alloc: Global, phase: Phase, parent: &Tree<'_>) -> Result<Option<UsedParts>, WireFault>
     ensures { Gives (λ u. u) result (used_at phase (view parent.now)) }
 {
     let Some(value) = get(parent, Avp::UsedUnit.name()) else {
@@ -57,7 +56,7 @@ fn service(
     alloc: Global,
     phase: Phase,
     done: &[Service],
-    value: &Value<'_>,
+    value: &Tree<'_>,
 ) -> Result<Service, WireFault>
     ensures { Gives (λ s. s) result (service_at phase done.now (view value.now)) }
 {
@@ -74,11 +73,7 @@ fn service(
     })
 }
 
-fn services_in(
-    alloc: Global,
-    phase: Phase,
-    list: &Vec<Value<'_>>,
-) -> Result<Vec<Service>, WireFault>
+fn services_in(alloc: Global, phase: Phase, list: &Items<'_>) -> Result<Vec<Service>, WireFault>
     ensures { Gives (λ v. v.items) result (services_from phase (items_view list.now.items)) }
 {
     read_each(
@@ -88,7 +83,7 @@ fn services_in(
     )
 }
 
-fn are_objects(list: &Vec<Value<'_>>) -> bool
+fn are_objects(list: &Items<'_>) -> bool
     ensures { result ≡ list_all (λ v. is_some (as_object (view v))) list.now.items }
 {
     list.iter().all(|value| is_object(value))
@@ -104,7 +99,7 @@ fn count_fits(phase: Phase, count: usize) -> bool
 }
 
 #[tactic(auto, using(json_fields::proofs::Counts::counts, crate::proofs::Objects::objects_are), unfolding(crate::specs::Phases::services_of))]
-fn services_of(alloc: Global, phase: Phase, value: &Value<'_>) -> Result<Vec<Service>, WireFault>
+fn services_of(alloc: Global, phase: Phase, value: &Tree<'_>) -> Result<Vec<Service>, WireFault>
     ensures { Gives (λ v. v.items) result (services_of phase (view value.now)) }
 {
     let list = array(value, Avp::Services)?;
@@ -122,7 +117,7 @@ fn services_of(alloc: Global, phase: Phase, value: &Value<'_>) -> Result<Vec<Ser
 pub(crate) fn services(
     alloc: Global,
     phase: Phase,
-    parent: &Value<'_>,
+    parent: &Tree<'_>,
 ) -> Result<Vec<Service>, WireFault>
     ensures { Gives (λ v. v.items) result (services_at phase (view parent.now)) }
 {

@@ -2,10 +2,10 @@
 
 use crate::tests::tables::{Told, joined, try_told};
 use commands::Avp;
-use json::{Scratch, Value, Writer};
+use json::Writer;
 use json_fields::{
-    WireFault, array, document, member, number, object, optional_number, put_money, put_number,
-    put_perhaps, put_text, text, unit_name, unit_told, units_in,
+    Scratch, Tree, WireFault, array, document, member, number, object, optional_number, put_money,
+    put_number, put_perhaps, put_text, text, unit_name, unit_told, units_in,
 };
 use std::alloc::Global;
 use std::process::Abort;
@@ -18,7 +18,7 @@ const BODY: &str =
   "CC-Total-Octets":7}"##;
 
 /// What its members say, each read by its kind.
-fn members(rt: &impl Abort, alloc: Global, parent: &Value<'_>) -> String {
+fn members(rt: &impl Abort, alloc: Global, parent: &Tree<'_>) -> String {
     let session = text(parent, Avp::SessionId).expect(rt, "a session");
     let kind = number(parent, Avp::RequestType, 1, 4).expect(rt, "a type");
     let until = optional_number(parent, Avp::Until, 5, 5).expect(rt, "an end");
@@ -28,18 +28,18 @@ fn members(rt: &impl Abort, alloc: Global, parent: &Value<'_>) -> String {
     format!(in alloc; "{session} {kind} {until:?} {scope:?} {count} {account}").expect(rt, "memory")
 }
 
-fn services<'v, 'a>(rt: &impl Abort, parent: &'v Value<'a>) -> &'v [Value<'a>] {
+fn services<'v, 'a>(rt: &impl Abort, parent: &'v Tree<'a>) -> &'v [Tree<'a>] {
     let list = member(parent, Avp::Services).expect(rt, "services");
     array(list, Avp::Services).expect(rt, "a list")
 }
 
-fn subscriber<'a>(rt: &impl Abort, parent: &Value<'a>) -> &'a str {
+fn subscriber<'a>(rt: &impl Abort, parent: &Tree<'a>) -> &'a str {
     let subscription = object(parent, Avp::SubscriptionId).expect(rt, "a subscription");
     text(subscription, Avp::SubscriptionIdData).expect(rt, "an account")
 }
 
 /// What its units are, and each kind's name.
-fn counted(rt: &impl Abort, alloc: Global, parent: &Value<'_>) -> String {
+fn counted(rt: &impl Abort, alloc: Global, parent: &Tree<'_>) -> String {
     let told = unit_told(parent);
     let fault = WireFault::Invalid(Avp::RequestedUnit);
     let units = units_in(parent, fault, 7, UnitKind::TotalOctets).expect(rt, "units");
@@ -50,7 +50,7 @@ fn counted(rt: &impl Abort, alloc: Global, parent: &Value<'_>) -> String {
 }
 
 /// What names it.
-fn named(rt: &impl Abort, alloc: Global, parent: &Value<'_>) -> String {
+fn named(rt: &impl Abort, alloc: Global, parent: &Tree<'_>) -> String {
     let kind = request_kind(parent).expect(rt, "a type");
     let session = session_id(alloc, parent).expect(rt, "a session");
     let account = account_number(alloc, parent).expect(rt, "an account");
@@ -60,7 +60,7 @@ fn named(rt: &impl Abort, alloc: Global, parent: &Value<'_>) -> String {
 /// What is said of the body by the function of this name.
 pub(crate) fn said(rt: &impl Abort, alloc: Global, name: &str) -> String {
     let mut scratch = Scratch::new(alloc);
-    let parent = document(alloc, BODY.as_bytes(), &mut scratch).expect(rt, "an object");
+    let parent = document(BODY.as_bytes(), &mut scratch).expect(rt, "an object");
     match name {
         "members" => members(rt, alloc, &parent),
         "units" => counted(rt, alloc, &parent),
