@@ -5,9 +5,10 @@ use Rattle.sqlite_tied.specs.Compute.{everything}
 use Rattle.sqlite.specs.Listing.{understood}
 use Rattle.sql_tables.specs.Schema.{schema_at}
 use Rattle.sql_tables.specs.Opens.{IsVersion}
-use Rattle.sql_rules.specs.Tables.{IsTable, texts}
+use Rattle.sql_tables.specs.Texts.{rows_texts}
+use Rattle.sql_rules.specs.Tables.{IsTable}
 
-meta_at_1 : IsTable 1 (slice_index_or texts 0 []) 0
+meta_at_1 : IsTable 1 (slice_index_or rows_texts 0 []) 0
 unfolding understood everything
 meta_at_1 = record {
   names = codes "rowid" ∷ codes "id" ∷ codes "version" ∷ codes "book" ∷ codes "last_moment" ∷ [];
@@ -16,7 +17,7 @@ meta_at_1 = record {
   plain = (refl, refl);
 }
 
-meta_at_2 : IsTable 2 (slice_index_or texts 0 []) 0
+meta_at_2 : IsTable 2 (slice_index_or rows_texts 0 []) 0
 unfolding understood everything
 meta_at_2 = record {
   names = codes "rowid" ∷ codes "id" ∷ codes "version" ∷ codes "book" ∷ codes "last_moment" ∷ [];
@@ -25,7 +26,7 @@ meta_at_2 = record {
   plain = (refl, refl);
 }
 
-meta_at_3 : IsTable 3 (slice_index_or texts 0 []) 0
+meta_at_3 : IsTable 3 (slice_index_or rows_texts 0 []) 0
 unfolding understood everything
 meta_at_3 = record {
   names = codes "rowid" ∷ codes "id" ∷ codes "version" ∷ codes "book" ∷ codes "last_moment" ∷ [];
@@ -34,7 +35,7 @@ meta_at_3 = record {
   plain = (refl, refl);
 }
 
-accounts_at_1 : IsTable 1 (slice_index_or texts 1 []) 1
+accounts_at_1 : IsTable 1 (slice_index_or rows_texts 1 []) 1
 unfolding understood everything
 accounts_at_1 = record {
   names = codes "rowid" ∷ codes "account" ∷ codes "barred" ∷ codes "as_of" ∷ codes "next_bucket"
@@ -44,7 +45,7 @@ accounts_at_1 = record {
   plain = (refl, refl);
 }
 
-accounts_at_2 : IsTable 2 (slice_index_or texts 1 []) 1
+accounts_at_2 : IsTable 2 (slice_index_or rows_texts 1 []) 1
 unfolding understood everything
 accounts_at_2 = record {
   names = codes "rowid" ∷ codes "account" ∷ codes "barred" ∷ codes "as_of" ∷ codes "next_bucket"
@@ -54,7 +55,7 @@ accounts_at_2 = record {
   plain = (refl, refl);
 }
 
-accounts_at_3 : IsTable 3 (slice_index_or texts 1 []) 1
+accounts_at_3 : IsTable 3 (slice_index_or rows_texts 1 []) 1
 unfolding understood everything
 accounts_at_3 = record {
   names = codes "rowid" ∷ codes "account" ∷ codes "barred" ∷ codes "as_of" ∷ codes "next_bucket"
@@ -64,7 +65,7 @@ accounts_at_3 = record {
   plain = (refl, refl);
 }
 
-buckets_at_1 : IsTable 1 (slice_index_or texts 2 []) 2
+buckets_at_1 : IsTable 1 (slice_index_or rows_texts 2 []) 2
 unfolding understood everything
 buckets_at_1 = record {
   names = codes "rowid" ∷ codes "account" ∷ codes "number" ∷ codes "starts" ∷ codes "ends"
@@ -75,7 +76,7 @@ buckets_at_1 = record {
   plain = (refl, refl);
 }
 
-buckets_at_2 : IsTable 2 (slice_index_or texts 2 []) 2
+buckets_at_2 : IsTable 2 (slice_index_or rows_texts 2 []) 2
 unfolding understood everything
 buckets_at_2 = record {
   names = codes "rowid" ∷ codes "account" ∷ codes "number" ∷ codes "starts" ∷ codes "ends"
@@ -86,7 +87,7 @@ buckets_at_2 = record {
   plain = (refl, refl);
 }
 
-buckets_at_3 : IsTable 3 (slice_index_or texts 2 []) 2
+buckets_at_3 : IsTable 3 (slice_index_or rows_texts 2 []) 2
 unfolding understood everything
 buckets_at_3 = record {
   names = codes "rowid" ∷ codes "account" ∷ codes "number" ∷ codes "starts" ∷ codes "ends"
@@ -97,7 +98,7 @@ buckets_at_3 = record {
   plain = (refl, refl);
 }
 
-counters_at_1 : IsTable 1 (slice_index_or texts 3 []) 3
+counters_at_1 : IsTable 1 (slice_index_or rows_texts 3 []) 3
 unfolding understood everything
 counters_at_1 = record {
   names = codes "rowid" ∷ codes "account" ∷ codes "rating_group" ∷ codes "cycle" ∷ codes "blocks"
@@ -107,7 +108,7 @@ counters_at_1 = record {
   plain = (refl, refl);
 }
 
-counters_at_2 : IsTable 2 (slice_index_or texts 3 []) 3
+counters_at_2 : IsTable 2 (slice_index_or rows_texts 3 []) 3
 unfolding understood everything
 counters_at_2 = record {
   names = codes "rowid" ∷ codes "account" ∷ codes "rating_group" ∷ codes "cycle" ∷ codes "blocks"
@@ -117,7 +118,7 @@ counters_at_2 = record {
   plain = (refl, refl);
 }
 
-counters_at_3 : IsTable 3 (slice_index_or texts 3 []) 3
+counters_at_3 : IsTable 3 (slice_index_or rows_texts 3 []) 3
 unfolding understood everything
 counters_at_3 = record {
   names = codes "rowid" ∷ codes "account" ∷ codes "rating_group" ∷ codes "cycle" ∷ codes "blocks"
@@ -127,7 +128,7 @@ counters_at_3 = record {
   plain = (refl, refl);
 }
 
-sessions_at_1 : IsTable 1 (slice_index_or texts 4 []) 4
+sessions_at_1 : IsTable 1 (slice_index_or rows_texts 4 []) 4
 unfolding understood everything
 sessions_at_1 = record {
   names = codes "rowid" ∷ codes "account" ∷ codes "session" ∷ codes "last_number"
@@ -137,7 +138,7 @@ sessions_at_1 = record {
   plain = (refl, refl);
 }
 
-sessions_at_2 : IsTable 2 (slice_index_or texts 4 []) 4
+sessions_at_2 : IsTable 2 (slice_index_or rows_texts 4 []) 4
 unfolding understood everything
 sessions_at_2 = record {
   names = codes "rowid" ∷ codes "account" ∷ codes "session" ∷ codes "last_number"
@@ -147,7 +148,7 @@ sessions_at_2 = record {
   plain = (refl, refl);
 }
 
-sessions_at_3 : IsTable 3 (slice_index_or texts 4 []) 4
+sessions_at_3 : IsTable 3 (slice_index_or rows_texts 4 []) 4
 unfolding understood everything
 sessions_at_3 = record {
   names = codes "rowid" ∷ codes "account" ∷ codes "session" ∷ codes "last_number"
@@ -157,7 +158,7 @@ sessions_at_3 = record {
   plain = (refl, refl);
 }
 
-session_groups_at_1 : IsTable 1 (slice_index_or texts 5 []) 5
+session_groups_at_1 : IsTable 1 (slice_index_or rows_texts 5 []) 5
 unfolding understood everything
 session_groups_at_1 = record {
   names = codes "rowid" ∷ codes "account" ∷ codes "session" ∷ codes "rating_group" ∷ codes "used"
@@ -167,7 +168,7 @@ session_groups_at_1 = record {
   plain = (refl, refl);
 }
 
-session_groups_at_2 : IsTable 2 (slice_index_or texts 5 []) 5
+session_groups_at_2 : IsTable 2 (slice_index_or rows_texts 5 []) 5
 unfolding understood everything
 session_groups_at_2 = record {
   names = codes "rowid" ∷ codes "account" ∷ codes "session" ∷ codes "rating_group" ∷ codes "used"
@@ -177,7 +178,7 @@ session_groups_at_2 = record {
   plain = (refl, refl);
 }
 
-session_groups_at_3 : IsTable 3 (slice_index_or texts 5 []) 5
+session_groups_at_3 : IsTable 3 (slice_index_or rows_texts 5 []) 5
 unfolding understood everything
 session_groups_at_3 = record {
   names = codes "rowid" ∷ codes "account" ∷ codes "session" ∷ codes "rating_group" ∷ codes "used"
@@ -187,7 +188,7 @@ session_groups_at_3 = record {
   plain = (refl, refl);
 }
 
-holds_at_1 : IsTable 1 (slice_index_or texts 6 []) 6
+holds_at_1 : IsTable 1 (slice_index_or rows_texts 6 []) 6
 unfolding understood everything
 holds_at_1 = record {
   names = codes "rowid" ∷ codes "account" ∷ codes "session" ∷ codes "rating_group"
@@ -197,7 +198,7 @@ holds_at_1 = record {
   plain = (refl, refl);
 }
 
-holds_at_2 : IsTable 2 (slice_index_or texts 6 []) 6
+holds_at_2 : IsTable 2 (slice_index_or rows_texts 6 []) 6
 unfolding understood everything
 holds_at_2 = record {
   names = codes "rowid" ∷ codes "account" ∷ codes "session" ∷ codes "rating_group"
@@ -207,7 +208,7 @@ holds_at_2 = record {
   plain = (refl, refl);
 }
 
-holds_at_3 : IsTable 3 (slice_index_or texts 6 []) 6
+holds_at_3 : IsTable 3 (slice_index_or rows_texts 6 []) 6
 unfolding understood everything
 holds_at_3 = record {
   names = codes "rowid" ∷ codes "account" ∷ codes "session" ∷ codes "rating_group"
@@ -217,7 +218,7 @@ holds_at_3 = record {
   plain = (refl, refl);
 }
 
-answers_at_1 : IsTable 1 (slice_index_or texts 7 []) 7
+answers_at_1 : IsTable 1 (slice_index_or rows_texts 7 []) 7
 unfolding understood everything
 answers_at_1 = record {
   names = codes "rowid" ∷ codes "account" ∷ codes "kind" ∷ codes "name" ∷ codes "number"
@@ -227,7 +228,7 @@ answers_at_1 = record {
   plain = (refl, refl);
 }
 
-answers_at_2 : IsTable 2 (slice_index_or texts 7 []) 7
+answers_at_2 : IsTable 2 (slice_index_or rows_texts 7 []) 7
 unfolding understood everything
 answers_at_2 = record {
   names = codes "rowid" ∷ codes "account" ∷ codes "kind" ∷ codes "name" ∷ codes "number"
@@ -237,7 +238,7 @@ answers_at_2 = record {
   plain = (refl, refl);
 }
 
-answers_at_3 : IsTable 3 (slice_index_or texts 7 []) 7
+answers_at_3 : IsTable 3 (slice_index_or rows_texts 7 []) 7
 unfolding understood everything
 answers_at_3 = record {
   names = codes "rowid" ∷ codes "account" ∷ codes "kind" ∷ codes "name" ∷ codes "number"
@@ -247,7 +248,7 @@ answers_at_3 = record {
   plain = (refl, refl);
 }
 
-vouchers_at_1 : IsTable 1 (slice_index_or texts 8 []) 8
+vouchers_at_1 : IsTable 1 (slice_index_or rows_texts 8 []) 8
 unfolding understood everything
 vouchers_at_1 = record {
   names = codes "rowid" ∷ codes "code" ∷ codes "amount" ∷ codes "days" ∷ codes "scope"
@@ -257,7 +258,7 @@ vouchers_at_1 = record {
   plain = (refl, refl);
 }
 
-vouchers_at_2 : IsTable 2 (slice_index_or texts 8 []) 8
+vouchers_at_2 : IsTable 2 (slice_index_or rows_texts 8 []) 8
 unfolding understood everything
 vouchers_at_2 = record {
   names = codes "rowid" ∷ codes "code" ∷ codes "amount" ∷ codes "days" ∷ codes "scope"
@@ -267,7 +268,7 @@ vouchers_at_2 = record {
   plain = (refl, refl);
 }
 
-vouchers_at_3 : IsTable 3 (slice_index_or texts 8 []) 8
+vouchers_at_3 : IsTable 3 (slice_index_or rows_texts 8 []) 8
 unfolding understood everything
 vouchers_at_3 = record {
   names = codes "rowid" ∷ codes "code" ∷ codes "amount" ∷ codes "days" ∷ codes "scope"
@@ -277,7 +278,7 @@ vouchers_at_3 = record {
   plain = (refl, refl);
 }
 
-charges_at_1 : IsTable 1 (slice_index_or texts 9 []) 9
+charges_at_1 : IsTable 1 (slice_index_or rows_texts 9 []) 9
 unfolding understood everything
 charges_at_1 = record {
   names = codes "rowid" ∷ codes "account" ∷ codes "number" ∷ codes "moment" ∷ codes "session"
@@ -288,7 +289,7 @@ charges_at_1 = record {
   plain = (refl, refl);
 }
 
-charges_at_2 : IsTable 2 (slice_index_or texts 9 []) 9
+charges_at_2 : IsTable 2 (slice_index_or rows_texts 9 []) 9
 unfolding understood everything
 charges_at_2 = record {
   names = codes "rowid" ∷ codes "account" ∷ codes "number" ∷ codes "moment" ∷ codes "session"
@@ -299,7 +300,7 @@ charges_at_2 = record {
   plain = (refl, refl);
 }
 
-charges_at_3 : IsTable 3 (slice_index_or texts 9 []) 9
+charges_at_3 : IsTable 3 (slice_index_or rows_texts 9 []) 9
 unfolding understood everything
 charges_at_3 = record {
   names = codes "rowid" ∷ codes "account" ∷ codes "number" ∷ codes "moment" ∷ codes "session"
@@ -310,7 +311,7 @@ charges_at_3 = record {
   plain = (refl, refl);
 }
 
-books_at_2 : IsTable 2 (slice_index_or texts 10 []) 10
+books_at_2 : IsTable 2 (slice_index_or rows_texts 10 []) 10
 unfolding understood everything
 books_at_2 = record {
   names = codes "rowid" ∷ codes "number" ∷ codes "starts" ∷ codes "content" ∷ [];
@@ -319,7 +320,7 @@ books_at_2 = record {
   plain = (refl, refl);
 }
 
-books_at_3 : IsTable 3 (slice_index_or texts 10 []) 10
+books_at_3 : IsTable 3 (slice_index_or rows_texts 10 []) 10
 unfolding understood everything
 books_at_3 = record {
   names = codes "rowid" ∷ codes "number" ∷ codes "starts" ∷ codes "content" ∷ [];
@@ -328,7 +329,7 @@ books_at_3 = record {
   plain = (refl, refl);
 }
 
-grant_books_at_2 : IsTable 2 (slice_index_or texts 11 []) 11
+grant_books_at_2 : IsTable 2 (slice_index_or rows_texts 11 []) 11
 unfolding understood everything
 grant_books_at_2 = record {
   names = codes "rowid" ∷ codes "account" ∷ codes "session" ∷ codes "rating_group" ∷ codes "book"
@@ -338,7 +339,7 @@ grant_books_at_2 = record {
   plain = (refl, refl);
 }
 
-grant_books_at_3 : IsTable 3 (slice_index_or texts 11 []) 11
+grant_books_at_3 : IsTable 3 (slice_index_or rows_texts 11 []) 11
 unfolding understood everything
 grant_books_at_3 = record {
   names = codes "rowid" ∷ codes "account" ∷ codes "session" ∷ codes "rating_group" ∷ codes "book"
@@ -348,7 +349,7 @@ grant_books_at_3 = record {
   plain = (refl, refl);
 }
 
-allowance_buckets_at_3 : IsTable 3 (slice_index_or texts 12 []) 12
+allowance_buckets_at_3 : IsTable 3 (slice_index_or rows_texts 12 []) 12
 unfolding understood everything
 allowance_buckets_at_3 = record {
   names = codes "rowid" ∷ codes "account" ∷ codes "number" ∷ [];
@@ -357,7 +358,7 @@ allowance_buckets_at_3 = record {
   plain = (refl, refl);
 }
 
-covered_at_3 : IsTable 3 (slice_index_or texts 13 []) 13
+covered_at_3 : IsTable 3 (slice_index_or rows_texts 13 []) 13
 unfolding understood everything
 covered_at_3 = record {
   names = codes "rowid" ∷ codes "account" ∷ codes "number" ∷ codes "blocks" ∷ [];
@@ -366,7 +367,7 @@ covered_at_3 = record {
   plain = (refl, refl);
 }
 
-texts_at_1 : (at : ℕ) → at < 10 → IsTable 1 (slice_index_or texts at []) at
+texts_at_1 : (at : ℕ) → at < 10 → IsTable 1 (slice_index_or rows_texts at []) at
 texts_at_1 zero low = meta_at_1
 texts_at_1 (suc zero) low = accounts_at_1
 texts_at_1 (suc (suc zero)) low = buckets_at_1
@@ -380,7 +381,7 @@ texts_at_1 (suc (suc (suc (suc (suc (suc (suc (suc (suc zero))))))))) low = char
 texts_at_1 (suc (suc (suc (suc (suc (suc (suc (suc (suc (suc n)))))))))) low =
     absurd (omega (arith, low))
 
-texts_at_2 : (at : ℕ) → at < 12 → IsTable 2 (slice_index_or texts at []) at
+texts_at_2 : (at : ℕ) → at < 12 → IsTable 2 (slice_index_or rows_texts at []) at
 texts_at_2 zero low = meta_at_2
 texts_at_2 (suc zero) low = accounts_at_2
 texts_at_2 (suc (suc zero)) low = buckets_at_2
@@ -397,7 +398,7 @@ texts_at_2 (suc (suc (suc (suc (suc (suc (suc (suc (suc (suc (suc zero))))))))))
 texts_at_2 (suc (suc (suc (suc (suc (suc (suc (suc (suc (suc (suc (suc n)))))))))))) low =
     absurd (omega (arith, low))
 
-texts_at_3 : (at : ℕ) → at < 14 → IsTable 3 (slice_index_or texts at []) at
+texts_at_3 : (at : ℕ) → at < 14 → IsTable 3 (slice_index_or rows_texts at []) at
 texts_at_3 zero low = meta_at_3
 texts_at_3 (suc zero) low = accounts_at_3
 texts_at_3 (suc (suc zero)) low = buckets_at_3
@@ -419,7 +420,7 @@ texts_at_3 (suc (suc (suc (suc (suc (suc (suc (suc (suc (suc (suc (suc (suc (suc
     low = absurd (omega (arith, low))
 
 texts_at : (v at : ℕ) → IsVersion v → at < length (schema_at v).tables
-    → IsTable v (slice_index_or texts at []) at
+    → IsTable v (slice_index_or rows_texts at []) at
 texts_at zero at known low = absurd (omega (arith, known.0))
 texts_at (suc zero) at known low = texts_at_1 at low
 texts_at (suc (suc zero)) at known low = texts_at_2 at low
@@ -429,5 +430,5 @@ texts_at (suc (suc (suc (suc n)))) at known low =
 
 -- the text at a place
 pub text_at : (v at : ℕ) (text : List ℕ) → IsVersion v → at < length (schema_at v).tables
-    → text ≡ slice_index_or texts at [] → IsTable v text at
+    → text ≡ slice_index_or rows_texts at [] → IsTable v text at
 text_at v at text known low is = subst (λ t. IsTable v t at) (sym is) (texts_at v at known low)

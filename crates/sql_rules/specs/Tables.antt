@@ -1,7 +1,7 @@
 -- Tables whose rows are in their rules.
 -- Source: profile.
-use Rattle.std.specs.Prelude.{◌≡◌, ◌<◌, ℕ, zero, suc, List, [], ◌∷◌, codes, map, length}
-use Rattle.std.specs.Prelude.{◌++◌, slice_index_or}
+use Rattle.std.specs.Prelude.{◌≡◌, ◌<◌, ℕ, zero, suc, List, [], ◌∷◌, map, length}
+use Rattle.std.specs.Prelude.{slice_index_or}
 use Rattle.std.specs.Prelude.{None, pos, negsuc, false, IsTrue, Result, IfErr, OnOk}
 use Rattle.std.specs.List.{AllByRecursion}
 use Rattle.shelves.specs.Shelves.{Shelf}
@@ -10,7 +10,6 @@ use Rattle.sqlite_value.specs.declared.keys.Collation.TheVariants.{Binary}
 use Rattle.sqlite_sql.specs.Term.{lit, col}
 use Rattle.sqlite_sql.specs.Query.{Query, inner, end}
 use Rattle.sqlite_trees.specs.Tree.{Trees}
-use Rattle.sqlite_schema.specs.declared.schema.Column.{Column}
 use Rattle.sqlite_schema.specs.declared.schema.Table.{Table}
 use Rattle.sqlite_schema.specs.declared.command.Command.TheVariants.{Select}
 use Rattle.sqlite.specs.Given.{IsPlain}
@@ -82,21 +81,6 @@ pub record IsRows (v : ℕ) (text : List ℕ) (tree : ℕ) (places : List ℕ) :
       ≡ Select (record { lets = []; body = rows_query tree places }) names
   pub listing : reads_listing (schema_at v) text ≡ false
   pub plain : IsPlain (understood (schema_at v) text)
-
--- the names of columns, each behind a comma
-abbrev pub names_text : List Column → List ℕ
-names_text [] = []
-names_text (c ∷ cs) = codes ", " ++ (c.name ++ names_text cs)
-
--- the text for a table: of its rowid and all its columns
-abbrev pub text_for : Table → List ℕ
-text_for t =
-    codes "SELECT rowid" ++ (names_text t.columns
-    ++ (codes " FROM " ++ (t.name ++ codes " ORDER BY rowid")))
-
--- the texts for the tables of all versions, in their order
-abbrev pub texts : List (List ℕ)
-texts = map text_for book_schema.tables
 
 -- so many places, from one on
 abbrev pub places_from : ℕ → ℕ → List ℕ

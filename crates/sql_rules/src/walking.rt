@@ -2,7 +2,7 @@
 //! rules.
 
 ghost use Rattle.std.specs.Prelude.{◌≡◌, ◌<◌, ℤ, Bool, [], ◌∷◌, ◌++◌, List, None, IsTrue, IfOk};
-ghost use Rattle.std.specs.Prelude.{IfSome, OnOk, length, slice_index_or};
+ghost use Rattle.std.specs.Prelude.{IfSome, OnOk, length};
 ghost use Rattle.sqlite_value.specs.Order.{Row as Values};
 ghost use Rattle.sqlite.specs.Given.{IsPlain};
 ghost use Rattle.sqlite.specs.Held.{Held, state};
@@ -14,12 +14,12 @@ ghost use Rattle.sql_tables.specs.Rises.{IsAbove};
 ghost use Rattle.sql_tables.specs.Statements.{Spares};
 ghost use Rattle.sql_tables.specs.declared.fault.OpenFault.TheVariants.{Rules};
 ghost use Rattle.sql_rules.specs.Rules.{rule_at};
-ghost use Rattle.sql_rules.specs.Tables.{IsOfRows, IsRuledAt, Tells, texts};
+ghost use Rattle.sql_rules.specs.Tables.{IsOfRows, IsRuledAt, Tells};
 ghost use Rattle.sql_rules.specs.Walks.{Pass, Walks};
 
 use crate::rows::is_ruled;
 use shelves::TariffShelf;
-use sql_tables::OpenFault;
+use sql_tables::{OpenFault, rows_text};
 use sqlite::types::ValueRef;
 use sqlite::{Alter, Connection, Error, ErrorCode, Row};
 use std::alloc::Global;
@@ -127,51 +127,6 @@ fn do_pass<S: Alter>(
     Err(Error::SqliteFailure(ErrorCode::TooBig))
 }
 
-/// The text that selects all rows of a table in the order of their rowids, by the table's place
-/// among those of all versions.
-fn text_of(at: usize) -> &'static str
-    requires { at < 14 }
-    ensures { result.now ≡ slice_index_or texts at [] }
-{
-    match at {
-        0 => "SELECT rowid, id, version, book, last_moment FROM meta ORDER BY rowid",
-        1 => {
-            "SELECT rowid, account, barred, as_of, next_bucket, next_charge \
-             FROM accounts ORDER BY rowid"
-        }
-        2 => {
-            "SELECT rowid, account, number, starts, ends, scope, credited, available, \
-             reserved, charged, expired FROM buckets ORDER BY rowid"
-        }
-        3 => "SELECT rowid, account, rating_group, cycle, blocks FROM counters ORDER BY rowid",
-        4 => {
-            "SELECT rowid, account, session, last_number, touched, state \
-             FROM sessions ORDER BY rowid"
-        }
-        5 => {
-            "SELECT rowid, account, session, rating_group, used, reserved, period_before, \
-             period_after FROM session_groups ORDER BY rowid"
-        }
-        6 => {
-            "SELECT rowid, account, session, rating_group, bucket, amount \
-             FROM holds ORDER BY rowid"
-        }
-        7 => {
-            "SELECT rowid, account, kind, name, number, content, answer \
-             FROM answers ORDER BY rowid"
-        }
-        8 => "SELECT rowid, code, amount, days, scope, account FROM vouchers ORDER BY rowid",
-        9 => {
-            "SELECT rowid, account, number, moment, session, rating_group, blocks, rated, \
-             collected, uncollected FROM charges ORDER BY rowid"
-        }
-        10 => "SELECT rowid, number, starts, content FROM books ORDER BY rowid",
-        11 => "SELECT rowid, account, session, rating_group, book FROM grant_books ORDER BY rowid",
-        12 => "SELECT rowid, account, number FROM allowance_buckets ORDER BY rowid",
-        _ => "SELECT rowid, account, number, blocks FROM covered ORDER BY rowid",
-    }
-}
-
 /// The fault of a call of the store.
 fn fault_of(error: Error) -> OpenFault
     ensures told { IsOfRows result }
@@ -200,7 +155,7 @@ pub(crate) fn table_passes<S: Alter>(
 {
     // For the prover alone: the version whose schema the text is read over.
     let _version = version;
-    match do_pass(conn, alloc, shelf, at, text_of(at)) {
+    match do_pass(conn, alloc, shelf, at, rows_text(at)) {
         Ok(true) => Ok(()),
         Ok(false) => Err(OpenFault::Rules),
         Err(error) => Err(fault_of(error)),

@@ -15,6 +15,7 @@ pub mod Selected
 pub mod Selections
 pub mod Single
 pub mod Stages
+pub mod Pieces
 pub mod Steps
 pub mod Stored
 pub mod Swaps

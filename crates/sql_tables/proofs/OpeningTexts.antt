@@ -7,7 +7,8 @@ use Rattle.sqlite.specs.Listing.{understood}
 use Rattle.sql_tables.specs.Schema.{meta, accounts, buckets, counters, sessions, session_groups}
 use Rattle.sql_tables.specs.Schema.{holds, answers, vouchers, charges, books, grant_books}
 use Rattle.sql_tables.specs.Schema.{allowance_buckets, covered, schema_at}
-use Rattle.sql_tables.specs.Opens.{IsNext, IsRowids, IsVersion, rowids_texts}
+use Rattle.sql_tables.specs.Opens.{IsNext, IsRowids, IsVersion}
+use Rattle.sql_tables.specs.Texts.{rowids_texts}
 
 abbrev pub AreNext : ℕ → ℕ → List (List ℕ) → Type 0
 AreNext v k [] = ⊤

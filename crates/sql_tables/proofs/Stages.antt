@@ -1,5 +1,6 @@
 -- What each text that makes a table or an index leaves of the stages, and several in turn.
-use Rattle.std.proofs.Common.{◌≡◌, ℕ, suc, List, [], ◌∷◌, ◌++◌, Ok, Err, Result}
+use Rattle.std.proofs.Common.{◌≡◌, ◌≤◌, ℕ, zero, suc, List, [], ◌∷◌, ◌++◌, Ok, Err, Result}
+use Rattle.std.proofs.Common.{drop, take}
 use Rattle.std.proofs.Common.{OnOk, IsTrue, refl, sym, ap, subst, ◌∙◌, arith}
 use Rattle.std.specs.List.{AllByRecursion}
 use Rattle.sqlite_trees.specs.Tree.{Trees}
@@ -12,7 +13,8 @@ use Rattle.sqlite.specs.State.{State, ExecutesInside}
 use Rattle.sqlite.specs.Steps.{IsEmpty}
 use Rattle.sqlite.proofs.StateLemmas.{survives_then}
 use Rattle.sql_tables.specs.Keyed.{IsStored}
-use Rattle.sql_tables.specs.Schema.{book_schema}
+use Rattle.sql_tables.specs.Schema.{Piece, ATable, AnIndex, book_schema, latest, pieces_to}
+use Rattle.sql_tables.specs.Schema.{tables_of}
 use Rattle.sql_tables.specs.Statements.{Attempts}
 use Rattle.sql_tables.specs.Stages.{AreEmpty, HasStage, IsBlank, Adds, BuildsAll}
 use Rattle.sql_tables.specs.Stages.{tables_between}
@@ -133,28 +135,60 @@ adds_on k l m first all a b c one two =
       };
     }
 
-pub adds_then : (k l m : ℕ) → (stage l).tables ≡ (stage k).tables ++ tables_between k l
-    → tables_between k m ≡ tables_between k l ++ tables_between l m
-    → {A B C E : Type 0} (a b c : State) (u : A) (v : B) (w : C)
-    → Attempts {A = A} {E = E} (Adds k l) a b (Ok u)
-    → Attempts {A = B} {E = E} (Adds l m) b c (Ok v)
-    → Attempts {A = C} {E = E} (Adds k m) a c (Ok w)
-adds_then k l m first all a b c u v w one two = record {
-  done = λ clean. adds_on k l m first all a b c
+-- ---- places among the pieces
+
+tables_of-append : (xs ys : List Piece) → tables_of (xs ++ ys) ≡ tables_of xs ++ tables_of ys
+tables_of-append [] ys = refl
+tables_of-append (ATable t ∷ xs) ys = ap (λ ts. t ∷ ts) (tables_of-append xs ys)
+tables_of-append (AnIndex i ∷ xs) ys = tables_of-append xs ys
+
+split_at : (l m : ℕ) (xs : List Piece) → l ≤ m → take m xs ≡ take l xs ++ drop l (take m xs)
+split_at zero m xs le = refl
+split_at (suc l) zero xs le = absurd (omega (arith, le))
+split_at (suc l) (suc m) [] le = refl
+split_at (suc l) (suc m) (x ∷ xs) le =
+    ap (λ ys. x ∷ ys) (split_at l m xs (omega (arith, le)))
+
+split_between : (k l m : ℕ) (xs : List Piece) → k ≤ l → l ≤ m →
+    drop k (take m xs) ≡ drop k (take l xs) ++ drop l (take m xs)
+split_between zero l m xs low high = split_at l m xs high
+split_between (suc k) zero m xs low high = absurd (omega (arith, low))
+split_between (suc k) (suc l) zero xs low high = absurd (omega (arith, high))
+split_between (suc k) (suc l) (suc m) [] low high = refl
+split_between (suc k) (suc l) (suc m) (x ∷ xs) low high =
+    split_between k l m xs (omega (arith, low)) (omega (arith, high))
+
+tables_to : (k l : ℕ) → k ≤ l → (stage l).tables ≡ (stage k).tables ++ tables_between k l
+tables_to k l low = ap tables_of (split_at k l (pieces_to latest) low)
+    ∙ tables_of-append (take k (pieces_to latest)) (drop k (take l (pieces_to latest)))
+
+tables_on : (k l m : ℕ) → k ≤ l → l ≤ m →
+    tables_between k m ≡ tables_between k l ++ tables_between l m
+tables_on k l m low high = ap tables_of (split_between k l m (pieces_to latest) low high)
+    ∙ tables_of-append (drop k (take l (pieces_to latest))) (drop l (take m (pieces_to latest)))
+
+-- the pieces from one place up to another, and the next
+pub adds_then : (k l m : ℕ) → k ≤ l → l ≤ m → (a b c : State) (u v : ℕ)
+    → Attempts {A = ℕ} {E = Error} (Adds k l) a b (Ok u)
+    → Attempts {A = ℕ} {E = Error} (Adds l m) b c (Ok v)
+    → Attempts {A = ℕ} {E = Error} (Adds k m) a c (Ok u)
+adds_then k l m low high a b c u v one two = record {
+  done = λ clean. adds_on k l m (tables_to k l low) (tables_on k l m low high) a b c
       (one.done (omega (arith, two.survives.clean, clean))) (two.done clean);
   kept = λ clean. tt;
   survives = survives_then a b c (λ _. ⊥) (λ _. ⊥) (λ _. ⊥) (λ clean db no. no)
       (λ clean db no. no) one.survives two.survives;
 }
 
--- the same, with the answer of the first
-pub adds_and : (k l m : ℕ) → (stage l).tables ≡ (stage k).tables ++ tables_between k l
-    → tables_between k m ≡ tables_between k l ++ tables_between l m
-    → {A B E : Type 0} (a b c : State) (u : A) (v : B)
-    → Attempts {A = A} {E = E} (Adds k l) a b (Ok u)
-    → Attempts {A = B} {E = E} (Adds l m) b c (Ok v)
-    → Attempts {A = A} {E = E} (Adds k m) a c (Ok u)
-adds_and k l m first all a b c u v one two = adds_then k l m first all a b c u v u one two
+-- whatever it answers
+pub answered : {A B : Type 0} (k l : ℕ) (a b : State) (u : A) (v : B)
+    → Attempts {A = A} {E = Error} (Adds k l) a b (Ok u)
+    → Attempts {A = B} {E = Error} (Adds k l) a b (Ok v)
+answered k l a b u v all = record {
+  done = λ clean. all.done clean;
+  kept = λ clean. tt;
+  survives = all.survives;
+}
 
 -- ---- all of them
 

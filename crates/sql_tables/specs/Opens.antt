@@ -104,23 +104,6 @@ pub record IsNext (v : TablesVersion) (text : List ℕ) (k : ℕ) : Type 0 where
   pub next : take (k + 1) (schema_at v).tables ≡ take k (schema_at v).tables ++ table ∷ []
   pub rowids : IsRowids v text table
 
--- the texts for the tables of all versions, in their order
-abbrev pub rowids_texts : List (List ℕ)
-rowids_texts = codes "SELECT rowid FROM meta ORDER BY rowid"
-    ∷ codes "SELECT rowid FROM accounts ORDER BY rowid"
-    ∷ codes "SELECT rowid FROM buckets ORDER BY rowid"
-    ∷ codes "SELECT rowid FROM counters ORDER BY rowid"
-    ∷ codes "SELECT rowid FROM sessions ORDER BY rowid"
-    ∷ codes "SELECT rowid FROM session_groups ORDER BY rowid"
-    ∷ codes "SELECT rowid FROM holds ORDER BY rowid"
-    ∷ codes "SELECT rowid FROM answers ORDER BY rowid"
-    ∷ codes "SELECT rowid FROM vouchers ORDER BY rowid"
-    ∷ codes "SELECT rowid FROM charges ORDER BY rowid"
-    ∷ codes "SELECT rowid FROM books ORDER BY rowid"
-    ∷ codes "SELECT rowid FROM grant_books ORDER BY rowid"
-    ∷ codes "SELECT rowid FROM allowance_buckets ORDER BY rowid"
-    ∷ codes "SELECT rowid FROM covered ORDER BY rowid" ∷ []
-
 -- the database has the tables of a version and no others, no rowid of theirs stands twice, no
 -- transaction is open, and nothing was changed to find that
 pub record IsFound (v : TablesVersion) (old new : State) : Type 0 where

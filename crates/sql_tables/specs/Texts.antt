@@ -1,8 +1,10 @@
 -- The texts that make the tables; they stand in the database as they are written here.
 -- Source: profile.
-use Rattle.std.specs.Prelude.{ℕ, List, [], ◌∷◌, codes, ◌++◌, take}
+use Rattle.std.specs.Prelude.{ℕ, List, [], ◌∷◌, codes, ◌++◌, map, take}
+use Rattle.sqlite_schema.specs.declared.schema.Column.{Column}
 use Rattle.sqlite_schema.specs.declared.schema.Schema.{Schema}
-use Rattle.sql_tables.specs.Schema.{latest, pieces_to, schema_of}
+use Rattle.sqlite_schema.specs.declared.schema.Table.{Table}
+use Rattle.sql_tables.specs.Schema.{book_schema, latest, pieces_to, schema_of}
 
 abbrev pub meta_text : List ℕ
 meta_text =
@@ -204,6 +206,39 @@ texts = (meta_text ∷ accounts_text ∷ buckets_text ∷ counters_text ∷ sess
     ∷ (books_text ∷ grant_books_text ∷ buckets_live_text ∷ [])
     ∷ (allowance_buckets_text ∷ covered_text ∷ []) ∷ []
 
+abbrev pub joined : List (List (List ℕ)) → List (List ℕ)
+joined [] = []
+joined (own ∷ later) = own ++ joined later
+
+-- the texts of all versions, one for each piece
+abbrev pub all_texts : List (List ℕ)
+all_texts = joined texts
+
 -- the schema after the first pieces
 abbrev pub stage : ℕ → Schema
 stage pieces = schema_of (take pieces (pieces_to latest))
+
+-- ---- what selects rows
+
+-- the text that selects the rowids of a table
+abbrev pub rowids_text : Table → List ℕ
+rowids_text t = codes "SELECT rowid FROM " ++ (t.name ++ codes " ORDER BY rowid")
+
+-- the same, of the tables of all versions, in their order
+abbrev pub rowids_texts : List (List ℕ)
+rowids_texts = map rowids_text book_schema.tables
+
+-- the names of columns, each behind a comma
+abbrev pub names_text : List Column → List ℕ
+names_text [] = []
+names_text (c ∷ cs) = codes ", " ++ (c.name ++ names_text cs)
+
+-- the text that selects the rowid and all columns of a table
+abbrev pub rows_text : Table → List ℕ
+rows_text t =
+    codes "SELECT rowid" ++ (names_text t.columns
+    ++ (codes " FROM " ++ (t.name ++ codes " ORDER BY rowid")))
+
+-- the same, of the tables of all versions, in their order
+abbrev pub rows_texts : List (List ℕ)
+rows_texts = map rows_text book_schema.tables

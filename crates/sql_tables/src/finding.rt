@@ -1,16 +1,16 @@
 //! Whether a database is one of this system.
 
-ghost use Rattle.std.specs.Prelude.{◌≡◌, ◌<◌, [], slice_index_or, IfErr, IfOk, IsTrue};
+ghost use Rattle.std.specs.Prelude.{◌≡◌, IfErr, IfOk, IsTrue};
 ghost use Rattle.sqlite.specs.Held.{state};
 ghost use Rattle.sql_tables.specs.Schema.{schema_at};
 ghost use Rattle.sql_tables.specs.Opens.{FindsAll, FindsVersion, IsNoVersion, IsOpenFaultTold};
 ghost use Rattle.sql_tables.specs.Opens.{IsVersion};
-ghost use Rattle.sql_tables.specs.Opens.{rowids_texts};
 
 use crate::creating::create_in_memory_at;
 use crate::fault::OpenFault;
 use crate::rising::{fault_of, rowids_differ};
 use crate::same::same_schema;
+use crate::texts::rowids_text;
 use sqlite::{Alter, Connection};
 use std::alloc::Global;
 
@@ -53,30 +53,6 @@ fn version_of<S: Alter>(conn: &Connection<S>, alloc: Global) -> Result<u32, Open
         return Ok(1);
     }
     Err(OpenFault::Foreign)
-}
-
-/// The text that selects the rowids of a table in order, by the table's place among those of all
-/// versions.
-fn rowids_text(at: usize) -> &'static str
-    requires { at < 14 }
-    ensures { result.now ≡ slice_index_or rowids_texts at [] }
-{
-    match at {
-        0 => "SELECT rowid FROM meta ORDER BY rowid",
-        1 => "SELECT rowid FROM accounts ORDER BY rowid",
-        2 => "SELECT rowid FROM buckets ORDER BY rowid",
-        3 => "SELECT rowid FROM counters ORDER BY rowid",
-        4 => "SELECT rowid FROM sessions ORDER BY rowid",
-        5 => "SELECT rowid FROM session_groups ORDER BY rowid",
-        6 => "SELECT rowid FROM holds ORDER BY rowid",
-        7 => "SELECT rowid FROM answers ORDER BY rowid",
-        8 => "SELECT rowid FROM vouchers ORDER BY rowid",
-        9 => "SELECT rowid FROM charges ORDER BY rowid",
-        10 => "SELECT rowid FROM books ORDER BY rowid",
-        11 => "SELECT rowid FROM grant_books ORDER BY rowid",
-        12 => "SELECT rowid FROM allowance_buckets ORDER BY rowid",
-        _ => "SELECT rowid FROM covered ORDER BY rowid",
-    }
 }
 
 /// Tests that no rowid stands twice in a table of a version.

@@ -10,6 +10,7 @@ mod reading;
 mod rising;
 mod same;
 mod schemas;
+mod texts;
 mod values;
 mod writing;
 
@@ -25,5 +26,6 @@ pub use crate::reading::{
 };
 pub use crate::same::same_schema;
 pub use crate::schemas::{has_ours, is_blank};
+pub use crate::texts::rows_text;
 pub use crate::values::{checked, flag, large, null, optional, text, whole};
 pub use crate::writing::write;

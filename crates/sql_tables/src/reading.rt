@@ -78,10 +78,7 @@ pub fn read<S: Alter>(
 {
     // For the prover alone: looking at the value makes known here what its type keeps.
     let _ours = conn.schema();
-    match conn.query_all(sql, params) {
-        Ok(rows) => Ok(rows),
-        Err(error) => Err(ReadFault::Store(error)),
-    }
+    Ok(conn.query_all(sql, params)?)
 }
 
 /// The rows that a selection answers, within a transaction. It changes nothing.
@@ -98,10 +95,7 @@ pub fn read_within<S: Alter>(
     requires rules { HasRules (state S.Store tx.old.conn.now) }
     ensures { SelectsRowsWithin S.Store sql.now (bound params.now) tx.old.conn tx.new.conn result }
 {
-    match tx.query_all(sql, params) {
-        Ok(rows) => Ok(rows),
-        Err(error) => Err(ReadFault::Store(error)),
-    }
+    Ok(tx.query_all(sql, params)?)
 }
 
 /// The row, if there is one.

@@ -14,9 +14,9 @@ use Rattle.sql_rules.proofs.walking.table_passes.Goals as goal
 
 pub do_pass-requires-clause-plain : goal.do_pass-requires-clause-plain
 do_pass-requires-clause-plain g c clean =
-    let is = text_at c.args.version c.args.at c.text_of.result.now c.requires.known c.requires.place
-    c.text_of.ensures in
-    subst (λ (s : Schema). IsPlain (understood s c.text_of.result.now))
+    let is = text_at c.args.version c.args.at c.rows_text.result.now c.requires.known c.requires.place
+    c.rows_text.ensures in
+    subst (λ (s : Schema). IsPlain (understood s c.rows_text.result.now))
     (sym (c.requires.ours clean)) is.plain
 
 pub returns-in-Ok-true : goal.returns-in-Ok-true
@@ -26,10 +26,10 @@ returns-in-Ok-true g c = record {
       let same = c.in-Ok-true.ensures.same clean in
       let was : HasCleanDisk (state g.S.Store c.args.conn.now) =
       omega (arith, c.in-Ok-true.ensures.crash.clean, clean) in
-      let is = text_at c.args.version c.args.at c.text_of.result.now c.requires.known
-      c.requires.place c.text_of.ensures in
+      let is = text_at c.args.version c.args.at c.rows_text.result.now c.requires.known
+      c.requires.place c.rows_text.ensures in
       let here = table_stands g.S.Store c.args.shelf.now c.args.version c.args.at
-      c.text_of.result.now is c.args.conn.now walk.0 (state g.S.Store c.do_pass.new.conn) walk.1
+      c.rows_text.result.now is c.args.conn.now walk.0 (state g.S.Store c.do_pass.new.conn) walk.1
       walk.2 walk.3 (c.requires.ours was) (walk.4 c.in-Ok-true.field-0-test) in (
         same,
         subst (λ (d : Database). IsRuledAt c.args.shelf.now c.args.at d.trees)
@@ -48,10 +48,10 @@ returns-in-Ok-false g c = record {
       let walk = c.in-Ok-false.ensures.walk clean in
       let was : HasCleanDisk (state g.S.Store c.args.conn.now) =
       omega (arith, c.in-Ok-false.ensures.crash.clean, clean) in
-      let is = text_at c.args.version c.args.at c.text_of.result.now c.requires.known
-      c.requires.place c.text_of.ensures in
+      let is = text_at c.args.version c.args.at c.rows_text.result.now c.requires.known
+      c.requires.place c.rows_text.ensures in
       let pass : Pass (rule_at c.args.shelf.now c.args.at) walk.1 =
-      table_passes g.S.Store c.args.shelf.now c.args.version c.args.at c.text_of.result.now is
+      table_passes g.S.Store c.args.shelf.now c.args.version c.args.at c.rows_text.result.now is
       c.args.conn.now walk.0 (state g.S.Store c.do_pass.new.conn) walk.1 walk.2 walk.3
       (c.requires.ours was) ruled in
       let yes' = walk.5 pass in

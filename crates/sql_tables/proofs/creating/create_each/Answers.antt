@@ -5,5 +5,5 @@ use Rattle.sql_tables.proofs.creating.create_each.Goals as goal
 pub returns : goal.returns
 returns g c = record {
   same_reference = search rules;
-  makes = builds_all _ _ _ c.create_all.ensures.makes;
+  makes = builds_all _ _ _ c.create_between.ensures.makes;
 }
