@@ -214,12 +214,12 @@ module _ (v : ℕ) (known : IsVersion v) (less : v < latest) (old mid : State)
       → (tables_content mid.now.trees).meta ≡ Some row
   meta_before clean row is =
       ap (λ (c : TablesContent). c.meta) (made_content v old mid has known less clean)
-      ∙ meta_at v old.now.trees ∙ is
+      ∙ meta_at v known less old.now.trees ∙ is
 
   meta_since : HasCleanDisk mid → (row : Meta) → (tables_content mid.now.trees).meta ≡ Some row
       → (tables_content old.now.trees).meta ≡ Some row
   meta_since clean row is =
-      sym (meta_at v old.now.trees)
+      sym (meta_at v known less old.now.trees)
       ∙ sym (ap (λ (c : TablesContent). c.meta) (made_content v old mid has known less clean)) ∙ is
 
   -- what is kept once wasn't read
@@ -370,7 +370,7 @@ module _ (v : ℕ) (known : IsVersion v) (less : v < latest) (old mid : State) (
     meta_made : HasCleanDisk mid → (tables_content mid.now.trees).meta ≡ Some (meta_of m)
     meta_made before =
         ap (λ (c : TablesContent). c.meta) (made_content v old mid read.meta.has known less before)
-        ∙ meta_at v old.now.trees ∙ read.meta.is before
+        ∙ meta_at v known less old.now.trees ∙ read.meta.is before
 
     -- all is put
     pub brought : {A E : Type 0} (u : A)

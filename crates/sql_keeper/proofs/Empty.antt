@@ -1,7 +1,7 @@
 -- New tables hold nothing.
 use Rattle.std.proofs.Common.{◌≡◌, ℕ, List, [], None, refl, ap, sym, ◌∙◌, subst, Ok, arith, false}
 use Rattle.std.proofs.Common.{Bool, Some, true}
-use Rattle.std.specs.Prelude.{is_some, length, option_map}
+use Rattle.std.specs.Prelude.{is_some, option_map}
 use Rattle.std.specs.FinMap.{get, get-empty}
 use Rattle.sqlite_value.specs.Order.{Row, row_cmp}
 use Rattle.sqlite_schema.specs.declared.schema.Table.{Table}
@@ -24,6 +24,7 @@ use Rattle.sql_rows.specs.Content.{TableRows, TablesContent, tables_content, wit
 use Rattle.sql_rows.specs.Makes.{Makes, Turns}
 use Rattle.sql_rows.specs.Plain.{AreAll, ArePlain, is_plain_group, is_plain_head}
 use Rattle.sql_rows.specs.Plain.{is_plain_session}
+use Rattle.sql_rows.proofs.Stays.{same_content}
 use Rattle.sql_rules.specs.Columns.{is_moment}
 use Rattle.sql_rules.specs.Ruled.{AreInRules, IsInRules}
 use Rattle.sql_keeper.specs.Content.{Names, answer_in, tables_of}
@@ -61,56 +62,42 @@ no_content = record {
   count = 0;
 }
 
+-- nothing is looked up in a table without rows
+none : (t : Table) (key : Row) → look t (λ x. []) key ≡ None
+none t key = get-empty row_cmp key
+
+nothing_stored : tables_content (λ t. []) ≡ no_content
+nothing_stored = λ i. record {
+  meta = option_map values.meta_in (none table.meta values.meta_key i);
+  kept = 0;
+  rows = λ a. record {
+    head = option_map values.head_in (none table.accounts (values.head_key a) i);
+    buckets = λ n. option_map values.bucket_in_row (none table.buckets (values.bucket_key a n) i);
+    counters = λ g c.
+        option_map values.counter_in_row (none table.counters (values.counter_key a g c) i);
+    sessions = λ s.
+        option_map values.session_in_row (none table.sessions (values.session_key a s) i);
+    groups = λ s g.
+        option_map values.group_in_row (none table.session_groups (values.group_key a s g) i);
+    holds = λ s g n. option_map values.hold_in (none table.holds (values.hold_key a s g n) i);
+    answers = λ l s n.
+        option_map values.answer_in_row (none table.answers (values.answer_key a l s n) i);
+    charges = λ n. option_map values.charge_in_row (none table.charges (values.charge_key a n) i);
+    grant_books = λ s g.
+        option_map values.grant_book_in (none table.grant_books (values.group_key a s g) i);
+    allowances = λ n. is_some (option_map values.allowance_in
+        (none table.allowance_buckets (values.bucket_key a n) i));
+    covered = λ n. option_map values.covered_in_row (none table.covered (values.charge_key a n) i);
+  };
+  vouchers = λ code.
+      option_map values.voucher_in_row (none table.vouchers (values.voucher_key code) i);
+  books = λ n. option_map values.book_in_row (none table.books (values.book_key n) i);
+  count = 0;
+}
+
 empty_content : (trees : Trees) → AreEmpty book_schema.tables trees →
     tables_content trees ≡ no_content
-empty_content trees e =
-    let at_meta = e.0 in
-    let at_accounts = e.1.0 in
-    let at_buckets = e.1.1.0 in
-    let at_counters = e.1.1.1.0 in
-    let at_sessions = e.1.1.1.1.0 in
-    let at_groups = e.1.1.1.1.1.0 in
-    let at_holds = e.1.1.1.1.1.1.0 in
-    let at_answers = e.1.1.1.1.1.1.1.0 in
-    let at_vouchers = e.1.1.1.1.1.1.1.1.0 in
-    let at_charges = e.1.1.1.1.1.1.1.1.1.0 in
-    let at_books = e.1.1.1.1.1.1.1.1.1.1.0 in
-    let at_grants = e.1.1.1.1.1.1.1.1.1.1.1.0 in
-    let at_allowances = e.1.1.1.1.1.1.1.1.1.1.1.1.0 in
-    let at_covered = e.1.1.1.1.1.1.1.1.1.1.1.1.1.0 in
-    λ i. record {
-      meta = option_map values.meta_in (none_stored table.meta trees at_meta values.meta_key i);
-      kept = length (at_meta i);
-      rows = λ a. record {
-        head = option_map values.head_in
-            (none_stored table.accounts trees at_accounts (values.head_key a) i);
-        buckets = λ n. option_map values.bucket_in_row
-            (none_stored table.buckets trees at_buckets (values.bucket_key a n) i);
-        counters = λ g c. option_map values.counter_in_row
-            (none_stored table.counters trees at_counters (values.counter_key a g c) i);
-        sessions = λ s. option_map values.session_in_row
-            (none_stored table.sessions trees at_sessions (values.session_key a s) i);
-        groups = λ s g. option_map values.group_in_row
-            (none_stored table.session_groups trees at_groups (values.group_key a s g) i);
-        holds = λ s g n. option_map values.hold_in
-            (none_stored table.holds trees at_holds (values.hold_key a s g n) i);
-        answers = λ kind name number. option_map values.answer_in_row
-            (none_stored table.answers trees at_answers (values.answer_key a kind name number) i);
-        charges = λ n. option_map values.charge_in_row
-            (none_stored table.charges trees at_charges (values.charge_key a n) i);
-        grant_books = λ s g. option_map values.grant_book_in
-            (none_stored table.grant_books trees at_grants (values.group_key a s g) i);
-        allowances = λ n. is_some (option_map values.allowance_in
-            (none_stored table.allowance_buckets trees at_allowances (values.bucket_key a n) i));
-        covered = λ n. option_map values.covered_in_row
-            (none_stored table.covered trees at_covered (values.charge_key a n) i);
-      };
-      vouchers = λ code. option_map values.voucher_in_row
-          (none_stored table.vouchers trees at_vouchers (values.voucher_key code) i);
-      books = λ n. option_map values.book_in_row
-          (none_stored table.books trees at_books (values.book_key n) i);
-      count = length (at_accounts i);
-    }
+empty_content trees e = same_content (λ t. []) trees e ∙ nothing_stored
 
 none_kept : (a : List ℕ) (k : Key) → answer_in a k nothing ≡ None
 none_kept a (Request s n) = refl
@@ -118,37 +105,7 @@ none_kept a (Reference x) = refl
 
 pub new_empty : AreNewTablesEmpty
 new_empty names =
-    ap (tables_of names) (empty_content (λ t. []) (
-      refl,
-      (
-        refl,
-        (
-          refl,
-          (
-            refl,
-            (
-              refl,
-              (
-                refl,
-                (
-                  refl,
-                  (
-                    refl,
-                    (
-                      refl,
-                      (
-                        refl,
-                        (refl, (refl, (refl, (refl, tt)))),
-                      ),
-                    ),
-                  ),
-                ),
-              ),
-            ),
-          ),
-        ),
-      ),
-    ))
+    ap (tables_of names) nothing_stored
     ∙ (λ i. record (tables_of names no_content) { answers = λ a k. none_kept a k i })
 
 tidy_nothing : (names : Names) (a : List ℕ) → AreTidyRows names a nothing

@@ -68,3 +68,4 @@ pub mod Told
 pub mod ToldWithin
 pub mod Transacted
 pub mod Whole
+pub mod Writable

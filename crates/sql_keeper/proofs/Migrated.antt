@@ -1,13 +1,12 @@
 -- What a migration leaves of what the tables held.
-use Rattle.std.proofs.Common.{◌≡◌, ◌≤◌, ◌<◌, ◌∙◌, ℕ, zero, suc, Bool, true, false, List, [], Option}
-use Rattle.std.proofs.Common.{Some, None, refl, sym, ap, subst, arith, length, nat_le}
+use Rattle.std.proofs.Common.{◌≡◌, ◌≤◌, ◌<◌, ◌∙◌, ℕ, zero, suc, Bool, true, false, List}
+use Rattle.std.proofs.Common.{Option, Some, None, refl, sym, ap, subst, arith, length, nat_le}
 use Rattle.std.proofs.lemmas.Option.{same_Some}
 use Rattle.std.specs.Prelude.{if◌then◌else◌, is_some, option_map}
-use Rattle.std.specs.FinMap.{get}
 use Rattle.std.specs.Str.{IsUtf8}
-use Rattle.sqlite_value.specs.Order.{Row}
 use Rattle.sqlite_trees.specs.Objects.{catalog_tree}
 use Rattle.sqlite_trees.specs.Tree.{Trees}
+use Rattle.sqlite_trees.proofs.ListLemmas.{all-append}
 use Rattle.sqlite_schema.specs.declared.schema.Table.{Table}
 use Rattle.sqlite_catalog.specs.Change.{KeepsRows}
 use Rattle.sqlite_catalog.specs.Listing.{Lists}
@@ -15,20 +14,19 @@ use Rattle.shelves.specs.Shelves.{Shelf}
 use Rattle.reserving.specs.Left.{is_open_row}
 use Rattle.commands.specs.declared.key.Key.{Key}
 use Rattle.commands.specs.declared.key.Key.TheVariants.{Reference, Request}
-use Rattle.sql_tables.specs.Keyed.{look, table_of}
 use Rattle.sql_tables.specs.Schema.{book_schema, latest, pieces_to, schema_at}
 use Rattle.sql_tables.specs.Schema as table
 use Rattle.sql_tables.specs.Stages.{AreEmpty, tables_between}
-use Rattle.sql_tables.proofs.Ascents.{all_front}
 use Rattle.sql_rows.specs.Content.{TablesContent, TableRows, tables_content, with_meta}
+use Rattle.sql_rows.proofs.Stays.{same_content}
 use Rattle.sql_rows.specs.Makes.{Turns}
 use Rattle.sql_rows.specs.Values as values
 use Rattle.sql_rows.specs.Values.{Group, Meta, PeriodNames}
 use Rattle.sql_tables.specs.Opens.{IsVersion}
 use Rattle.sql_keeper.specs.Content.{Names, stored_group_in, is_reserved, last_in, told_rows}
 use Rattle.sql_keeper.specs.Content.{answer_in, tables_of}
-use Rattle.sql_keeper.specs.Migrates.{AreGranted, BecomesLatest, before_2, before_3, content_at}
-use Rattle.sql_keeper.specs.Migrates.{granted_in, with_granted}
+use Rattle.sql_keeper.specs.Migrates.{AreGranted, BecomesLatest, content_at, granted_in}
+use Rattle.sql_keeper.specs.Migrates.{trees_at, with_granted}
 use Rattle.sql_keeper.specs.Opened.{IsLeft}
 use Rattle.sql_keeper.specs.Tidy.{AreTidyRows, IsTidy, are_terms, has_terms}
 use Rattle.sql_keeper.specs.Shelves.{IsShelfOf}
@@ -37,126 +35,46 @@ use Rattle.sql_keeper.proofs.Tidy.{tidy_meta}
 
 -- ---- the rows of the tables that stay, and no row of those that are new
 
--- what is looked up in a table whose rows stay
-looked_still : (t : Table) (old new : Trees) → new t.tree ≡ old t.tree → (key : Row) →
-    look t new key ≡ look t old key
-looked_still t old new same key = ap (λ rows. get (table_of t.primary rows) key) same
-
 -- the tables of a version after the tables that it hasn't were made, empty
 abbrev pub AreKept : ℕ → Trees → Trees → Type 0
 AreKept v old new = KeepsRows (schema_at v).tables old new
     × AreEmpty (tables_between (length (pieces_to v)) (length (pieces_to latest))) new
 
--- what the tables after those of version 1 hold
-record AreSince (c d : TablesContent) : Type 0 where
-  pub grant_books : (a s : List ℕ) (g : ℕ) → (d.rows a).grant_books s g ≡ (c.rows a).grant_books s g
-  pub allowances : (a : List ℕ) (n : ℕ) → (d.rows a).allowances n ≡ (c.rows a).allowances n
-  pub covered : (a : List ℕ) (n : ℕ) → (d.rows a).covered n ≡ (c.rows a).covered n
-  pub books : (n : ℕ) → d.books n ≡ c.books n
-
-abbrev with_since : TablesContent → TablesContent → TablesContent
-with_since c d = record d {
-  rows = λ a. record (d.rows a) {
-    grant_books = (c.rows a).grant_books;
-    allowances = (c.rows a).allowances;
-    covered = (c.rows a).covered;
-  };
-  books = c.books;
-}
-
--- where the tables of version 1 keep their rows
-kept_since : (old new : Trees) (c : TablesContent) → KeepsRows (schema_at 1).tables old new
-    → AreSince c (tables_content new) → tables_content new ≡ with_since c (tables_content old)
-kept_since old new c k since = λ i. record {
-  meta = option_map values.meta_in (looked_still table.meta old new k.0 values.meta_key i);
-  kept = length (k.0 i);
-  rows = λ a. record {
-    head = option_map values.head_in
-        (looked_still table.accounts old new k.1.0 (values.head_key a) i);
-    buckets = λ n. option_map values.bucket_in_row
-        (looked_still table.buckets old new k.1.1.0 (values.bucket_key a n) i);
-    counters = λ g c. option_map values.counter_in_row
-        (looked_still table.counters old new k.1.1.1.0 (values.counter_key a g c) i);
-    sessions = λ s. option_map values.session_in_row
-        (looked_still table.sessions old new k.1.1.1.1.0 (values.session_key a s) i);
-    groups = λ s g. option_map values.group_in_row
-        (looked_still table.session_groups old new k.1.1.1.1.1.0 (values.group_key a s g) i);
-    holds = λ s g n. option_map values.hold_in
-        (looked_still table.holds old new k.1.1.1.1.1.1.0 (values.hold_key a s g n) i);
-    answers = λ kind name number. option_map values.answer_in_row
-        (looked_still table.answers old new k.1.1.1.1.1.1.1.0
-        (values.answer_key a kind name number) i);
-    charges = λ n. option_map values.charge_in_row
-        (looked_still table.charges old new k.1.1.1.1.1.1.1.1.1.0 (values.charge_key a n) i);
-    grant_books = λ s g. since.grant_books a s g i;
-    allowances = λ n. since.allowances a n i;
-    covered = λ n. since.covered a n i;
-  };
-  vouchers = λ code. option_map values.voucher_in_row
-      (looked_still table.vouchers old new k.1.1.1.1.1.1.1.1.0 (values.voucher_key code) i);
-  books = λ n. since.books n i;
-  count = length (k.1.0 i);
-}
-
--- what is looked up in a table without rows
-no_grant : (new : Trees) → new table.grant_books.tree ≡ [] → (a s : List ℕ) (g : ℕ)
-    → ((tables_content new).rows a).grant_books s g ≡ None
-no_grant new none a s g =
-    ap (option_map values.grant_book_in)
-    (none_stored table.grant_books new none (values.group_key a s g))
-
-no_allowance : (new : Trees) → new table.allowance_buckets.tree ≡ [] → (a : List ℕ) (n : ℕ)
-    → ((tables_content new).rows a).allowances n ≡ false
-no_allowance new none a n =
-    ap (λ row. is_some (option_map values.allowance_in row))
-    (none_stored table.allowance_buckets new none (values.bucket_key a n))
-
-no_covered : (new : Trees) → new table.covered.tree ≡ [] → (a : List ℕ) (n : ℕ)
-    → ((tables_content new).rows a).covered n ≡ None
-no_covered new none a n =
-    ap (option_map values.covered_in_row)
-    (none_stored table.covered new none (values.charge_key a n))
-
-kept_1 : (old new : Trees) → AreKept 1 old new → tables_content new ≡ content_at 1 old
-kept_1 old new (k, e) = kept_since old new (content_at 1 old) k (record {
-  grant_books = no_grant new e.1.0;
-  allowances = no_allowance new e.1.1.0;
-  covered = no_covered new e.1.1.1.0;
-  books = λ n. ap (option_map values.book_in_row)
-      (none_stored table.books new e.0 (values.book_key n));
-})
-
-kept_2 : (old new : Trees) → AreKept 2 old new → tables_content new ≡ content_at 2 old
-kept_2 old new (k, e) =
-    let first : KeepsRows (schema_at 1).tables old new =
-    all_front (λ (t : Table). new t.tree ≡ old t.tree) (schema_at 1).tables
-    (tables_between (length (pieces_to 1)) (length (pieces_to 2))) k in
-    kept_since old new (content_at 2 old) first (record {
-      grant_books = λ a s g. ap (option_map values.grant_book_in)
-          (looked_still table.grant_books old new k.1.1.1.1.1.1.1.1.1.1.1.0
-          (values.group_key a s g));
-      allowances = no_allowance new e.0;
-      covered = no_covered new e.1.0;
-      books = λ n. ap (option_map values.book_in_row)
-          (looked_still table.books old new k.1.1.1.1.1.1.1.1.1.1.0 (values.book_key n));
-    })
+-- the tables that a version has keep their rows, and the others have none
+rows_at : (v : ℕ) (old new : Trees) → IsVersion v → v < latest → AreKept v old new →
+    KeepsRows book_schema.tables (trees_at v old) new
+rows_at zero old new known less (k, e) = absurd (omega (arith, known.0))
+rows_at (suc zero) old new known less (k, e) =
+    all-append (λ (t : Table). new t.tree ≡ trees_at 1 old t.tree) (schema_at 1).tables
+    (tables_between (length (pieces_to 1)) (length (pieces_to latest))) k e
+rows_at (suc (suc zero)) old new known less (k, e) =
+    all-append (λ (t : Table). new t.tree ≡ trees_at 2 old t.tree) (schema_at 2).tables
+    (tables_between (length (pieces_to 2)) (length (pieces_to latest))) k e
+rows_at (suc (suc (suc n))) old new known less (k, e) =
+    let low : suc (suc (suc n)) < 3 = less in absurd (omega (arith, low))
 
 -- what the tables hold once those that a version hasn't are made
 pub kept_content : (v : ℕ) (old new : Trees) → IsVersion v → v < latest → AreKept v old new →
     tables_content new ≡ content_at v old
-kept_content zero old new known less kept = absurd (omega (arith, known.0))
-kept_content (suc zero) old new known less kept = kept_1 old new kept
-kept_content (suc (suc zero)) old new known less kept = kept_2 old new kept
-kept_content (suc (suc (suc n))) old new known less kept =
-    let low : suc (suc (suc n)) < 3 = less in absurd (omega (arith, low))
+kept_content v old new known less kept =
+    same_content (trees_at v old) new (rows_at v old new known less kept)
 
 -- ---- the number of the first book, where no row said one
 
-granted_group : (names : Names) (is_open : Bool) (o : Option Group)
-    → option_map (stored_group_in names is_open (if is_reserved o then Some 1 else None)) o
-    ≡ option_map (stored_group_in names is_open None) o
-granted_group names is_open None = refl
-granted_group names is_open (Some x) = at x.periods
+-- no reservation of version 1 has one
+no_grant : (trees : Trees) (a s : List ℕ) (g : ℕ)
+    → ((content_at 1 trees).rows a).grant_books s g ≡ None
+no_grant trees a s g =
+    ap (option_map values.grant_book_in)
+    (none_stored table.grant_books (trees_at 1 trees) refl (values.group_key a s g))
+
+granted_group : (names : Names) (is_open : Bool) (n : Option ℕ) (o : Option Group) → n ≡ None
+    → option_map (stored_group_in names is_open (if is_reserved o then Some 1 else n)) o
+    ≡ option_map (stored_group_in names is_open n) o
+granted_group names is_open n None none = refl
+granted_group names is_open n (Some x) none =
+    subst (λ m. option_map (stored_group_in names is_open (if is_some x.periods then Some 1 else m))
+    (Some x) ≡ option_map (stored_group_in names is_open m) (Some x)) (sym none) (at x.periods)
   where
     at : (p : Option PeriodNames)
         → Some (stored_group_in names is_open (if is_some p then Some 1 else None)
@@ -176,24 +94,22 @@ pub granted_1 : (names : Names) (trees : Trees)
 granted_1 names trees = λ i. record (tables_of names (content_at 1 trees)) {
   rows = λ a. record (told_rows names ((content_at 1 trees).rows a)) {
     groups = λ s g. granted_group names (is_open_row (((content_at 1 trees).rows a).sessions s))
-        (((content_at 1 trees).rows a).groups s g) i;
+        (((content_at 1 trees).rows a).grant_books s g)
+        (((content_at 1 trees).rows a).groups s g) (no_grant trees a s g) i;
   };
   answers = λ a k. granted_answer a k ((content_at 1 trees).rows a) i;
 }
 
 -- ---- what a migration makes of what the tables held
 
-meta_through : (p q : Bool) (w : TablesContent)
-    → (let second = if q then w else before_3 w in if p then second else before_2 second).meta
-    ≡ w.meta
-meta_through true true w = refl
-meta_through true false w = refl
-meta_through false true w = refl
-meta_through false false w = refl
-
 -- what is kept once is read as it stands
-pub meta_at : (v : ℕ) (trees : Trees) → (content_at v trees).meta ≡ (tables_content trees).meta
-meta_at v trees = meta_through (nat_le 2 v) (nat_le 3 v) (tables_content trees)
+pub meta_at : (v : ℕ) → IsVersion v → v < latest → (trees : Trees) →
+    (content_at v trees).meta ≡ (tables_content trees).meta
+meta_at zero known less trees = absurd (omega (arith, known.0))
+meta_at (suc zero) known less trees = refl
+meta_at (suc (suc zero)) known less trees = refl
+meta_at (suc (suc (suc n))) known less trees =
+    let low : suc (suc (suc n)) < 3 = less in absurd (omega (arith, low))
 
 -- the tables without what is kept once but for the moment
 same_last : (names : Names) (m : Meta) (c : TablesContent) → c.meta ≡ Some m
@@ -212,7 +128,9 @@ granted_tables (suc (suc (suc n))) known less names trees =
 granted_rows : (v : ℕ) → IsVersion v → v < latest → (trees : Trees)
     → AreGranted v (content_at v trees) (with_granted v (content_at v trees))
 granted_rows zero known less trees a s g = absurd (omega (arith, known.0))
-granted_rows (suc zero) known less trees a s g = refl
+granted_rows (suc zero) known less trees a s g =
+    ap (λ (n : Option ℕ). if is_reserved (((content_at 1 trees).rows a).groups s g) then Some 1
+    else n) (no_grant trees a s g)
 granted_rows (suc (suc zero)) known less trees a s g = refl
 granted_rows (suc (suc (suc n))) known less trees a s g =
     let low : suc (suc (suc n)) < 3 = less in absurd (omega (arith, low))
@@ -230,19 +148,23 @@ granted_books true c = refl
 granted_books false c = refl
 
 -- a reservation without a number is of the first book, and so it is with that number
-granted_terms : (names : Names) (o : Option Group) → has_terms names None o ≡ true
-    → has_terms names (if is_reserved o then Some 1 else None) o ≡ true
-granted_terms names None k = refl
-granted_terms names (Some x) k = at x.periods k
+granted_terms : (names : Names) (n : Option ℕ) (o : Option Group) → n ≡ None
+    → has_terms names n o ≡ true → has_terms names (if is_reserved o then Some 1 else n) o ≡ true
+granted_terms names n None none k = refl
+granted_terms names n (Some x) none k =
+    subst (λ m. has_terms names (if is_some x.periods then Some 1 else m) (Some x) ≡ true)
+    (sym none) (at x.periods (subst (λ m. has_terms names m (Some x) ≡ true) none k))
   where
     at : (p : Option PeriodNames) → are_terms names None p ≡ true →
         are_terms names (if is_some p then Some 1 else None) p ≡ true
     at None k = refl
     at (Some q) k = k
 
-granted_number : (o : Option Group) →
-    is_some {T = ℕ} (if is_reserved o then Some 1 else None) ≡ true → is_reserved o ≡ true
-granted_number o = at (is_reserved o)
+granted_number : (n : Option ℕ) (o : Option Group) → n ≡ None
+    → is_some (if is_reserved o then Some 1 else n) ≡ true → is_reserved o ≡ true
+granted_number n o none k =
+    at (is_reserved o)
+    (subst (λ m. is_some (if is_reserved o then Some 1 else m) ≡ true) none k)
   where
     at : (b : Bool) → is_some {T = ℕ} (if b then Some 1 else None) ≡ true → b ≡ true
     at true k = refl
@@ -257,9 +179,10 @@ tidy_first names trees t = record {
       let own : AreTidyRows names a ((content_at 1 trees).rows a) = t.rows a in
       record {
         live = own.live;
-        terms = λ s g. granted_terms names (((content_at 1 trees).rows a).groups s g)
-            (own.terms s g);
-        books = λ s g. granted_number (((content_at 1 trees).rows a).groups s g);
+        terms = λ s g. granted_terms names (((content_at 1 trees).rows a).grant_books s g)
+            (((content_at 1 trees).rows a).groups s g) (no_grant trees a s g) (own.terms s g);
+        books = λ s g. granted_number (((content_at 1 trees).rows a).grant_books s g)
+            (((content_at 1 trees).rows a).groups s g) (no_grant trees a s g);
         holds = own.holds;
         kinds = own.kinds;
         charges = own.charges;
@@ -300,7 +223,7 @@ module _ (v : ℕ) (known : IsVersion v) (less : v < latest) (old mid new : Tree
   becomes_latest = record {
     tables = λ names. ap (tables_of names) after
         ∙ same_last names m (with_granted v (content_at v old))
-        (granted_beside (nat_le 2 v) (content_at v old) ∙ meta_at v old ∙ is)
+        (granted_beside (nat_le 2 v) (content_at v old) ∙ meta_at v known less old ∙ is)
         ∙ granted_tables v known less names old;
     granted = λ a s g. ap (λ (c : TablesContent). (c.rows a).grant_books s g) after
         ∙ granted_rows v known less old a s g;

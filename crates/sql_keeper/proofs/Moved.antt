@@ -28,19 +28,18 @@ use Rattle.sql_keeper.specs.Finds.{FindsBooks, IsReadRuled, ReadsBooks}
 use Rattle.sql_keeper.specs.Inside.{IsClean, IsKeeper, KeeperState}
 use Rattle.sql_keeper.specs.Migrates.{BecomesLatest, BringsToLatest, FindsAny, FindsNone, HasAt}
 use Rattle.sql_keeper.specs.Migrates.{HasIdleAt, IsLeftLatest, IsMigrated, IsRuledVersion}
-use Rattle.sql_keeper.specs.Migrates.{FindsShelf, HasRuledRows, IsHeldBy, IsShelfAt, MigratesRuled}
-use Rattle.sql_keeper.specs.Migrates.{MigratesTables, ReadsShelf}
-use Rattle.sql_keeper.specs.Causes.{IsOtherThan, IsUnruledMeta, KeepsVersion}
+use Rattle.sql_keeper.specs.Migrates.{HasRuledRows, IsHeldBy, MigratesRuled}
+use Rattle.sql_keeper.specs.Migrates.{MigratesTables}
+use Rattle.sql_keeper.specs.Causes.{IsOtherThan}
 use Rattle.sql_keeper.specs.Left.{IsLeftRuled}
 use Rattle.sql_keeper.specs.Opened.{IsOpened}
 use Rattle.sql_keeper.specs.RuledOpening.{FindsRuled}
-use Rattle.sql_keeper.specs.OlderVersions.{AsksVersion, IsNotLatest}
 use Rattle.sql_keeper.specs.Shelves.{IsShelfOf}
 use Rattle.sql_keeper.specs.declared.books.ReadBooks.{ReadBooks}
 use Rattle.sql_keeper.proofs.Opens.{finds_books, fresh, opened}
 use Rattle.sql_keeper.proofs.Made.{ruled_read}
 use Rattle.sql_keeper.proofs.Opens.{reads_survived}
-use Rattle.sql_keeper.proofs.RuledOpening.{rows_told, ruled_schema}
+use Rattle.sql_keeper.proofs.RuledOpening.{rows_told, ruled_schema, spared_after}
 
 -- ---- a transaction is begun
 
@@ -125,70 +124,6 @@ module _ {S : Type 0} (g : Ghosts S) (old begun : Held S)
       survives = survives_weaker (state g old) new (λ _. ⊥)
           (IsLeftLatest v (state g old).now.trees) (λ clean db no. absurd no)
           (survives_to b.brings.survives ends);
-    }
-
-    -- its shelf is read within it
-    pub shelf_found : (r : ReadBooks) → ReadsShelf v (state g begun) mid (Ok r)
-        → (HasCleanDisk new → IsRolledBack mid new) → Survives mid new (λ _. ⊥)
-        → FindsShelf v (state g old) new (Ok r)
-    shelf_found r s rolled ends = record {
-      shelf = λ clean. subst (λ (d : Database). IsShelfAt v d.trees r) same_now
-          (s.shelf (mid_clean ends clean));
-      still = λ clean. undone (was_clean s.survives ends clean) (s.kept (mid_clean ends clean))
-          (rolled clean);
-      version = λ clean. tt;
-      rules = λ clean. tt;
-      other = tt;
-      survives = survives_to s.survives ends;
-    }
-
-    -- it isn't
-    pub shelf_not_found : (e : OpenFault) → ReadsShelf v (state g begun) mid (Err e)
-        → (HasCleanDisk new → IsRolledBack mid new) → Survives mid new (λ _. ⊥)
-        → FindsShelf v (state g old) new (Err e)
-    shelf_not_found e s rolled ends = record {
-      shelf = λ clean. tt;
-      still = λ clean. undone (was_clean s.survives ends clean) (s.kept (mid_clean ends clean))
-          (rolled clean);
-      version = λ clean is. subst (λ (d : Database). IsOtherThan v d.trees) same_now
-          (s.version (mid_clean ends clean) is);
-      rules = λ clean is ruled. s.rules (mid_clean ends clean) is
-          (subst (λ (d : Database). IsRuledVersion v d.trees) (sym same_now) ruled);
-      other = s.other;
-      survives = survives_to s.survives ends;
-    }
-
-    -- the version of the tables is kept
-    pub asked_older : {A : Type 0} (u : A)
-        → AsksVersion {A = A} v (state g begun) mid (Ok u)
-        → (HasCleanDisk new → IsRolledBack mid new) → Survives mid new (λ _. ⊥)
-        → IsNotLatest v (state g old) new Older
-    asked_older u asks rolled ends = record {
-      older = λ clean is. subst (λ (d : Database). KeepsVersion v d.trees) same_now
-          (asks.keeps (mid_clean ends clean));
-      version = λ clean is. absurd (let no : Older ≡ Version = is in cc);
-      rules = λ clean is. absurd (let no : Older ≡ Rules = is in cc);
-      ours = λ is. let no : Older ≡ Foreign = is in cc;
-      still = λ clean. undone (was_clean asks.survives ends clean)
-          (asks.kept (mid_clean ends clean)) (rolled clean);
-      survives = survives_to asks.survives ends;
-    }
-
-    -- a fault says why not
-    pub asked_fault : {A : Type 0} (e : OpenFault)
-        → AsksVersion {A = A} v (state g begun) mid (Err e)
-        → (HasCleanDisk new → IsRolledBack mid new) → Survives mid new (λ _. ⊥)
-        → IsNotLatest v (state g old) new e
-    asked_fault e asks rolled ends = record {
-      older = λ clean is. absurd (asks.other.1 is);
-      version = λ clean is. subst (λ (d : Database). IsOtherThan v d.trees) same_now
-          (asks.version (mid_clean ends clean) is);
-      rules = λ clean is. subst (λ (d : Database). IsUnruledMeta d.trees) same_now
-          (asks.rules (mid_clean ends clean) is);
-      ours = asks.other.0;
-      still = λ clean. undone (was_clean asks.survives ends clean)
-          (asks.kept (mid_clean ends clean)) (rolled clean);
-      survives = survives_to asks.survives ends;
     }
 
     module _ (r : ReadBooks) (b : BringsToLatest v (state g begun) mid (Ok r))
@@ -308,13 +243,24 @@ module _ (v : ℕ) (old mid new : State) (found : HasCleanDisk mid → IsFound v
   schema_was clean =
       ap (λ (d : Database). d.schema) (sym (same_at clean)) ∙ (found clean).schema
 
+  -- what stands since then stands as it was
+  still_since : HasCleanDisk mid → IsStill mid new → IsStill old new
+  still_since clean s =
+      let first = (found clean).unchanged.0 in
+      record {
+        was_open = first.was_open;
+        now_is = s.now_is ∙ first.now_is;
+        committed_is = s.committed_is ∙ first.committed_is;
+      }
+
   none_from : (e : OpenFault) → (HasCleanDisk new → HasCleanDisk mid)
       → (HasCleanDisk new → e ≡ Version → IsOtherThan v mid.now.trees)
       → (HasCleanDisk new → e ≡ Rules → ¬ IsRuledVersion v mid.now.trees)
       → (¬ (e ≡ Foreign)) × (¬ (e ≡ Older))
+      → (HasCleanDisk new → IsTrue new.is_open → IsStill mid new)
       → Survives old new (λ db. (n : ℕ) × IsVersion n × IsLeftLatest n old.now.trees db)
       → FindsNone old new e
-  none_from e was version rules other survives = record {
+  none_from e was version rules other still survives = record {
     survives = survives;
     foreign = λ clean is. absurd (other.0 is);
     version = λ clean is. (
@@ -331,6 +277,7 @@ module _ (v : ℕ) (old mid new : State) (found : HasCleanDisk mid → IsFound v
           (sym (same_at (was clean))) ruled),
     );
     newer = other.1;
+    still = λ clean on. still_since (was clean) (still clean on);
   }
 
   -- it was migrated, or not
@@ -374,6 +321,7 @@ module _ (v : ℕ) (old mid new : State) (found : HasCleanDisk mid → IsFound v
     )
     any_migrated (Err e) m =
         none_from e (λ clean. omega (arith, m.survives.clean, clean)) m.version m.rules m.other
+        m.still
         (survives_then old mid new (λ _. ⊥) (IsLeftLatest v mid.now.trees)
         (λ db. (n : ℕ) × IsVersion n × IsLeftLatest n old.now.trees db)
         (λ clean db no. absurd no)
@@ -402,7 +350,7 @@ module _ (v : ℕ) (old mid new : State) (same : v ≡ latest)
       let r = subst (λ n. IsRuledVersion n mid.now.trees) same ruled in
       let told = reads.rules clean is r.row r.is r.ruled in
       told.2 (r.shelf told.0))
-      reads.ours
+      reads.ours reads.only.still
       (survives_weaker old new (λ _. ⊥)
       (λ db. (n : ℕ) × IsVersion n × IsLeftLatest n old.now.trees db) (λ clean db no. absurd no)
       (reads_survived v old mid new found one reads.only reads.survives))
@@ -454,6 +402,8 @@ module _ (v : ℕ) (old mid new : State) (same : v ≡ latest)
                 it.0.books)),
           );
       newer = tells.told.latest;
+      still = λ clean. spared_after old new last r latest_found
+          (omega (arith, tells.survives.clean, clean)) (tells.spares clean);
     }
 
     -- the schema that the rows are read over
@@ -467,9 +417,10 @@ any_err old new r f e is same b = subst (λ x. FindsAny old new x) (sym (is ∙ 
 
 -- no tables were found
 pub any_none : (old new : State) (e : OpenFault) → IsNoVersion e
-    → (HasCleanDisk new → IsOpenFaultTold old.now e) → Survives old new (λ _. ⊥)
+    → (HasCleanDisk new → IsOpenFaultTold old.now e)
+    → (HasCleanDisk new → IsTrue new.is_open → IsStill old new) → Survives old new (λ _. ⊥)
     → FindsAny old new (Err e)
-any_none old new e told means survives = record {
+any_none old new e told means still survives = record {
   survives = survives_weaker old new (λ _. ⊥)
       (λ db. (n : ℕ) × IsVersion n × IsLeftLatest n old.now.trees db) (λ clean db no. absurd no)
       survives;
@@ -479,6 +430,7 @@ any_none old new e told means survives = record {
       let it = subst (IsOpenFaultTold old.now) is (means clean) in
       (it.0, it.1, it.2, λ ruled. it.3 ruled.stored);
   newer = told.1;
+  still = still;
 }
 
 -- ---- the keeper

@@ -1,5 +1,5 @@
 -- A migration whose rows are tested before: what is known of them at each step.
-use Rattle.std.proofs.Common.{◌≡◌, inl, inr, ◌∙◌, ap, sym, subst, ℕ, Some, arith}
+use Rattle.std.proofs.Common.{◌≡◌, inl, inr, ◌∙◌, ap, sym, subst, ℕ, Some, arith, IsTrue}
 use Rattle.std.proofs.lemmas.Option.{same_Some}
 use Rattle.std.specs.Prelude.{Ok, Err, Result}
 use Rattle.sqlite_trees.specs.Tree.{Trees}
@@ -8,7 +8,8 @@ use Rattle.sqlite.specs.State.{State, HasCleanDisk, IsUnchanged, Survives}
 use Rattle.sqlite.proofs.StateLemmas.{survives_then, survives_weaker}
 use Rattle.sql_tables.specs.Schema.{schema_at}
 use Rattle.sql_tables.specs.Stages.{AreStoredAt}
-use Rattle.sql_tables.specs.Statements.{IsStill}
+use Rattle.sql_tables.specs.Statements.{IsStill, Spares}
+use Rattle.sql_tables.proofs.Keeps.{spares_still}
 use Rattle.sql_tables.specs.declared.fault.OpenFault.{OpenFault}
 use Rattle.sql_tables.specs.declared.fault.OpenFault.TheVariants.{Foreign, Version, Rules, Older}
 use Rattle.sql_tables.specs.declared.fault.OpenFault.TheVariants.{Memory, Store}
@@ -122,6 +123,22 @@ nothing_left : (v : ℕ) (old new : State) → Survives old new (λ _. ⊥)
 nothing_left v old new s = survives_weaker old new (λ _. ⊥) (IsLeftLatest v old.now.trees)
     (λ clean db no. absurd no) s
 
+-- outside a transaction a failure leaves what stood as it was
+spared_since : (v : ℕ) (old mid new : State) → HasIdleAt v old
+    → (HasCleanDisk mid → HasCleanDisk old)
+    → (HasCleanDisk mid → IsTrue mid.is_open → IsStill old mid) → HasCleanDisk mid
+    → Spares mid new → IsTrue new.is_open → IsStill old new
+spared_since v old mid new idle was still clean spares on =
+    let s : IsStill mid new = spares_still mid new (λ on'.
+    let t = still clean on' in
+    t.now_is ∙ (idle (was clean) t.was_open).1 ∙ sym t.committed_is) spares on in
+    let t = still clean s.was_open in
+    record {
+      was_open = t.was_open;
+      now_is = s.now_is ∙ t.now_is;
+      committed_is = s.committed_is ∙ t.committed_is;
+    }
+
 pub unshelved : (v : ℕ) (old new : State) (e : OpenFault) → FindsShelf v old new (Err e)
     → MigratesRuled v old new (Err e)
 unshelved v old new e finds = record {
@@ -129,6 +146,7 @@ unshelved v old new e finds = record {
   version = finds.version;
   rules = finds.rules;
   other = finds.other;
+  still = finds.still;
   survives = nothing_left v old new finds.survives;
 }
 
@@ -137,9 +155,10 @@ not_stores e f (inl is) store memory same = store (sym same ∙ is)
 not_stores e f (inr is) store memory same = memory (sym same ∙ is)
 
 pub unasked : (v : ℕ) (old mid new : State) (r : ReadBooks) (e : OpenFault)
-    → FindsShelf v old mid (Ok r) → IsStores e → Survives mid new (λ _. ⊥)
+    → HasIdleAt v old → FindsShelf v old mid (Ok r) → IsStores e
+    → (HasCleanDisk new → Spares mid new) → Survives mid new (λ _. ⊥)
     → MigratesRuled v old new (Err e)
-unasked v old mid new r e finds store stops = record {
+unasked v old mid new r e idle finds store spares stops = record {
   moved = tt;
   version = λ clean is. absurd (not_stores e Version store (λ n. let no : Version ≡ Store = n in cc)
       (λ n. let no : Version ≡ Memory = n in cc) is);
@@ -151,13 +170,16 @@ unasked v old mid new r e finds store stops = record {
     not_stores e Older store (λ n. let no : Older ≡ Store = n in cc)
         (λ n. let no : Older ≡ Memory = n in cc),
   );
+  still = λ clean. spared_since v old mid new idle
+      (λ before. omega (arith, finds.survives.clean, before)) finds.still
+      (omega (arith, stops.clean, clean)) (spares clean);
   survives = nothing_left v old new (nothing_then old mid new finds.survives stops);
 }
 
 pub untested_rows : {A : Type 0} (v : ℕ) (old mid new : State) (r : ReadBooks) (e : OpenFault)
-    → HasAsked v old mid r → Tells {A = A} (AreRuled r.own v) mid new (Err e)
+    → HasIdleAt v old → HasAsked v old mid r → Tells {A = A} (AreRuled r.own v) mid new (Err e)
     → MigratesRuled v old new (Err e)
-untested_rows v old mid new r e has tells = record {
+untested_rows v old mid new r e idle has tells = record {
   moved = tt;
   version = λ clean is. absurd (tells.told.version is);
   rules = λ clean is ruled.
@@ -171,6 +193,9 @@ untested_rows v old mid new r e has tells = record {
       (subst (λ (d : Database). AreRuled r.own v d.trees) (sym (has.still before).now_is)
       (ruled.rows r.own own));
   other = (tells.told.ours, tells.told.latest);
+  still = λ clean. spared_since v old mid new idle
+      (λ before. omega (arith, has.survives.clean, before)) (λ before on. has.still before)
+      (omega (arith, tells.survives.clean, clean)) (tells.spares clean);
   survives = nothing_left v old new (nothing_then old mid new has.survives tells.survives);
 }
 
@@ -210,6 +235,7 @@ module _ (v : ℕ) (old mid new : State) (has : HasTested v old mid) where
     version = λ clean. tt;
     rules = λ clean. tt;
     other = tt;
+    still = λ clean on. tt;
     survives = left_since m.survives;
   }
   moved_ruled (Err e) m = record {
@@ -219,5 +245,13 @@ module _ (v : ℕ) (old mid new : State) (has : HasTested v old mid) where
     rules = λ clean is ruled. m.rules clean is (subst (λ (d : Database). IsRuledVersion v d.trees)
         (sym (now_since (omega (arith, m.survives.clean, clean)))) ruled);
     other = m.other;
+    still = λ clean on.
+        let t = has.still (omega (arith, m.survives.clean, clean)) in
+        let s = m.kept clean on in
+        record {
+          was_open = t.was_open;
+          now_is = s.now_is ∙ t.now_is;
+          committed_is = s.committed_is ∙ t.committed_is;
+        };
     survives = left_since m.survives;
   }

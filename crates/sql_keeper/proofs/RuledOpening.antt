@@ -1,5 +1,6 @@
 -- A database whose rows were read when it was opened, each once.
 use Rattle.std.proofs.Common.{◌≡◌, ◌<◌, inl, inr, ◌∙◌, ap, refl, sym, subst, ℕ, Some, arith, List}
+use Rattle.std.proofs.Common.{IsTrue}
 use Rattle.std.proofs.lemmas.Str.{IsUtf8-string_bytes}
 use Rattle.std.specs.Prelude.{Ok, Err}
 use Rattle.std.specs.Str.{IsUtf8}
@@ -88,6 +89,12 @@ module _ (old mid new : State) (r : ReadBooks) (finds : FindsBooks old mid (Ok r
         committed_is = last.committed_is ∙ first.committed_is;
       }
 
+  pub spared_after : HasCleanDisk mid → Spares mid new → IsTrue new.is_open → IsStill old new
+  spared_after clean spares on =
+      let open' = (finds.found clean).2 in
+      still_after clean
+      (spares_still mid new (λ was. (finds.idle clean open').settled) spares on)
+
   module _ (before : HasCleanDisk new → HasCleanDisk mid) (two : Survives mid new (λ _. ⊥)) where
     both_survive : Survives old new (λ _. ⊥)
     both_survive = survives_then old mid new (λ _. ⊥) (λ _. ⊥) (λ _. ⊥) (λ clean db no'. no')
@@ -102,11 +109,7 @@ module _ (old mid new : State) (r : ReadBooks) (finds : FindsBooks old mid (Ok r
       read = tt;
       idle = tt;
       cause = cause;
-      still = λ clean on.
-          let open' = (finds.found (before clean)).2 in
-          still_after (before clean)
-          (spares_still mid new (λ was. (finds.idle (before clean) open').settled) (spares clean)
-          on);
+      still = λ clean. spared_after (before clean) (spares clean);
       survives = both_survive;
     }
 

@@ -1,7 +1,7 @@
 -- What a connection is after it was tested whether it can still be asked.
 use Rattle.std.proofs.Common.{◌≡◌, inl, inr, ℕ, List, Ok, Err, Result, IsTrue, OnOk, false, []}
 use Rattle.std.proofs.Common.{sym, subst, arith, true≢false, IfOk}
-use Rattle.std.specs.Result.{IsErr}
+use Rattle.std.specs.Result.{IfErr, IsErr}
 use Rattle.sqlite_value.specs.Order.{Row}
 use Rattle.sqlite_trees.specs.Tree.{Trees}
 use Rattle.sqlite.specs.declared.error.Error.{Error}
@@ -21,6 +21,12 @@ not_run : (sql : List ℕ) (params : Row) (old new : State) (e : Error)
 unfolding IsNotRun
 not_run sql params old new e (inl h) = inl h.1
 not_run sql params old new e (inr h) = inr h.3
+
+pub asked_spares : {A : Type 0} (P : A → Type 0) (sql : List ℕ) (old new : State)
+    (r : Result A Error) → IfOk r (λ x. P x × IsUnchanged old new)
+    → IfErr r (λ e. (params : Row) → IsNotRun old new sql params e) → Spares old new
+asked_spares P sql old new (Ok x) ok err = inl ok.1
+asked_spares P sql old new (Err e) ok err = not_run sql [] old new e (err [])
 
 module _ (sql : List ℕ) (old new : State) (idle : HasIdleBook old)
     (survives : Survives old new (λ _. ⊥))

@@ -1,7 +1,8 @@
 -- A database of an older version, brought to the latest whole or not at all.
 -- Source: profile.
-use Rattle.std.specs.Prelude.{◌≡◌, ◌<◌, ℕ, List, Some, None, true, false, nat_le, if◌then◌else◌}
-use Rattle.std.specs.Prelude.{IsTrue, Result, Ok, Err, IfErr, IfOk, OnErr, OnOk}
+use Rattle.std.specs.Prelude.{◌≡◌, ◌<◌, ℕ, List, [], Some, None, true, nat_eq, nat_le}
+use Rattle.std.specs.Prelude.{if◌then◌else◌, IsTrue, Result, Ok, Err, IfErr, IfOk, OnErr, OnOk}
+use Rattle.std.specs.List.{list_any}
 use Rattle.std.specs.String.{string_bytes}
 use Rattle.units.specs.Words.{GroupId}
 use Rattle.identifiers.specs.Words.{SessionName, AccountName}
@@ -10,6 +11,7 @@ use Rattle.sql_tables.specs.Words.{TablesVersion}
 use Rattle.sqlite_trees.specs.declared.store.Store.{Ghosts}
 use Rattle.sqlite_trees.specs.Objects.{catalog_tree}
 use Rattle.sqlite_trees.specs.Tree.{Trees}
+use Rattle.sqlite_schema.specs.declared.schema.Table.{Table}
 use Rattle.sqlite_catalog.specs.Listing.{Lists}
 use Rattle.sqlite.specs.Held.{Held, state}
 use Rattle.sqlite.specs.State.{KeepsCommit, State, HasCleanDisk, Shows, Survives}
@@ -43,25 +45,14 @@ use Rattle.sql_keeper.specs.declared.books.ReadBooks.{ReadBooks}
 
 -- ---- what a database of a version holds
 
--- rows of an account without what version 2 adds, and without what version 3 does
-abbrev pub rows_before_2 : TableRows → TableRows
-rows_before_2 r = record r { grant_books = λ s g. None }
-
-abbrev pub rows_before_3 : TableRows → TableRows
-rows_before_3 r = record r { allowances = λ n. false; covered = λ n. None }
-
-abbrev pub before_2 : TablesContent → TablesContent
-before_2 c = record c { books = λ n. None; rows = λ a. rows_before_2 (c.rows a) }
-
-abbrev pub before_3 : TablesContent → TablesContent
-before_3 c = record c { rows = λ a. rows_before_3 (c.rows a) }
+-- the rows of the tables that a version has, and no row of another
+abbrev pub trees_at : TablesVersion → Trees → Trees
+trees_at v trees = λ t.
+    if list_any (λ (x : Table). nat_eq x.tree t) (schema_at v).tables then trees t else []
 
 -- the tables that a version hasn't are read as empty ones
 abbrev pub content_at : TablesVersion → Trees → TablesContent
-content_at v trees =
-    let whole = tables_content trees in
-    let second = if nat_le 3 v then whole else before_3 whole in
-    if nat_le 2 v then second else before_2 second
+content_at v trees = tables_content (trees_at v trees)
 
 -- ---- what a migration leaves
 
@@ -215,6 +206,7 @@ pub record MigratesRuled (v : TablesVersion) (old new : State)
   pub version : HasCleanDisk new → IfErr result (λ e. e ≡ Version → IsOtherThan v old.now.trees)
   pub rules : HasCleanDisk new → IfErr result (λ e. e ≡ Rules → ¬ IsRuledVersion v old.now.trees)
   pub other : IfErr result (λ e. (¬ (e ≡ Foreign)) × (¬ (e ≡ Older)))
+  pub still : HasCleanDisk new → IsTrue new.is_open → OnErr result (IsStill old new)
   pub survives : Survives old new (IsLeftLatest v old.now.trees)
 
 -- ---- how it ends
@@ -239,7 +231,8 @@ pub record IsMigrated {S : Type 0} (g : Ghosts S) (old : Held S) (k : KeeperStat
     pub survives : Survives (state g old) (state g k.connection)
         (λ db. IsLeftLatest version (state g old).now.trees db)
 
--- a stop leaves what it left before, or the whole migration
+-- a stop leaves what it left before, or the whole migration; while the connection is open it shows
+-- what it showed
 pub record FindsNone (old new : State) (fault : OpenFault) : Type 0 where
   pub survives : Survives old new (λ db. (v : TablesVersion) × IsVersion v ×
       IsLeftLatest v old.now.trees db)
@@ -252,6 +245,7 @@ pub record FindsNone (old new : State) (fault : OpenFault) : Type 0 where
       (v : TablesVersion) × IsVersion v × (old.now.schema ≡ schema_at v)
       × ¬ IsRuledVersion v old.now.trees
   pub newer : ¬ (fault ≡ Older)
+  pub still : HasCleanDisk new → IsTrue new.is_open → IsStill old new
 
 abbrev pub IsNotMigrated : {S : Type 0} → Ghosts S → Held S → Held S → OpenFault → Type 0
 IsNotMigrated g old new fault = FindsNone (state g old) (state g new) fault

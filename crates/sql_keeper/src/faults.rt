@@ -2,7 +2,7 @@
 
 ghost use Rattle.std.specs.Prelude.{◌≡◌, ◌≤◌, ◌+◌, min};
 ghost use Rattle.keepers.specs.Faults.{HasCause, max_failures};
-ghost use Rattle.sql_keeper.specs.Asks.{IsHanded};
+ghost use Rattle.sql_keeper.specs.Asks.{IsCounted, IsHanded, counted_once, is_memory, told_fault};
 
 use keepers::StoreFault;
 use sql_tables::ReadFault;
@@ -14,9 +14,20 @@ fn raise(failures: &mut u64)
     ensures bounded { failures.new ≤ max_failures }
     ensures kept { failures.old ≤ failures.new }
     ensures raised { min (failures.old + 1) max_failures ≤ failures.new }
+    ensures once { failures.new ≡ min (failures.old + 1) max_failures }
 {
     if *failures < 1_000_000_000_000_000_000 {
         *failures += 1;
+    }
+}
+
+/// Whether a statement failed for want of memory.
+fn is_memory(error: Error) -> bool
+    ensures { result ≡ is_memory error }
+{
+    match error {
+        Error::SqliteFailure(ErrorCode::OutOfMemory) => true,
+        _ => false,
     }
 }
 
@@ -27,11 +38,15 @@ fn fault_of(failures: &mut u64, fault: ReadFault) -> StoreFault
     ensures bounded { failures.new ≤ max_failures }
     ensures kept { failures.old ≤ failures.new }
     ensures cause { result ≡ StoreFault.Store → min (failures.old + 1) max_failures ≤ failures.new }
+    ensures told { result ≡ told_fault fault }
+    ensures once { failures.new ≡ counted_once failures.old result }
 {
     match fault {
         ReadFault::Memory => StoreFault::Memory,
-        ReadFault::Store(Error::SqliteFailure(ErrorCode::OutOfMemory)) => StoreFault::Memory,
-        ReadFault::Store(_) => {
+        ReadFault::Store(error) => {
+            if is_memory(error) {
+                return StoreFault::Memory;
+            }
             raise(failures);
             StoreFault::Store
         }
@@ -48,6 +63,7 @@ pub fn counted<T>(failures: &mut u64, read: Result<T, ReadFault>) -> Result<T, S
     ensures bounded { failures.new ≤ max_failures }
     ensures cause { HasCause failures.old failures.new result }
     ensures handed { IsHanded read result }
+    ensures once { IsCounted failures.old failures.new read result }
 {
     match read {
         Ok(value) => Ok(value),

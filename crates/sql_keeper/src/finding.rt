@@ -4,7 +4,7 @@ ghost use Rattle.std.specs.Prelude.{◌≡◌, Ok, Some, IfOk, option_map, optio
 ghost use Rattle.std.specs.Prelude.{string_bytes};
 ghost use Rattle.wire.specs.Contents.{content_of};
 ghost use Rattle.wire.specs.ReadingAnswers.{answer_of};
-ghost use Rattle.sql_keeper.specs.Asks.{Asks};
+ghost use Rattle.sql_keeper.specs.Asks.{Asks, text_fault};
 ghost use Rattle.sql_keeper.specs.Content.{answer_in, kept_in, texts_of_key};
 ghost use Rattle.sql_rows.specs.Content.{rows_in};
 ghost use Rattle.sql_rows.specs.Texts.{kept_of};
@@ -26,7 +26,9 @@ use std::alloc::Global;
 use wire::{WrittenAnswer, read_content};
 
 /// Why a text isn't read: it is out of the rules, or memory ran out.
-fn fault_of(fault: WireFault) -> ReadFault {
+fn fault_of(fault: WireFault) -> ReadFault
+    ensures { result ≡ text_fault fault }
+{
     match fault {
         WireFault::Memory => ReadFault::Memory,
         _ => ReadFault::Rules,

@@ -271,7 +271,8 @@ impl<S: Alter> SqlKeeper<S> {
     /// or the whole migration. One of the latest version is left as it is.
     ///
     /// # Errors
-    /// The connection is given back, and nothing is committed but where the commit itself failed.
+    /// The connection is given back; while it is open it shows what it showed, and nothing is
+    /// committed but where the commit itself failed.
     /// `Foreign`, the tables aren't exactly those of a version of this system, and only then;
     /// `Version`, another version is kept than that of the tables, and only then; `Rules`, a rowid
     /// stands twice, or a row that is read is out of its rules, and only then; `Store`, also where

@@ -4,6 +4,7 @@
 ghost use Rattle.std.specs.Prelude.{◌≡◌, ◌<◌, false, IfErr, OnOk};
 ghost use Rattle.sql_tables.specs.Opens.{IsVersion};
 ghost use Rattle.sql_tables.specs.Schema.{latest};
+ghost use Rattle.sql_tables.specs.Statements.{Spares};
 ghost use Rattle.sql_keeper.specs.Causes.{IsStores};
 ghost use Rattle.sql_keeper.specs.Migrates.{FindsShelf, HasAt, HasIdleAt, ReadsShelf};
 ghost use Rattle.sqlite.specs.Held.{state};
@@ -53,10 +54,13 @@ pub(crate) fn older_shelf<S: Alter>(
 }
 
 /// Tests that the connection can still be asked.
+#[tactic(auto, using(crate::proofs::StillOpen::asked_spares))]
 pub(crate) fn ask_open<S: Alter>(conn: &mut Connection<S>) -> Result<(), OpenFault>
     ensures same { HasCleanDisk (state S.Store conn.new) →
         OnOk result (IsUnchanged (state S.Store conn.old) (state S.Store conn.new)) }
     ensures told { IfErr result IsStores }
+    ensures spares { HasCleanDisk (state S.Store conn.new) →
+        Spares (state S.Store conn.old) (state S.Store conn.new) }
     ensures survives { Survives (state S.Store conn.old) (state S.Store conn.new) (λ _. ⊥) }
 {
     conn.prepare("SELECT 1").map_err(open_fault)?;

@@ -36,7 +36,8 @@ fn first_number(head: &Option<HeadColumns>) -> u64
 
 /// Whether charges are numbered one after another, from one number to below the next.
 pub(crate) fn are_numbered(charges: &[ChargeRow], from: u64, next: u64) -> bool
-    ensures { IsTrue result → AreNumbered from next charges.now }
+    ensures told { IsTrue result → AreNumbered from next charges.now }
+    ensures back { AreNumbered from next charges.now → IsTrue result }
 {
     let mut number = from;
     'charges: for charge in charges {
@@ -61,8 +62,12 @@ fn is_open(sessions: &[Session], id: &SessionId) -> bool
 }
 
 /// Whether the book of a number has a name for a period.
+#[tactic(auto, using(crate::proofs::Writable::no_book))]
 fn is_named(books: &TariffShelf, number: u8, period: Period) -> bool
-    ensures { IsTrue result → IsPeriodNamed (names_numbered (shelf_names books.now) number) period }
+    ensures told { IsTrue result →
+        IsPeriodNamed (names_numbered (shelf_names books.now) number) period }
+    ensures back { IsPeriodNamed (names_numbered (shelf_names books.now) number) period →
+        IsTrue result }
 {
     match books.book(number) {
         None => false,
@@ -78,8 +83,10 @@ fn is_writable(
     session: &SessionId,
     reservation: &Reservation,
 ) -> bool
-    ensures { IsTrue result →
+    ensures told { IsTrue result →
         IsWritable (shelf_names books.now) sessions.now session.now reservation.now }
+    ensures back { IsWritable (shelf_names books.now) sessions.now session.now reservation.now →
+        IsTrue result }
 {
     // For the prover alone: looking at the value makes known here what its type keeps.
     let _holds = reservation.holds.as_slice();
@@ -90,8 +97,10 @@ fn is_writable(
 }
 
 fn may_stand(books: &TariffShelf, sessions: &[Session], row: &SessionGroup) -> bool
-    ensures { IsTrue result →
+    ensures told { IsTrue result →
         MayStand (shelf_names books.now) sessions.now row.now.session row.now.reservation }
+    ensures back { MayStand (shelf_names books.now) sessions.now row.now.session
+        row.now.reservation → IsTrue result }
 {
     match &row.reservation {
         None => true,
@@ -105,7 +114,8 @@ pub(crate) fn are_writable(
     sessions: &[Session],
     groups: &[SessionGroup],
 ) -> bool
-    ensures { IsTrue result → AreWritable (shelf_names books.now) sessions.now groups.now }
+    ensures told { IsTrue result → AreWritable (shelf_names books.now) sessions.now groups.now }
+    ensures back { AreWritable (shelf_names books.now) sessions.now groups.now → IsTrue result }
 {
     'groups: for group in groups {
         if !may_stand(books, sessions, group) {
@@ -118,6 +128,7 @@ pub(crate) fn are_writable(
 /// Whether a change may be written over an account with this head, so that what is written reads as
 /// the change: each reservation stands in an open session that is named with it, with periods that
 /// have names in its book, the charges are numbered on, and each row is in the rules of its table.
+/// It may exactly then.
 pub fn may_be_written(books: &TariffShelf, head: &Option<HeadColumns>, change: &Change) -> bool
     ensures reservations { IsTrue result →
         AreWritable (shelf_names books.now) change.now.rows.sessions change.now.rows.groups }
@@ -125,6 +136,9 @@ pub fn may_be_written(books: &TariffShelf, head: &Option<HeadColumns>, change: &
         AreNumbered (first_number head.now) change.now.rows.next_charge change.now.charges.items }
     ensures rules { IsTrue result →
         IsTrue (is_ruled_change (shelf_names books.now) change.now) }
+    ensures back { AreWritable (shelf_names books.now) change.now.rows.sessions change.now.rows.groups →
+        AreNumbered (first_number head.now) change.now.rows.next_charge change.now.charges.items →
+        IsTrue (is_ruled_change (shelf_names books.now) change.now) → IsTrue result }
 {
     let rows = &change.rows;
     are_writable(books, rows.sessions(), rows.groups())

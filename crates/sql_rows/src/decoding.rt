@@ -54,11 +54,7 @@ pub(crate) fn session_at(alloc: Global, row: &Row, at: usize) -> Result<SessionI
         ¬ (column row.now at ≡ Text s)) }
 {
     let name = text_at(row, at)?;
-    match SessionId::new(alloc, &name) {
-        Ok(Some(session)) => Ok(session),
-        Ok(None) => Err(ReadFault::Rules),
-        Err(_) => Err(ReadFault::Memory),
-    }
+    SessionId::new(alloc, &name)?.ok_or(ReadFault::Rules)
 }
 
 /// The account's number in a column, none where it is NULL.
@@ -82,11 +78,7 @@ pub(crate) fn account_at(alloc: Global, row: &Row, at: usize) -> Result<AccountN
         ¬ (column row.now at ≡ Text a)) }
 {
     let number = text_at(row, at)?;
-    match AccountNumber::new(alloc, &number) {
-        Ok(Some(account)) => Ok(account),
-        Ok(None) => Err(ReadFault::Rules),
-        Err(_) => Err(ReadFault::Memory),
-    }
+    AccountNumber::new(alloc, &number)?.ok_or(ReadFault::Rules)
 }
 
 /// The state of a session in a column.

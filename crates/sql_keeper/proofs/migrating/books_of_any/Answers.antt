@@ -11,7 +11,7 @@ returns-in_err-version-clause-finds g c =
     let p = err_from_is_err_and c.from_residual.result c.from_residual.ensures.1 in
     any_err _ _ _ p.0 _ p.1 p.2
     (any_none _ _ _ c.in_err-version.ensures.told c.in_err-version.ensures.means
-    c.in_err-version.ensures.survives)
+    c.in_err-version.ensures.still c.in_err-version.ensures.survives)
 
 pub migrate_ruled-requires-clause-known : goal.migrate_ruled-requires-clause-known
 migrate_ruled-requires-clause-known g c = (

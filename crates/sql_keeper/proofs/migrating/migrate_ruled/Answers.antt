@@ -13,8 +13,9 @@ pub returns-in_err-ask_open-clause-migrates : goal.returns-in_err-ask_open-claus
 returns-in_err-ask_open-clause-migrates g c =
     let p = err_from_is_err_and c.from_residual-in_err-ask_open.result
     c.from_residual-in_err-ask_open.ensures.1 in
-    ruled_err _ _ _ _ p.0 _ p.1 p.2 (unasked _ _ _ _ c.in_ok-read.read _
-    c.in_ok-read.ensures.finds c.in_err-ask_open.ensures.told c.in_err-ask_open.ensures.survives)
+    ruled_err _ _ _ _ p.0 _ p.1 p.2 (unasked _ _ _ _ c.in_ok-read.read _ c.requires.at
+    c.in_ok-read.ensures.finds c.in_err-ask_open.ensures.told c.in_err-ask_open.ensures.spares
+    c.in_err-ask_open.ensures.survives)
 
 pub test_rows-requires-clause-known : goal.test_rows-requires-clause-known
 test_rows-requires-clause-known g c = c.requires.known.0
@@ -30,7 +31,7 @@ pub returns-in_err-test_rows-clause-migrates : goal.returns-in_err-test_rows-cla
 returns-in_err-test_rows-clause-migrates g c =
     let p = err_from_is_err_and c.from_residual-in_err-test_rows.result
     c.from_residual-in_err-test_rows.ensures.1 in
-    ruled_err _ _ _ _ p.0 _ p.1 p.2 (untested_rows _ _ _ _ c.in_ok-read.read _
+    ruled_err _ _ _ _ p.0 _ p.1 p.2 (untested_rows _ _ _ _ c.in_ok-read.read _ c.requires.at
     (asked _ _ _ _ c.in_ok-read.read c.in_ok-read.ensures.finds c.in_ok-ask_open.ensures.same
     c.in_ok-ask_open.ensures.survives) c.in_err-test_rows.ensures.tells)
 

@@ -5,5 +5,7 @@ use Rattle.sql_keeper.proofs.testing.are_writable.Given as goal
 
 abbrev pub invariant-groups : goal.invariant-groups
 invariant-groups l =
-    AreWritable (shelf_names l.books) l.sessions (drop l.group-index l.groups) →
-    AreWritable (shelf_names l.books) l.sessions l.groups
+    (AreWritable (shelf_names l.books) l.sessions (drop l.group-index l.groups) →
+    AreWritable (shelf_names l.books) l.sessions l.groups)
+    × (AreWritable (shelf_names l.books) l.sessions l.groups →
+    AreWritable (shelf_names l.books) l.sessions (drop l.group-index l.groups))
