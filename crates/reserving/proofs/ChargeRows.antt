@@ -156,7 +156,7 @@ charge_rows-reported b t s g p ps ledger =
 
 -- ---- the rows, with what the calls answer
 
--- the row that an answer tells
+-- the row of an answer
 abbrev pub told_row : (n t : ℕ) (s : List ℕ) (g : ℕ) → Settled → ChargeRow
 told_row n t s g x = record {
   number = n;
@@ -186,7 +186,7 @@ told_is n t s g blocks due left x eb ev er eu ec = λ i. record {
   uncollected = record { 0 = sym eu i };
 }
 
--- a settled report adds the row that its answer tells
+-- a settled report adds the row of its answer
 pub charge_rows-settlement : (b : Shelf) (t n : ℕ) (s : List ℕ) (g : ℕ) (p : UsedPart)
     (ps : List UsedPart) (ledger : Ledger) (x : Settled) → n ≡ next_charge ledger →
     IsSettlementOf b t s g (p ∷ ps) ledger x →

@@ -1,4 +1,4 @@
--- What a row that is found by its key tells, and what is written to it.
+-- What a row that is found by its key says, and what is written to it.
 use Rattle.std.proofs.Common.{◌≡◌, ℕ, Bool, true, false, cond, List, [], ◌∷◌, map, get_or}
 use Rattle.std.proofs.Common.{set, refl, sym, ap, subst, ◌∙◌, arith, Option, Some, None}
 use Rattle.std.specs.Prelude.{if◌then◌else◌, is_some, unwrap_or, option_map, position, not, ◌&&◌}

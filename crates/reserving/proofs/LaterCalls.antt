@@ -94,7 +94,7 @@ module _ (from : ℕ) (b u : Shelf) (on : GoesOnFrom from b u) (t : ℕ) (early 
     cycles g x lt =
         ap (λ (y : Book). cycle_with y.calendar.zone (tariff_of y g) x) (sym (on.before x lt).book)
 
-    -- the buckets stand alike
+    -- the buckets are alike
     pub rows_same : buckets_at (validity_of b) t ledger ≡ buckets_at (validity_of u) t ledger
     rows_same = buckets_same from (validity_of b) (validity_of u) t ledger valid before
 

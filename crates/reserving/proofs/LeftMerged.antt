@@ -74,7 +74,7 @@ pub each_both : (P Q R : BucketRow → Type 0) (xs : List BucketRow) →
 each_both P Q R [] k h g = tt
 each_both P Q R (x ∷ xs) k h g = (k x h.0 g.0, each_both P Q R xs k h.1 g.1)
 
--- dead buckets stand before none, as far as money goes
+-- dead buckets are before none, as far as money goes
 pub before_merged : (f : BucketRow → ℕ) (left rows : List BucketRow) (b : BucketRow) →
     Each (λ x. f x ≡ 0) left →
     sum_before f b (merged left rows) ≡ sum_before f b rows

@@ -1,4 +1,4 @@
--- What a session has of rating groups stands together, where groups stand in the order of their
+-- What a session has of rating groups is together, where groups are in the order of their
 -- keys.
 use Rattle.std.proofs.Common.{◌≡◌, ℕ, zero, suc, ◌<◌, ◌≤◌, ◌-◌, Bool, true, false, cond, List, []}
 use Rattle.std.proofs.Common.{◌∷◌, length, get_or, drop, take, refl, sym, ap, subst, ◌∙◌, arith}

@@ -80,7 +80,7 @@ before_other b t s g h (p ∷ ps) ledger e =
           (due_of price) ledger;
     }
 
--- what is covered of a report's blocks doesn't tell how many they are
+-- what is covered of a report's blocks doesn't say how many they are
 pub blocks_alike : (o : Option GroupTariff) (p : Periods) (before place c d : ℕ)
     (parts : List UsedPart) →
     (rated_with o p before place c parts).blocks ≡ (rated_with o p before place d parts).blocks

@@ -259,7 +259,7 @@ quota_by b before g requested periods place money free units grant q f =
     (sym f.known) wanted
     most is greatest within)
 
--- ---- the greatest grant, told from the rows and from the ledger
+-- ---- the greatest grant, by the rows and by the ledger
 
 abbrev pub QuotaOf : AccountRows → List ℕ → ℕ → ℕ → Option ℕ → ℕ → Grant → Type 0
 QuotaOf a s g t requested units grant =

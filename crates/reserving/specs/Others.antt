@@ -16,7 +16,7 @@ use Rattle.reserving.specs.Changes.{is_other, lapse}
 use Rattle.ledger.specs.Lists.{EachIn}
 use Rattle.reserving.specs.Rows.{AccountRows}
 
--- the rows of the sessions beside one, with the shelf that tells their validity
+-- the rows of the sessions beside one, with the shelf that says their validity
 pub record OtherRows : Type 0 where
   pub shelf : Shelf
   pub sessions : List Session
@@ -47,7 +47,7 @@ pub record AreStill (t : Moment) (rows : OtherRows) : Type 0 where
 abbrev pub own_sessions : SessionName → List Session → List Session
 own_sessions s rows = filter (is_session s) rows
 
--- where groups stand in the order of their keys, its own are behind those of earlier sessions and
+-- where groups are in the order of their keys, its own are behind those of earlier sessions and
 -- before those of later ones
 
 abbrev pub own_groups : SessionName → List SessionGroup → List SessionGroup

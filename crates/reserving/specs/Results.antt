@@ -1,4 +1,4 @@
--- What settlements and grants answer, as a ledger tells it.
+-- What settlements and grants answer, by the ledger.
 -- Source: RFC 8506 sections 5.2 to 5.4; TS 32.299, session charging with unit reservation.
 use Rattle.std.specs.Prelude.{◌≡◌, ◌+◌, ◌-◌, ◌<◌, ◌≤◌, Bool, true, false, nat_lt, List, Option}
 use Rattle.std.specs.Prelude.{None}

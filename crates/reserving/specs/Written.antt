@@ -61,7 +61,7 @@ are_held_on named rows (x ∷ xs) [] = false
 are_held_on named rows (x ∷ xs) (y ∷ ys) =
     is_held_on named rows x y && are_held_on named rows xs ys
 
--- the rows that are written stand in the order of their keys, and keep what is held
+-- the rows that are written are in the order of their keys, and keep what is held
 abbrev pub is_writable : StoredRows → StoredRows → Bool
 is_writable w v =
     are_keys_ascending w && are_in_range w

@@ -32,7 +32,7 @@ use identifiers::SessionId;
 use std::alloc::AllocError;
 
 impl StoredAccount {
-    /// Whether these rows can be written over the account's own: each stands before the next, each
+    /// Whether these rows can be written over the account's own: each is before the next, each
     /// number is in its range, no bucket is new or gone, and of each as much is reserved as is held
     /// of it from then on. They are an account's rows then. Rows that are named aren't compared
     /// with any other.

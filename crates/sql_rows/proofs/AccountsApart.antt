@@ -1,4 +1,4 @@
--- No account is told twice.
+-- No account is listed twice.
 use Rattle.std.proofs.Common.{◌≡◌, inl, inr, ℕ, List, [], ◌∷◌, map, Bool, true, false, is_eq, refl}
 use Rattle.std.proofs.Common.{sym, ap, subst, ◌∙◌, true≢false, Ordering, Less, Equal, Greater}
 use Rattle.std.specs.Prelude.{filter}

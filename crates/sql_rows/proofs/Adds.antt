@@ -167,7 +167,7 @@ pub record IsThere (table : Table) (values : Row) (old new : Trees) (count : ℕ
   pub same : new ≡ old
   pub none : count ≡ 0
 
--- what the statement does, and how many rows it tells
+-- what the statement does, and how many rows it reports
 pub record AddsRow (table : Table) (values : Row) (old new : State) (count : ℕ) : Type 0 where
   pub adds : IsAdded table values old.now.trees new.now.trees count
       ⊎ IsThere table values old.now.trees new.now.trees count

@@ -1,5 +1,5 @@
 -- The books after the first, as they are read: where each is in its rules, no fault of the rules is
--- told of them.
+-- reported.
 use Rattle.std.proofs.Common.{◌≡◌, inl, inr, ℕ, List, [], ◌∷◌, map, drop, true}
 use Rattle.std.proofs.Common.{false, ◌&&◌, Some, None, Option, is_eq, refl, ap, ap₂, ◌∙◌}
 use Rattle.std.specs.Prelude.{option_map}

@@ -1,4 +1,4 @@
--- A stored bucket has numbers in the columns that tell what is left of it.
+-- A stored bucket has numbers in the columns that say what is left of it.
 use Rattle.std.proofs.Common.{◌≡◌, ℕ, [], ◌∷◌, drop, Bool, true, false, not, ◌&&◌, None, codes}
 use Rattle.std.proofs.lemmas.Bool.{and_parts}
 use Rattle.sqlite_value.specs.declared.value.Value.{Value}

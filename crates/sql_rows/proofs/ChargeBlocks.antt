@@ -1,4 +1,4 @@
--- Covered blocks stand beside a charge.
+-- Covered blocks are beside a charge.
 use Rattle.std.specs.Prelude.{codes, is_some}
 use Rattle.std.proofs.Common.{◌≡◌, inl, inr, ℕ, List, [], ◌∷◌, true, Some, None, Option}
 use Rattle.std.proofs.Common.{refl, sym, ap, ◌∙◌, option_map}

@@ -1,4 +1,4 @@
--- What is kept once, as it is read: where it is in its rules, no fault of the rules is told of it.
+-- What is kept once, as it is read: where it is in its rules, no fault of the rules is reported.
 use Rattle.std.proofs.Common.{◌≡◌, inl, inr, ℕ, pos, negsuc, List, [], ◌∷◌, map, drop, Bool}
 use Rattle.std.proofs.Common.{true, false, not, ◌&&◌, Some, None, Option, refl, sym, ap, ap₂, subst}
 use Rattle.std.proofs.Common.{◌∙◌}

@@ -145,7 +145,7 @@ module _ (t : ℕ) where
     pub fits : Fits book_schema new
 
   module _ (old new : Trees) (fits : Fits book_schema old) (stored : IsStored (old 0)) where
-    -- a row stands under the key
+    -- a row is under the key
     found : (r : Row) → Has (old 0) r → test r ≡ true
         → (tables_content old).meta ≡ Some (meta_in (drop 1 r))
     found r has same =

@@ -1,4 +1,4 @@
--- Reservations as they are read: where each is in its rules, no fault of the rules is told of them.
+-- Reservations as they are read: where each is in its rules, no fault of the rules is reported.
 use Rattle.std.proofs.Common.{◌≡◌, inl, inr, ℕ, List, [], ◌∷◌, map, drop, Bool, true, false, ◌&&◌}
 use Rattle.std.proofs.Common.{Some, None, is_eq, refl, sym, ap, ap₂, subst, ◌∙◌, arith, eqb-true}
 use Rattle.std.proofs.Common.{IsTrue, length, nat_eq, nat_le, ◌<◌, zero, suc}
@@ -146,7 +146,7 @@ under_key trees fits stored r h a s g of_account of_session of_group =
 
 -- ---- the rows that are read
 
--- the reservation stands in the tables
+-- the reservation is in the tables
 record StandsIn (trees : Trees) (x : ReservedAt) : Type 0 where
   there : has_reservation (((tables_content trees).rows x.account).groups x.session x.group) ≡ true
   reserved : x.reserved ≡ true

@@ -6,7 +6,7 @@ use Rattle.sqlite_value.specs.Order.{Row}
 use Rattle.sqlite_rules.specs.Lists.{Has}
 
 module _ {X : Type 0} (cells : X → Row) where
-  -- the row of a selection is that of a value which stands in the tables
+  -- the row of a selection is that of a value which is in the tables
   pub record IsRowOf (Stands : X → Type 0) (w : Row) : Type 0 where
     pub at : X
     pub is : w ≡ cells at

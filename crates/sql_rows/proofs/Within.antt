@@ -70,7 +70,7 @@ none_within s on = record {
   };
 }
 
--- what is told after them is told of the tables before
+-- what is said after them is said of the tables before
 pub told_since : (told : Trees → Type 0) (old mid : State) → IsUnchanged old mid →
     told mid.now.trees → told old.now.trees
 told_since told old mid same = subst (λ (d : Database). told d.trees) same.0.now_is
@@ -136,7 +136,7 @@ within_made {A} {B} {E} P told old new x r h to =
     within_from told old new r (have_within {A = A} {E = E} P old new x h)
     (λ clean. to old.now.trees (h.found clean))
 
--- ---- what several tell
+-- ---- what several say
 
 pub record TellWithin (P : Trees → Type 0) (old new : State) : Type 0 where
   pub found : HasCleanDisk new → P old.now.trees
@@ -156,7 +156,7 @@ tell_then P Q old mid new one two = record {
   have = have_within_then old mid new one.have two.have;
 }
 
--- what is made of all that they told
+-- what is made of all that they said
 pub made_within : {A E : Type 0} (P : Trees → Type 0) (told : Trees → A → Type 0)
     (old new : State) (r : Result A E) → TellWithin P old new
     → ((trees : Trees) → P trees → IfOk r (told trees)) → ReadsWithin told old new r

@@ -1,4 +1,4 @@
--- What a selection that was decoded tells of the rows under a key.
+-- What a selection that was decoded says of the rows under a key.
 use Rattle.std.proofs.Common.{◌≡◌, List, map, drop, Bool, true, false, ◌&&◌, Some, None}
 use Rattle.std.proofs.Common.{Option, refl, sym, ap, ◌∙◌}
 use Rattle.std.specs.Prelude.{option_and_then, option_map}

@@ -14,7 +14,7 @@ use Rattle.sqlite.specs.Values.{or_null}
 use Rattle.sql_tables.proofs.Steps.{same_test}
 use Rattle.sql_tables.proofs.Ties.{equal_is, equal_present}
 
--- the values stand in the row from this place on
+-- the values are in the row from this place on
 abbrev pub AreFrom : ℕ → Row → Row → Type 0
 AreFrom p w [] = Unit {0}
 AreFrom p w (v ∷ vs) = (column w p ≡ v) × AreFrom (suc p) w vs

@@ -56,7 +56,7 @@ module _ {X : Type 0} (of : Row → X) where
   end_tells table wanted old new c key same e =
       ap (option_map of) (c.rows key) ∙ dropped _ same (look table old key) e
 
-  -- a table that stays tells what it told
+  -- a table that stays says what it said
   pub kept_tells : (table : Table) (old new : Trees) → new table.tree ≡ old table.tree → (key : Row)
       → option_map of (look table new key) ≡ option_map of (look table old key)
   kept_tells table old new e key =

@@ -45,7 +45,7 @@ pub on_ok : {A B E : Type 0} (r : Result A E) → B → OnOk r B
 on_ok (Ok x) h = h
 on_ok (Err e) h = tt
 
--- what is done, told another way
+-- what is done, said another way
 pub done_as : {A E : Type 0} (does tells : State → State → Type 0) (old new : State)
     (r : Result A E)
     → (HasCleanDisk old → OnOk r (does old new) → OnOk r (tells old new)) → Attempts does old new r
@@ -185,7 +185,7 @@ answers_within sql params old new rows plain book rules shown =
       shown = shown;
     }
 
--- an attempt's answer or error, told as another's
+-- an attempt's answer or error, given as another's
 pub attempt_ok : {A E F : Type 0} (does : State → State → Type 0) (old new : State)
     (r : Result A E) (v : A) → r ≡ Ok v → Attempts does old new r
     → Attempts {A = A} {E = F} does old new (Ok v)

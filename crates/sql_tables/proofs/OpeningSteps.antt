@@ -46,7 +46,7 @@ stored_next g v text k is old was new rows then' shown stored same so =
           (take (k + 1) (schema_at v).tables)) moved all;
     }
 
--- a table in which no rowid stands twice isn't told of
+-- a table in which no rowid comes twice isn't reported
 pub told_twice : {S : Type 0} (g : Ghosts S) (v : ℕ) (text : List ℕ) (k : ℕ) → IsNext v text k →
     (old was : Held S) (new : State) (rows : List Row) → IsUnchanged (state g old) (state g was)
     → Shown text [] (state g was) new rows

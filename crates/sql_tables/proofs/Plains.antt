@@ -1,4 +1,4 @@
--- Lists in which no number with a fraction stands.
+-- Lists in which there is no number with a fraction.
 use Rattle.std.proofs.Common.{◌≡◌, refl, ap, sym, ◌∙◌, ℕ, zero, suc, ◌+◌, ◌<◌, Bool, true, false}
 use Rattle.std.proofs.Common.{IsTrue, ◌&&◌, List, [], ◌∷◌, map, take, length, slice_index_or, ◌≤◌}
 use Rattle.std.proofs.Common.{subst, arith}
@@ -10,7 +10,7 @@ use Rattle.sql_tables.specs.Plain.{is_plain, is_plain_term}
 use Rattle.sql_tables.specs.Schema.{schema_at}
 use Rattle.sql_tables.specs.Opens.{IsVersion}
 
--- of lists in which nothing of the kind can stand
+-- of lists in which nothing of the kind can be
 pub all_plain : {X : Type 0} (xs : List X) → IsTrue (list_all (λ _. true) xs)
 all_plain [] = refl
 all_plain (x ∷ xs) = all_plain xs
@@ -69,7 +69,7 @@ all_same f g (x ∷ xs) (y ∷ ys) (suc n) long h e =
     let more = all_same f g xs ys n (omega (arith, long)) (omega (arith, h)) rest in
     ap (λ z. z ∷ map f xs) here ∙ ap (λ l. g y ∷ l) more
 
--- what a test of some terms tells, of the lists that they are
+-- what a test of some terms answers, of the lists that they are
 pub told_of : (first second one two : List Term) (same : Bool) → first ≡ one → second ≡ two
     → (IsTrue (list_all is_plain_term one) → one ≡ two → IsTrue same)
     → IsTrue (list_all is_plain_term first) → first ≡ second → IsTrue same
@@ -86,7 +86,7 @@ version_plain (suc (suc (suc zero))) known = refl
 version_plain (suc (suc (suc (suc n)))) known =
     let high : suc (suc (suc (suc n))) ≤ 3 = known.1 in absurd (omega (arith, high))
 
--- what a test of a schema tells, of the one that it is
+-- what a test of a schema answers, of the one that it is
 pub same_as : (first second : Schema) (v : ℕ) (same : Bool) → IsVersion v → first ≡ schema_at v
     → (IsTrue same → first ≡ second) → (IsTrue (is_plain first) → first ≡ second → IsTrue same)
     → (IsTrue same → second ≡ schema_at v) × (second ≡ schema_at v → IsTrue same)

@@ -1,4 +1,4 @@
--- A list that a selection answers tells what is under a key.
+-- A list that a selection answers shows what is under a key.
 use Rattle.std.proofs.Common.{◌≡◌, inl, inr, ℕ, List, [], ◌∷◌, map, drop, Bool, true, false}
 use Rattle.std.proofs.Common.{Ordering, Less, Equal, Greater, Some, None, Option, is_eq}
 use Rattle.std.proofs.Common.{refl, sym, ap, ◌∙◌}

@@ -69,7 +69,7 @@ rows_stand v text table is old new rows has h stored =
     let p = shown_ids table.tree old.now.trees rows (read.answer Null) in
     stored_ids (old.now.trees table.tree) (stored_permuted rows _ (IsPermutation-sym _ _ p) stored)
 
--- ---- of a table in which no rowid stands twice
+-- ---- of a table in which no rowid comes twice
 
 ids_stored : (rows : List Row) → IsStored rows → IsStored (map (λ r. rowid r ∷ []) rows)
 ids_stored rows h = (

@@ -1,4 +1,4 @@
--- Rows of which no rowid stands twice.
+-- Rows of which no rowid comes twice.
 use Rattle.std.proofs.Common.{◌≡◌, inl, inr, List, [], ◌∷◌, filter, Bool, true, false}
 use Rattle.std.proofs.Common.{Ordering, Less, Equal, Greater, is_eq, IsTrue, refl, sym, ap, ◌∙◌}
 use Rattle.std.proofs.lemmas.Bool.{or_parts}

@@ -1,4 +1,4 @@
--- Rows of which no rowid stands twice: in another order, and in that of their rowids.
+-- Rows of which no rowid comes twice: in another order, and in that of their rowids.
 use Rattle.std.proofs.Common.{◌≡◌, suc, ◌+◌, slice_index_or, arith, List, [], ◌∷◌, Bool, false}
 use Rattle.std.proofs.Common.{Ordering, Less, Equal, Greater, is_eq, refl, sym, ap, subst, ◌∙◌}
 use Rattle.std.specs.List.{IsDistinct}

@@ -1,4 +1,4 @@
--- What a call tells that makes values of the rows of one selection, and of two calls in turn.
+-- What a call answers that makes values of the rows of one selection, and of two calls in turn.
 use Rattle.std.proofs.Common.{◌≡◌, ℕ, List, Bool, true, false, true≢false, IsTrue, Result, IfOk}
 use Rattle.std.proofs.Common.{Ok, Err, refl, subst, sym, arith}
 use Rattle.std.proofs.lemmas.Result.{IfOk-weaker}
@@ -9,7 +9,7 @@ use Rattle.sqlite.proofs.StateLemmas.{survives_then}
 use Rattle.sql_tables.specs.Statements.{Answers, Attempts, OnlyReads, Reads, ReadsWithin}
 use Rattle.sql_tables.proofs.Keeps.{on_ok}
 
--- what is made of the rows is told by the tables
+-- what is made of the rows is what the tables say
 pub reads_as : {V E : Type 0} {P : V → Type 0} (told : Trees → V → Type 0) (sql : List ℕ)
     (held params : Row)
     (old new : State) (rows slice : List Row) (r : Result V E) → OnlyReads old new

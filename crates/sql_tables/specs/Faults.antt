@@ -5,7 +5,7 @@ use Rattle.sql_tables.specs.declared.fault.OpenFault.{OpenFault}
 use Rattle.sql_tables.specs.declared.fault.OpenFault.TheVariants.{Foreign, Version, Rules, Store}
 use Rattle.sql_tables.specs.declared.fault.OpenFault.TheVariants.{Memory, Older}
 
--- the number under which a fault is told
+-- the number under which a fault is reported
 abbrev pub open_fault_number : OpenFault → ℕ
 open_fault_number Foreign = 1
 open_fault_number Version = 2

@@ -27,7 +27,7 @@ table_of places rows = from_entries (entries_of places rows)
 abbrev pub Alike : FinMap row_cmp Row → FinMap row_cmp Row → Type 0
 Alike a b = (key : Row) → get a key ≡ get b key
 
--- no rowid stands twice, and each is an integer
+-- no rowid comes twice, and each is an integer
 abbrev pub IsStored : List Row → Type 0
 IsStored rows = IsAscending (λ a b. is_eq (value_cmp (rowid a) (rowid b)) ≡ false) rows
     × AllByRecursion (λ r. IsTrue (is_int (rowid r))) rows

@@ -45,7 +45,7 @@ abbrev pub IsNoVersion : OpenFault → Type 0
 IsNoVersion fault = (¬ (fault ≡ Version)) × (¬ (fault ≡ Older))
 
 -- what a fault says of a database that was there: its tables are those of no version, or they are
--- those of one, and a rowid stands twice; or they are those of a version before the latest
+-- those of one, and a rowid comes twice; or they are those of a version before the latest
 abbrev pub IsOpenFaultTold : Database → OpenFault → Type 0
 IsOpenFaultTold db Foreign = (v : TablesVersion) → IsVersion v → ¬ (db.schema ≡ schema_at v)
 IsOpenFaultTold db Version = ⊥
@@ -104,7 +104,7 @@ pub record IsNext (v : TablesVersion) (text : List ℕ) (k : ℕ) : Type 0 where
   pub next : take (k + 1) (schema_at v).tables ≡ take k (schema_at v).tables ++ table ∷ []
   pub rowids : IsRowids v text table
 
--- the database has the tables of a version and no others, no rowid of theirs stands twice, no
+-- the database has the tables of a version and no others, no rowid of theirs comes twice, no
 -- transaction is open, and nothing was changed to find that
 pub record IsFound (v : TablesVersion) (old new : State) : Type 0 where
   pub version : IsVersion v

@@ -1,4 +1,4 @@
--- Schemas in which no number with a fraction stands: those are told apart without fail.
+-- Schemas in which there is no number with a fraction: those are told apart without fail.
 -- Source: profile.
 use Rattle.std.specs.Prelude.{Bool, true, false, ◌&&◌}
 use Rattle.std.specs.List.{list_all}

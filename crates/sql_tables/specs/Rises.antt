@@ -21,7 +21,7 @@ pub record IsAbove (last : Option ℤ) (row : Row) (id : ℤ) : Type 0 where
 abbrev pub IsAtMost : ℤ → Row → Type 0
 IsAtMost last row = (column row 0 ≡ Int last) ⊎ (value_cmp (column row 0) (Int last) ≡ Less)
 
--- no row is above the last, which stands last
+-- no row is above the last, which is last
 pub record IsLast (last : ℤ) (rows : List Row) : Type 0 where
   pub most : AllByRecursion (IsAtMost last) rows
   pub front : List Row

@@ -62,7 +62,7 @@ optional_text name = record {
   collation = Binary;
 }
 
--- ---- rules; the first column stands at place 1
+-- ---- rules; the first column is at place 1
 
 abbrev pub at_least_zero : ℕ → Term
 at_least_zero at = op2 (Compare Ge Binary) (col 1 at) (lit (Int (pos 0)))
@@ -319,7 +319,7 @@ tables_of [] = []
 tables_of (ATable t ∷ pieces) = t ∷ tables_of pieces
 tables_of (AnIndex i ∷ pieces) = tables_of pieces
 
--- the index of a table's key stands where the table does
+-- the index of a table's key is where the table does
 abbrev pub indexes_of : List Piece → List Index
 indexes_of [] = []
 indexes_of (ATable t ∷ pieces) = key_index t ∷ indexes_of pieces

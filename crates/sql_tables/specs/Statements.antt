@@ -50,7 +50,7 @@ HasRules s = HasCleanDisk s → IsTrue s.is_open → Fits book_schema s.now.tree
 abbrev pub IsInside : State → Type 0
 IsInside s = HasCleanDisk s → IsTrue s.is_open → IsTrue s.in_transaction
 
--- the row stands in the place of any with its key, and the other tables stay
+-- the row is in the place of any with its key, and the other tables stay
 pub record Changes (table : Table) (values : Row) (old new : Trees) : Type 0 where
   pub rows : Alike (table_of table.primary (new table.tree))
       (insert (table_of table.primary (old table.tree))
@@ -115,7 +115,7 @@ pub record OnlyReads (old new : State) : Type 0 where
   pub closes : HasCleanDisk new → IsTrue old.is_open →
       IsTrue new.is_open ⊎ MoreFaults old.faults new.faults
 
--- outside a transaction: what the call answers is told by the tables, and it changes nothing
+-- outside a transaction: what the call answers is what the tables say, and it changes nothing
 pub record Reads {A E : Type 0} (told : Trees → A → Type 0) (old new : State)
     (result : Result A E) : Type 0 where
   pub found : HasCleanDisk new → IfOk result (told old.now.trees)
@@ -125,7 +125,7 @@ pub record Reads {A E : Type 0} (told : Trees → A → Type 0) (old new : State
   -- a stop leaves what it left before
   pub survives : Survives old new (λ _. old.is_open ≡ false)
 
--- within a transaction: what the call answers is told by the tables, and it changes nothing; or it
+-- within a transaction: what the call answers is what the tables say, and it changes nothing; or it
 -- answers an error and keeps what was committed
 pub record ReadsWithin {A E : Type 0} (told : Trees → A → Type 0) (old new : State)
     (result : Result A E) : Type 0 where

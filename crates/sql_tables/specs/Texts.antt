@@ -1,4 +1,4 @@
--- The texts that make the tables; they stand in the database as they are written here.
+-- The texts that make the tables; they are in the database as they are written here.
 -- Source: profile.
 use Rattle.std.specs.Prelude.{ℕ, List, [], ◌∷◌, codes, ◌++◌, map, take}
 use Rattle.sqlite_schema.specs.declared.schema.Column.{Column}

@@ -29,7 +29,7 @@ fn create<S: Alter>(tx: &mut Transaction<'_, S>, place: usize) -> Result<usize, 
     write(tx, piece_text(place), &[])
 }
 
-/// Makes what stands from one place on, up to another, in a database that has what stands before.
+/// Makes the tables from one place on, up to another, in a database that has those before.
 fn create_between<S: Alter>(
     tx: &mut Transaction<'_, S>,
     from: usize,

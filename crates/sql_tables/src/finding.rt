@@ -55,7 +55,7 @@ fn version_of<S: Alter>(conn: &Connection<S>, alloc: Global) -> Result<u32, Open
     Err(OpenFault::Foreign)
 }
 
-/// Tests that no rowid stands twice in a table of a version.
+/// Tests that no rowid comes twice in a table of a version.
 fn tables_differ<S: Alter>(conn: &mut Connection<S>, version: u32) -> Result<(), OpenFault>
     requires known { IsVersion version }
     requires has { conn.old.schema ≡ schema_at version }
@@ -70,12 +70,12 @@ fn tables_differ<S: Alter>(conn: &mut Connection<S>, version: u32) -> Result<(),
 }
 
 /// Which version's tables the database has: it tests that it has exactly those and their indexes,
-/// and that no rowid of theirs stands twice. Then each statement that is written for the version
+/// and that no rowid of theirs comes twice. Then each statement that is written for the version
 /// does what it says. Each row is looked at once. Nothing is changed, whatever is answered.
 ///
 /// # Errors
 /// `Foreign` only where the tables are exactly those of no version, `Rules` only where they are
-/// those of one and a rowid stands twice or is no integer; `Store` where the store failed or a
+/// those of one and a rowid comes twice or is no integer; `Store` where the store failed or a
 /// transaction is open; `Memory` where memory was refused.
 #[tactic(auto, using(crate::proofs::Keeps::spares_still, crate::proofs::Keeps::still_itself))]
 pub fn find_tables<S: Alter>(conn: &mut Connection<S>, alloc: Global) -> Result<u32, OpenFault>

@@ -1,6 +1,6 @@
 //! The tables of a database, what a statement on one of them leaves, and tests of a database that
 //! was made elsewhere: which version's tables it has and no other, and whether a rowid of one of
-//! them stands twice.
+//! them comes twice.
 #![tactic(auto)]
 
 mod creating;

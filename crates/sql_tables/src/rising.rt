@@ -1,4 +1,4 @@
-//! Whether a rowid of a table stands twice: rowids that rise don't.
+//! Whether a rowid of a table comes twice: rowids that rise don't.
 
 ghost use Rattle.std.specs.Prelude.{◌≡◌, ◌+◌, ℕ, ℤ, [], ◌∷◌, ◌++◌, List, None, IsTrue, IfOk};
 ghost use Rattle.std.specs.Prelude.{IfSome, OnOk};
@@ -98,7 +98,7 @@ fn are_rising<S: Alter>(conn: &mut Connection<S>, sql: &str) -> Result<bool, Err
     Err(Error::SqliteFailure(ErrorCode::TooBig))
 }
 
-/// Tests that no rowid of one more table of a version stands twice; `sql` selects its rowids in
+/// Tests that no rowid of one more table of a version comes twice; `sql` selects its rowids in
 /// order.
 pub(crate) fn rowids_differ<S: Alter>(
     conn: &mut Connection<S>,

@@ -15,7 +15,7 @@ use sqlite_value::keys::Order;
 use sqlite_value::value::{Bytes, Value};
 
 /// A test that two values are equal. It misses none that are where no number with a fraction
-/// stands.
+/// is there.
 trait Same {
     ghost plain: { Self → Bool };
 
@@ -158,7 +158,7 @@ fn same_term(
     }
 }
 
-/// The expressions of two lists of roots; how their nodes stand is nothing to it.
+/// The expressions of two lists of roots; how their nodes are laid out is nothing to it.
 fn same_terms(first: &[Op], roots: &[usize], second: &[Op], others: &[usize]) -> bool
     ensures equal { IsTrue result → terms_in first.now roots.now ≡ terms_in second.now others.now }
     ensures all { IsTrue (list_all is_plain_term (terms_in first.now roots.now))
@@ -368,7 +368,7 @@ impl Same for Schema {
 }
 
 /// Whether two schemas have the same tables, indexes and views, column by column, with their checks
-/// and references. Where no number with a fraction stands in the first, none that is the same is
+/// and references. Where no number with a fraction is in the first, none that is the same is
 /// told apart.
 pub fn same_schema(first: &Schema, second: &Schema) -> bool
     ensures equal { IsTrue result → first.now ≡ second.now }

@@ -1,4 +1,4 @@
--- The limits of calls, told by an account's rows.
+-- The limits of calls, by an account's rows.
 use Rattle.std.proofs.Common.{◌≡◌, ℕ, ◌<◌, Bool, false, List, [], ◌∷◌, refl, sym, ap, ◌∙◌}
 use Rattle.std.proofs.Common.{Option}
 use Rattle.std.specs.Prelude.{nat_le, nat_lt, not}

@@ -49,7 +49,7 @@ abbrev shares : (ℕ → ℕ) → ℕ → ℕ → Due → Ledger → List HeldAm
 shares v t group due ledger =
     parts (paid [] group t due (buckets_at v t ledger)) (buckets_at v t ledger)
 
--- neither a use nor a charge tells of sessions
+-- neither a use nor a charge says anything of sessions
 same_sessions-debited : (v : ℕ → ℕ) (t : ℕ) (session : List ℕ) (group units blocks : ℕ) (due : Due)
     (ledger : Ledger) →
     SameSessions ledger (charged_use v t session group units blocks due ledger)

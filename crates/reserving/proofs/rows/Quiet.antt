@@ -142,7 +142,7 @@ pub quiet_advanced : (a : AccountRows) (t : ℕ) → IsCalm (record a { as_of = 
     advanced t a ≡ record a { as_of = t }
 quiet_advanced a t h = calm_same (record a { as_of = t }) h
 
--- what holds at the moment that is told, where one is
+-- what holds at the moment that is given, where one is
 pub at_told : (o : Option ℕ) (m : ℕ) (q : Bool) (P : ℕ → Type 0) →
     IfSome o (λ t. (t ≡ m) × (q ≡ true)) → (q ≡ true → P m) → IfSome o P
 at_told None m q P h k = tt
