@@ -137,7 +137,7 @@ pub ruled_ok : {E : Type 0} (p q : Ledger → LeftRows → Type 0) (d e : Ledger
 ruled_ok p q d e t old new (Ok r) gives same is = ruled_as p q d e t old new r gives same is
 ruled_ok p q d e t old new (Err fault) gives same is = tt
 
--- the ruling on a session's request, of which it tells the decision by other values than the call
+-- the ruling on a session's request, of which it gives the decision by other values than the call
 pub ruled_asked : {E : Type 0} (result : Result Ruling E) (asked : Ledger → LeftRows → Type 0)
     (d : ℕ → List ℕ → ℕ → List Service → Ledger → Decision) (e : Ledger → Decision)
     (old new : AccountRows) (t u : ℕ) (s v : List ℕ) (m n : ℕ) (xs ys : List Service) →

@@ -27,7 +27,7 @@ pub stay_asked : {A E : Type 0} (r : Result A E) (s : List ℕ) {s' : List ℕ} 
 stay_asked r s {s'} t {t'} x y e f h =
     subst (λ p. OnOk r (OthersStay p t' x y)) e (subst (λ u. OnOk r (OthersStay s u x y)) f h)
 
--- the session that is told, where nothing ends at the moment
+-- the session that is named, where nothing ends at the moment
 pub stay_alone : (own : Option (List ℕ)) (s : List ℕ) (t : ℕ) (x y : AccountRows) (alone : Bool) →
     own ≡ (if alone then Some s else None) →
     (alone ≡ true → IsCalm (record x { as_of = t })) → OthersStay s t x y →

@@ -1,4 +1,4 @@
--- What is told of a text that is no JSON object.
+-- What is answered to a text that is no JSON object.
 use Rattle.std.proofs.Common.{◌≡◌, refl}
 use Rattle.std.specs.Fmt.{digits}
 use Rattle.json.specs.Print.{escape_byte}

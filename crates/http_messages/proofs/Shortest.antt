@@ -47,7 +47,7 @@ all_taken stream taken bytes e few none full =
       λ n k. none n (omega (arith, k, most)),
     )
 
--- the walk from where it stands, by its tests
+-- the walk from where it is, by its tests
 walked : (stream taken bytes : List ℕ) → stream ≡ taken ++ bytes → length taken ≤ 8192 →
     HasNoEnd (length taken) stream → IsFirstPart stream (part_after taken bytes)
 walked stream taken [] e few none = by (nat_lt (length taken) 8192) refl

@@ -1,4 +1,4 @@
--- A statement that is asked for, or the fault of its path, as it is told.
+-- A statement that is asked for, or the fault of its path, as it is given.
 use Rattle.std.proofs.Common.{◌≡◌, Result, Ok, Err, refl, sym, subst}
 use Rattle.json_fields.specs.declared.fault.WireFault.{WireFault}
 use Rattle.json_fields.specs.Gives.{Fails}

@@ -1,4 +1,4 @@
--- What a request may ask, how it is told, and what the parts of its path say.
+-- What a request may ask, how it is given, and what the parts of its path say.
 -- Source: profile.
 use Rattle.std.specs.Prelude.{◌≡◌, ℕ, Bool, ◌==◌, Result, Ok, Err, if◌then◌else◌}
 use Rattle.std.specs.List.{before_first, after_first}
@@ -28,7 +28,7 @@ abbrev pub stated : Result StatementAsked WireFault → Asking
 stated (Ok q) = states q
 stated (Err fault) = reads (Err fault)
 
--- what is asked, as it is told
+-- what is asked, as it is given
 abbrev pub IsAsked : Asking → HttpAsked → Type 0
 IsAsked (refuses status) (told.Refused given) = refusal_status given ≡ status
 IsAsked (refuses status) (told.Unread fault) = ⊥

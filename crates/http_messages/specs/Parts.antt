@@ -30,9 +30,9 @@ part_after taken (b ∷ bytes) =
 abbrev pub first_part : Bytes → Part
 first_part stream = part_after [] stream
 
--- ---- as it is told
+-- ---- as it is given
 
--- this part is told, and what follows a head part is left
+-- this part is given, and what follows a head part is left
 abbrev pub IsHeadPart : Part → HeadPart → Option Bytes → Type 0
 IsHeadPart (whole part rest) (head_part.Whole bytes) left = (bytes.items ≡ part)
     × (left ≡ Some rest)

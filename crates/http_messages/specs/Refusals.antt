@@ -1,5 +1,5 @@
 -- The statuses of requests that are refused.
--- Source: RFC 9110 section 15.5; 431: RFC 6585 section 5.
+-- Source: RFC 9110 sections 15.5 and 15.6; 431: RFC 6585 section 5.
 use Rattle.std.specs.Prelude.{ℕ, ◌==◌, if◌then◌else◌}
 use Rattle.http_messages.specs.Words.{StatusCode}
 use Rattle.http_messages.specs.Statuses as status

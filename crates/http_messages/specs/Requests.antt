@@ -68,7 +68,7 @@ IsNextOf cut next = next ≡ ended
 abbrev pub IsNext : Bytes → Next → Type 0
 IsNext stream next = IsNextOf (first_part stream) next
 
--- ---- as it is told
+-- ---- as it is given
 
 pub record IsHeadOf (head : RequestHead) (told : HttpHead) : Type 0 where
   pub method : told.method ≡ head.method
@@ -98,7 +98,7 @@ Tells ended (taken.Request told) left = ⊥
 Tells ended (taken.Refused status) left = ⊥
 Tells ended taken.Ended left = Unit {0}
 
--- the request that the part begins is told, and what follows it is left
+-- the request that the part begins is given, and what follows it is left
 pub record TellsNext (part : Part) (told : Taken) (left : Option Bytes) : Type 0 where
   pub next : Next
   pub is_next : IsNextOf part next
@@ -110,7 +110,7 @@ SaysStatus (taken.Request told) = Unit {0}
 SaysStatus (taken.Refused status) = IsAnswerStatus status
 SaysStatus taken.Ended = Unit {0}
 
--- a request as it is told
+-- a request as it is given
 abbrev pub seen : HttpRequest → Ask
 seen told = record {
   method = told.method;

@@ -53,13 +53,13 @@ no_members = codes "{}"
 abbrev pub unable : Bytes
 unable = codes "{\"Result-Code\":5012}"
 
--- a text is told, or that there is no memory
+-- a text is written, or that there is no memory
 abbrev pub TellsText : Bool → StatusCode → Bytes → (Bytes → Type 0) → Type 0
 TellsText closes status body Writes = Writes (response_of Text status closes body)
     ⊎ Writes (response service_unavailable closes unable)
 
--- a request that isn't read is told its fault, or that there is no memory: not so what is no JSON
--- object
+-- a request that isn't read is answered its fault, or that there is no memory: not so what is no
+-- JSON object
 abbrev pub TellsFault : Bool → WireFault → (Bytes → Type 0) → Type 0
 TellsFault closes fault Writes =
     ((fault ≡ Memory → ⊥) × Writes (response bad_request closes (fault_text fault)))
@@ -78,7 +78,7 @@ pub record WritesText {A : Type 0} (text : Bytes) (old new : Option Bytes)
   pub err : OnErr result (Begins old new text)
   pub fault : OnErr result (result ≡ Err Write)
 
--- so it is of what this tells
+-- so it is of what this writes
 pub record WritesTold {A : Type 0} (tells : (Bytes → Type 0) → Type 0) (old new : Option Bytes)
     (result : Result A StreamFault) : Type 0 where
   pub ok : OnOk result (tells (Appends old new))

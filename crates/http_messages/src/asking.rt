@@ -28,7 +28,7 @@ use wire::{Scratch, WireFault, read_allow, read_credit, read_redeem, read_reques
 /// A statement that is asked for.
 #[derive(Drop)]
 pub struct StatementAsked {
-    /// Whose charges it tells.
+    /// Whose charges it shows.
     pub account: AccountNumber,
     /// The civil month in the book's zone.
     pub month: Month,
@@ -57,7 +57,7 @@ fn after_slash(text: &str) -> &str
     }
 }
 
-/// What stands before the first slash of a text; all of it where it has none.
+/// What is before the first slash of a text; all of it where it has none.
 fn before_slash(text: &str) -> &str
     ensures { result.now ≡ before_first is_slash text.now }
 {

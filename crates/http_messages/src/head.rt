@@ -18,7 +18,7 @@ use std::alloc::{AllocError, Global};
 pub struct HttpHead {
     /// The method.
     pub method: Method,
-    /// The target, as it stands.
+    /// The target, byte by byte as it was sent.
     pub target: String,
     /// The length of the body in bytes, or why the request is refused.
     pub length: Result<usize, StatusCode>,

@@ -1,4 +1,4 @@
-//! Requests that are refused, and the bytes that tell so: constants, so that no memory is asked
+//! Requests that are refused, and the bytes that say so: constants, so that no memory is asked
 //! for.
 
 ghost use Rattle.std.specs.Prelude.{◌≡◌, true, false};
@@ -10,7 +10,8 @@ use http::StatusCode;
 use std::io::Write;
 use texts::StreamFault;
 
-/// Why a request is refused, by its status (RFC 9110 section 15.5; 431: RFC 6585 section 5).
+/// Why a request is refused, by its status (RFC 9110 sections 15.5 and 15.6; 431: RFC 6585
+/// section 5).
 #[derive(Clone, Copy)]
 pub enum HttpRefusal {
     /// 400: it has no head, more than one length, or a length that is no number.
@@ -86,7 +87,7 @@ impl HttpRefusal {
         }
     }
 
-    /// The bytes that tell it, where the connection goes on.
+    /// The bytes that say it, where the connection goes on.
     fn text(self) -> &'static [u8]
         ensures { result.now ≡ response (refusal_status self) false no_members }
     {
@@ -101,7 +102,7 @@ impl HttpRefusal {
         }
     }
 
-    /// The bytes that tell it before the connection ends.
+    /// The bytes that say it before the connection ends.
     fn text_at_last(self) -> &'static [u8]
         ensures { result.now ≡ response (refusal_status self) true no_members }
     {

@@ -21,7 +21,7 @@ pub const MAX_FIELDS: usize = 2731;
 pub struct HttpRequest {
     /// The method.
     pub method: Method,
-    /// The target, as it stands.
+    /// The target, byte by byte as it was sent.
     pub target: String,
     /// Whether the connection ends after it.
     pub closes: bool,
@@ -40,7 +40,7 @@ pub enum Taken {
     Ended,
 }
 
-/// Takes the next request off a stream: its head part, and the body that the head tells of. `room`
+/// Takes the next request off a stream: its head part, and the body that the head speaks of. `room`
 /// is for the places of the head's fields.
 ///
 /// # Errors

@@ -96,7 +96,7 @@ fn ok_and_length() -> &'static [u8]
     OK_AND_LENGTH
 }
 
-/// What stands between the length of an answer and its body.
+/// What is between the length of an answer and its body.
 fn after_length(closes: bool) -> &'static [u8]
     ensures { result.now ≡ codes "\r\n" ++ (closing_line closes ++ codes "\r\n") }
 {
@@ -255,7 +255,7 @@ fn tell_not_request<W: Write>(writer: &mut W, closes: bool) -> Result<(), Stream
 }
 
 /// Writes the answer to a request that isn't read; where the growth of its text is refused, or
-/// memory ran out before, that there is no memory. What is no JSON object is told without any.
+/// memory ran out before, that there is no memory. What is no JSON object is answered without any.
 ///
 /// # Errors
 /// `Write` where the writer failed. Then a beginning of it is written.

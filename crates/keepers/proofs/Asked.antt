@@ -20,7 +20,7 @@ use Rattle.keepers.specs.Tables.{Rows}
 use Rattle.keepers.specs.Change.{AreRowsAt}
 use Rattle.keepers.specs.Steps.{HasNoGroups}
 
--- what a keeper answers of a session is what the ledger tells
+-- what a keeper answers of a session is what the ledger says
 pub known_is : (shelf : Shelf) (ledger : Ledger) (u : ℕ) (r : Rows) (s : List ℕ) →
     AreRowsAt shelf ledger u r → is_some (r.sessions s) ≡ is_some (last_recording s ledger)
 known_is shelf ledger u r s h =

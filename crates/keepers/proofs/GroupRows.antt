@@ -17,7 +17,7 @@ use Rattle.reserving.proofs.Keys.{first_true, second_true, same_number}
 use Rattle.keepers.specs.Tables.{GroupRow, group_row, held_at, held_of}
 use Rattle.keepers.specs.Change.{held_over}
 
--- ---- what is told of each
+-- ---- what is said of each
 
 pub reserved_row : (o : Option Reservation) →
     is_some (option_map (λ (x : Reservation). x.terms) o) ≡ is_some o

@@ -35,7 +35,7 @@ dated_front : (p : Dated → Bool) (front old : Ledger) → any_dated p (front +
 dated_front p [] old e = e
 dated_front p (d ∷ ds) old e = dated_front p ds old (or_parts (p d) (any_dated p (ds ++ old)) e).1
 
--- ---- rows that the ledger tells
+-- ---- rows that are the ledger's
 
 none_of : {A : Type 0} (t : Bool) (x : A) → (if t then Some x else None) ≡ None → t ≡ false
 none_of true x e = absurd (no_some x (sym e))

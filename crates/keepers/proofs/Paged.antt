@@ -55,7 +55,7 @@ first_of_range from until a rows rising =
     (sym (ap (filter p) (parted a 0 rows rising)) ∙ filter-append p (up_to a rows) (beyond a rows))
     ∙ take-append_seam (filter p (up_to a rows)) (filter p (beyond a rows))
 
--- one fault is told of each value
+-- one fault is reported of each value
 same_fault : {A B : Type 0} (e f : StoreFault) → ◌≡◌ {A = Result B StoreFault} (Err e) (Err f) →
     ◌≡◌ {A = Result A StoreFault} (Err e) (Err f)
 same_fault {A} {B} e f is = ap (λ x. Err x) (inner is)
@@ -188,7 +188,7 @@ module _ {V : Type 0} (Sees : V → ChargeColumns → Bool → V → Type 0) (ac
       (shown_visits Sees (filter p (up_to page.last rows)) true before next
       (paged after old mid now page before seen next true had read shows ok rows are)))
 
-  -- a page failed: its fault is told
+  -- a page failed: its fault is reported
   pub failed_then : {A B : Type 0} (after : ℕ) (old mid now : Seen) (before seen : V)
       (Found : A → Type 0) (Told : B → Type 0) (e : StoreFault) →
       HasShown after old mid before seen →

@@ -176,7 +176,7 @@ all_up_to a least (c ∷ rest) h none =
 
 -- ---- a page
 
--- rows that rise and tell the same are the charges beyond a number, up to another
+-- rows that rise and say the same are the charges beyond a number, up to another
 pub page_is : {charges : ℕ → Option ChargeColumns} {rows : List ChargeColumns} (after last : ℕ)
     (xs : List ChargeColumns) → AreCharges charges rows → are_rising 0 xs ≡ true →
     ((n : ℕ) → charge_in n xs ≡ only (is_number_within after last) (charge_in n rows)) →

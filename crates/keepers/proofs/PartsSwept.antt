@@ -135,7 +135,7 @@ module _ (p : Parts) (h : AreParts p) where
     };
   }
 
--- ---- what is live, brought on, stands over all that is there as it stands beside what was left
+-- ---- what is live, brought on, is over all that is there as it is beside what was left
 
 module _ (shelf : Shelf) (t : ℕ) (p : Parts) (h : AreParts p) where
   abbrev q : Parts

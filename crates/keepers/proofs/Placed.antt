@@ -22,7 +22,7 @@ use Rattle.reserving.proofs.LeftParted.{find_both}
 use Rattle.keepers.specs.Tables.{charge_in}
 use Rattle.keepers.specs.Memory.{is_entry, entry_in, rows_of_entry, charges_of_entry}
 
--- a new account stands behind the others
+-- a new account is behind the others
 abbrev never : {A : Type 0} → A → A → Bool
 never x y = false
 
@@ -65,7 +65,7 @@ pub head_there : (o : Option AccountEntry) → is_some o ≡ is_some (rows_of_en
 head_there None = refl
 head_there (Some e) = refl
 
--- a charge by its number, once further ones stand after those of an account
+-- a charge by its number, once further ones are after those of an account
 pub charge_over : (m a : List ℕ) (n : ℕ) (xs ys : List AccountEntry) (more : List ChargeRow) →
     charges_of_entry (entry_in a ys) ≡
     (if same_name m a then charges_of_entry (entry_in a xs) ++ more
@@ -82,7 +82,7 @@ charge_over m a n xs ys more is = ap (charge_in n) is ∙ at (same_name m a)
     at true = find_both (λ c. c.number == n) (charges_of_entry (entry_in a xs)) more
     at false = refl
 
--- the account that stands where the number was found
+-- the account that is where the number was found
 pub record IsFound (n : List ℕ) (e : AccountEntry) (xs : List AccountEntry) : Type 0 where
   pub number : e.number ≡ n
   pub found : entry_in n xs ≡ Some e
@@ -187,7 +187,7 @@ module _ (n : List ℕ) (xs : List AccountEntry) (e : AccountEntry)
       (if is_some (entry_in n xs) then length xs else length xs + 1)
   count_added = ap length push_put ∙ length-put (is_entry n) e xs
 
--- ---- where each stands
+-- ---- where each is
 
 pub copied_there : {A : Type 0} (r : Option (Bor A)) → is_some r ≡ is_some (option_copied r)
 copied_there None = refl
@@ -239,7 +239,7 @@ added_place p xs x =
     ∙ ap (λ n. first_of (position_from p 0 xs) (cond (p x) (Some n) None)) none
     ∙ ap (λ o. first_of o (cond (p x) (Some (length xs)) None)) (sym (position_from-zero p xs))
 
--- the place of each number, once an account stands behind those that there were
+-- the place of each number, once an account is behind those that there were
 pub place_added : (n a : List ℕ) (xs : List AccountEntry) (e : AccountEntry) →
     position (is_entry n) xs ≡ None →
     e.number ≡ n →

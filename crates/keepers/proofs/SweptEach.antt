@@ -131,7 +131,7 @@ swept_from shelf t a k (x ∷ xs) [] h = absurd h
 swept_from shelf t a k (x ∷ xs) (y ∷ ys) h = λ i.
     cond (same_name (h.0.number i) a) (Some k) (swept_from shelf t a (k + 1) xs ys h.1 i)
 
--- each account stands where it stood
+-- each account is where it was
 pub swept_place : (shelf : Shelf) (t : ℕ) (a : List ℕ) (xs ys : List AccountEntry) →
     AreSwept shelf t xs ys →
     position (is_entry a) xs ≡ position (is_entry a) ys

@@ -77,7 +77,7 @@ each_found P n (y ∷ ys) x h e = at (y.number == n) e (λ k. each_found P n ys 
 
 -- ---- a group, brought to a moment
 
--- what is told of a group that doesn't keep its reservation
+-- what is known of a group that doesn't keep its reservation
 abbrev row_lapsed : Bool → GroupRow → GroupRow
 row_lapsed keeps r = if keeps then r else record r { terms = None }
 
@@ -276,7 +276,7 @@ module _ (shelf : Shelf) (t : ℕ) (before w : StoredRows) (r : Rows)
       at (Some x) p e k =
           ap (option_map (lapse v t)) (sym (made.there.sessions s x e) ∙ are.sessions s ∙ k)
 
-  -- what is among what may change is told alike by both, and what isn't holds nothing
+  -- what is among what may change is said alike by both, and what isn't holds nothing
   record IsAlike (s : List ℕ) (g : ℕ) (o p : Option SessionGroup) : Type 0 where
     row : first_of (option_map group_row (option_map (lapse_group live) o)) (option_map group_row p)
         ≡ option_map group_row (option_map (lapse_group live_all) p)

@@ -1,4 +1,4 @@
--- A row that is in its rules is told as a row that is.
+-- A row that is in its rules is decoded as a row that is.
 use Rattle.std.proofs.Common.{◌≡◌, ℕ, pos, negsuc, List, [], ◌∷◌, drop, Bool, true, false, ◌&&◌}
 use Rattle.std.proofs.Common.{Some, None, refl, sym, ◌∙◌, nat_le, nat_eq, nat_lt, is_eq}
 use Rattle.std.proofs.Common.{arith, subst}

@@ -24,7 +24,7 @@ use Rattle.sql_rules.specs.Columns.{is_moment, is_numbering, is_some_money, is_i
 use Rattle.sql_rules.specs.Ruled.{AreInRules, IsInRules, is_answer, is_book, is_bucket, is_charge}
 use Rattle.sql_rules.specs.Ruled.{is_counter, is_group, is_head, is_session, is_voucher}
 
--- ---- one row among those that stand
+-- ---- one row among those that are there
 
 module _ {X : Type 0} (P : X → Type 0) where
   chosen : (t : Bool) (x : X) (o : Option X) → (t ≡ true → P x) → ((y : X) → o ≡ Some y → P y)

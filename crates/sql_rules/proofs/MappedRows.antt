@@ -68,7 +68,7 @@ module _ (table : Table) (tabled : Has book_schema.tables table)
       subst (λ v. rule (Null ∷ v) ≡ true) (sym it.3)
       (free it.0 ∙ all_has (λ r. IsTrue (rule r)) (trees table.tree) it.0 all it.1)
 
-  -- each row stands under its key
+  -- each row is under its key
   pub under_key : (r : Row) → Has (trees table.tree) r
       → AllByRecursion (λ p. is_null (column r p) ≡ false) table.primary
       → look table trees (key_of table.primary r) ≡ Some (drop 1 r)

@@ -6,7 +6,7 @@ use Rattle.sqlite_value.specs.declared.value.Value.{Value}
 use Rattle.sqlite_value.specs.Order.{Row, column}
 use Rattle.sql_rows.specs.Values.{nat_in, text_in}
 
--- ---- the columns of a stored row: its rowid stands at place 0, its first column at place 1
+-- ---- the columns of a stored row: its rowid is at place 0, its first column at place 1
 
 abbrev pub number_at : Row → ℕ → ℕ
 number_at row at = nat_in (column row at)

@@ -26,12 +26,12 @@ ContentIsOfRuledRows = (shelf : Shelf) (trees : Trees) → Fits book_schema tree
     → ArePlain trees → IsTrue (is_some (tables_content trees).meta)
     → IsInRules shelf (tables_content trees) → AreRuled shelf latest trees
 
--- where each row is in its rules, so is what stands under each key
+-- where each row is in its rules, so is what is under each key
 abbrev pub RuledRowsAreMapped : Type 0
 RuledRowsAreMapped = (shelf : Shelf) (trees : Trees) → Fits book_schema trees
     → AreRuled shelf latest trees → AreMapped shelf trees
 
--- and back, as long as no rowid stands twice
+-- and back, as long as no rowid comes twice
 abbrev pub MappedRowsAreRuled : Type 0
 MappedRowsAreRuled = (shelf : Shelf) (trees : Trees) → Fits book_schema trees → AreStored trees
     → AreMapped shelf trees → AreRuled shelf latest trees

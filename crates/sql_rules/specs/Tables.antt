@@ -29,7 +29,7 @@ use Rattle.sql_rules.specs.Rules.{rule_at}
 abbrev pub table_at : ℕ → Table
 table_at at = slice_index_or book_schema.tables at meta
 
--- no rowid stands twice in the table at this place, and each row is in its rules
+-- no rowid comes twice in the table at this place, and each row is in its rules
 pub record IsRuledAt (shelf : Shelf) (at : ℕ) (trees : Trees) : Type 0 where
   pub stored : IsStored (trees (table_at at).tree)
   pub rows : AllByRecursion (λ row. IsTrue (rule_at shelf at row)) (trees (table_at at).tree)
@@ -50,8 +50,8 @@ pub record IsOfRows (fault : OpenFault) : Type 0 where
   pub version : ¬ (fault ≡ Version)
   pub latest : ¬ (fault ≡ Older)
 
--- where it answers, the rows are so; where it tells a fault of the rules, they weren't; whatever it
--- answers, nothing is changed
+-- where it answers, the rows are so; where it reports a fault of the rules, they weren't; whatever
+-- it answers, nothing is changed
 pub record Tells {A : Type 0} (are : Trees → Type 0) (old new : State)
     (result : Result A OpenFault) : Type 0 where
   pub found : HasCleanDisk new → OnOk result (IsUnchanged old new × are new.now.trees)

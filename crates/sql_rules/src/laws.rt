@@ -15,8 +15,8 @@ pub fn content_in_rules_is_of_ruled_rows()
     ensures { ContentIsOfRuledRows }
 {}
 
-/// The rows of the latest version's tables are in their rules exactly where what stands under each
-/// key is, as long as no rowid stands twice.
+/// The rows of the latest version's tables are in their rules exactly where what is under each
+/// key is, as long as no rowid comes twice.
 pub fn ruled_rows_are_ruled_under_their_keys()
     ensures mapped { RuledRowsAreMapped }
     ensures back { MappedRowsAreRuled }

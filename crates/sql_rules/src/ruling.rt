@@ -25,12 +25,12 @@ fn count_of(version: u32) -> usize
     }
 }
 
-/// Tests each row of each table of a version: that no rowid stands twice in its table, and that it
+/// Tests each row of each table of a version: that no rowid comes twice in its table, and that it
 /// is in the table's rules, where the tariff books are those of the shelf. Each row is read once,
 /// in one pass a table, what is kept once first. Nothing is changed, whatever is answered.
 ///
 /// # Errors
-/// `Rules` only where a row is out of its rules or a rowid stands twice; `Store` where the store
+/// `Rules` only where a row is out of its rules or a rowid comes twice; `Store` where the store
 /// failed; `Memory` where memory was refused.
 pub fn rules_of<S: Alter>(
     conn: &mut Connection<S>,

@@ -138,7 +138,7 @@ fn fault_of(error: Error) -> OpenFault
     }
 }
 
-/// Tests that no rowid of a table stands twice and that each of its rows is in its rules.
+/// Tests that no rowid of a table comes twice and that each of its rows is in its rules.
 pub(crate) fn table_passes<S: Alter>(
     conn: &mut Connection<S>,
     alloc: Global,

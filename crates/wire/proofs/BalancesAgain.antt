@@ -45,7 +45,7 @@ from_nothing name high d n e h = number_in_found name 0 high d n e (omega arith)
 
 -- ---- a bucket
 
--- its members, by what they tell
+-- its members, by what they say
 abbrev unit_members : Option Data → ℕ → Members
 unit_members counted u =
     perhaps names.unit counted (member (name_of avp.Until) (whole u) no_members)
@@ -172,7 +172,7 @@ account_balance_again a is =
 
 -- ---- how deep it is
 
--- the names of the last members stand above
+-- the names of the last members are above
 above_last : (q : List ℕ) (scope counted : Option Data) (u : ℕ) →
     slice_cmp nat_cmp (name_of avp.Scope) q ≡ Greater → slice_cmp nat_cmp names.unit q ≡ Greater →
     slice_cmp nat_cmp (name_of avp.Until) q ≡ Greater →

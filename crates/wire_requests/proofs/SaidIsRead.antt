@@ -336,7 +336,7 @@ all_read phase ss v is says units low high d f =
       services_read phase [] ss says.items is says.says own f d,
     ) refl
 
--- the services that stand ask for units
+-- the services that are there ask for units
 own_units : (d v : Data) → get (name_of avp.Services) d ≡ Some v →
     AllByRecursion AsksForUnits (services_told d) → AllByRecursion AsksForUnits (elements (Some v))
 own_units d v stands units =
@@ -441,7 +441,7 @@ money_read micros v says some most scale =
       le-leb (micros_told says.digits says.exponent) 1000000000000000 few,
     ) (ap Ok (sym says.is))
 
--- the amount that a refund tells
+-- the amount of a refund
 amount_is : (d q m u : Data) → get (name_of avp.RequestedUnit) d ≡ Some q →
     get (name_of avp.Money) q ≡ Some m → get (name_of avp.UnitValue) m ≡ Some u →
     amount_told d ≡ Some u

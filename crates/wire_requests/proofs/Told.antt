@@ -1,4 +1,4 @@
--- The fault of a request is told of a member that is missing or stands.
+-- The fault of a request is reported of a member that is missing or there.
 use Rattle.std.proofs.Common.{◌≡◌, ℕ, List, [], ◌∷◌, ◌++◌, Bool, true, false, Option, Some, None}
 use Rattle.std.proofs.Common.{is_some, is_none, ◌&&◌, Result, Ok, Err, refl, sym, ap, ◌∙◌}
 use Rattle.std.proofs.Common.{subst, nat_le, append_assoc}
@@ -69,7 +69,7 @@ module _ (d : Data) where
   if_case true x y h k = h refl
   if_case false x y h k = k refl
 
-  -- items, each of which tells of the request
+  -- items, each of which says something of the request
   abbrev AllItems : (Data → Type 0) → Items → Type 0
   AllItems P no_items = ⊤
   AllItems P (item h ds) = P h × AllItems P ds
@@ -160,7 +160,7 @@ module _ (d : Data) (a : Avp) (h : Data) (hold : Holds (holders a d) h) where
   number_bad low high n e = let says = number_said a low high h n e in
       is_invalid says.value says.stands
 
-  -- where it must not stand
+  -- where it must not be there
   absent_told : {A : Type 0} (o : Option Data) (x : A) → get (name_of a) h ≡ o →
       TellsOf d (where_holds (is_none o) (Invalid a) x)
   absent_told None x e = tt

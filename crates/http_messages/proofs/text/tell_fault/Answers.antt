@@ -9,7 +9,7 @@ use Rattle.http_messages.specs.Texts.{response, Begins, TellsFault}
 use Rattle.http_messages.proofs.Begun.{err_gives}
 use Rattle.http_messages.proofs.text.tell_fault.Goals as goal
 
--- what is no JSON object is told its fault
+-- what is no JSON object is answered its fault
 not_request : (closes : Bool) (fault : WireFault) (Writes : List ℕ → Type 0) → fault ≡ NotRequest →
     Writes (response bad_request closes (fault_text NotRequest)) → TellsFault closes fault Writes
 not_request closes fault Writes is written = inl (
