@@ -57,7 +57,7 @@ become text code terms t last ruled old new turns = record {
   stored = turns.stored;
 }
 
--- so it is where the moment alone is put, or stands already
+-- so it is where the moment alone is put, or is there already
 pub become_added : (text code : List ℕ) (terms : VoucherTerms) (t : ℕ) → t ≤ 4_102_488_000
     → is_ruled_addition code terms t ≡ true → (stands : Bool) (old : State)
     → Stands stands (meta_at text t) old → HasCleanDisk old → IsTrue old.is_open → (db : Trees)

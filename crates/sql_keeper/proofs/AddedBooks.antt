@@ -259,7 +259,7 @@ text_counts text (OfBook fault) told r is e = absurd (cc)
 text_counts text (OfShelf fault) told r is e = absurd told
 text_counts text (OfStore fault) told r is e = absurd told
 
--- the store's fault that is told
+-- the store's fault that is reported
 abbrev fault_in : {A : Type 0} → Result A AddFault → StoreFault
 fault_in (Ok x) = Failed
 fault_in (Err (OfBook fault)) = Failed

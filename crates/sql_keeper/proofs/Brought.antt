@@ -209,7 +209,7 @@ not_made v old new e f (inr is) failed =
 
 module _ (v : ℕ) (known : IsVersion v) (less : v < latest) (old mid : State)
     (has : HasMade v old mid) where
-  -- what is kept once, as it stood before
+  -- what is kept once, as it was before
   meta_before : HasCleanDisk mid → (row : Meta) → (tables_content old.now.trees).meta ≡ Some row
       → (tables_content mid.now.trees).meta ≡ Some row
   meta_before clean row is =

@@ -144,7 +144,7 @@ none_reserved : (names : Names) (b : Bool) (book : Option ℕ) →
 none_reserved names true book = refl
 none_reserved names false book = refl
 
--- one that isn't written is told as before, whether its session is open or not, where it has no
+-- one that isn't written is said as before, whether its session is open or not, where it has no
 -- reservation
 free_told : (names : Names) (b c : Bool) (book : Option ℕ) (y : Group) → y.periods ≡ None →
     stored_group_in names b book y ≡ stored_group_in names c book y
@@ -164,8 +164,8 @@ open_named sessions r s = at (session_in s sessions)
     at None e = not_both (sym e)
     at (Some x) e = e
 
--- a group that isn't written stands in a session that is open as before, or has no reservation; one
--- that is written stands in one of the sessions among which it was tested
+-- a group that isn't written is in a session that is open as before, or has no reservation; one
+-- that is written is in one of the sessions among which it was tested
 module _ (names : Names) (among : List Session) (w : StoredRows) (r : TableRows)
     (settled : AreSettled w.sessions w.groups r)
     (opens : (s : List ℕ) → is_open_row (session_in s among) ≡ true →

@@ -74,7 +74,7 @@ covered_found cs n (x ∷ xs) = go (covered_found cs n xs) (x.number == n)
     go later true = refl
     go later false = later
 
--- what is read of covered blocks tells them
+-- what is read of covered blocks says which they are
 under_read : (n : ℕ) (cs : List CoveredColumns)
     → blocks_under n cs ≡ option_map (λ (x : CoveredRow). x.blocks)
     (find (λ (x : CoveredRow). nat_eq x.number n) (map covered_row cs))

@@ -100,7 +100,7 @@ abbrev pub counts_in : Option BucketRow → Bool → Bool
 counts_in None before = before
 counts_in (Some b) before = counts_scoped b.scope b.kind before
 
--- what stands under each number once the buckets are put
+-- what is under each number once the buckets are put
 abbrev pub over_counted : List BucketRow → TableRows → TableRows
 over_counted xs r = record r {
   buckets = λ n. counted_in (bucket_in n xs) (r.buckets n);

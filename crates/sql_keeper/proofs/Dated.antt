@@ -17,7 +17,7 @@ use Rattle.sql_keeper.specs.Tidy.{IsTidy}
 use Rattle.sql_keeper.proofs.RuledRows.{dated_kept}
 use Rattle.sql_keeper.proofs.TidyChanges.{tidy_dated}
 
--- what stands in a list stands where it stood once there is one more
+-- what is in a list is where it was once there is one more
 got_still : {A : Type 0} (xs : List A) (x : A) (i : ℕ) → i < length xs →
     slice_get (xs ++ x ∷ []) i ≡ slice_get xs i
 got_still [] x i low = absurd (omega (arith, low))

@@ -1,4 +1,4 @@
--- The dead buckets of an account, as rows that rise tell them.
+-- The dead buckets of an account, by rows that rise.
 use Rattle.std.proofs.Common.{◌≡◌, ◌<◌, ◌≤◌, ℕ, zero, suc, ◌==◌, List, [], ◌∷◌, length, Bool, true}
 use Rattle.std.proofs.Common.{false, not, ◌||◌, ◌&&◌}
 use Rattle.std.proofs.Common.{Option, Some, None, refl, ap}

@@ -123,7 +123,7 @@ tidy_nothing names a = record {
 tidy_new : (names : Names) (m : Meta) → IsTidy names (with_meta m no_content)
 tidy_new names m = record { there = refl; once = refl; rows = tidy_nothing names }
 
--- ---- what stands there is in its rules
+-- ---- what is there is in its rules
 
 ruled_nothing : (shelf : Shelf) (a : List ℕ) → AreInRules shelf a nothing
 ruled_nothing shelf a = record {

@@ -1,4 +1,4 @@
--- What open sessions have of rating groups, as the rows that were read tell it.
+-- What open sessions have of rating groups, by the rows that were read.
 use Rattle.std.proofs.Common.{◌≡◌, ◌<◌, ℕ, Bool, true, false, cond, List, [], ◌∷◌, ◌++◌, Option}
 use Rattle.std.proofs.Common.{Some, None, length, map, take, get_or, refl, sym, ap, ap₂, subst, ◌∙◌}
 use Rattle.std.proofs.Common.{true≢false}
@@ -55,7 +55,7 @@ terms_are names number p x h =
 
 -- ---- what was read of all sessions, as of one
 
--- the book of a reservation, as the rows that were read tell it
+-- the book of a reservation, by the rows that were read
 books_are : (s : List ℕ) (g : ℕ) (books : List SessionBook)
     → option_map (λ (x : SessionBookAt). x.book)
     (find (is_book_of s g) (map session_book_at books))

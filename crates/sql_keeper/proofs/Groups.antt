@@ -108,7 +108,7 @@ holds_over a s g hs c apart =
     })
     hs c (holds_apart hs apart)
 
--- what is held is the sum, as no bucket stands twice
+-- what is held is the sum, as no bucket comes twice
 held_cons : (n : ℕ) (x : HeldAmount) (xs : List HeldAmount) →
     held_at n (x ∷ xs) ≡ (if nat_eq x.bucket n then x.amount else 0) + held_at n xs
 held_cons n x xs = sum_by-cons (λ (h : HeldAmount). if h.bucket == n then h.amount else 0) x xs

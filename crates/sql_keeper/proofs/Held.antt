@@ -165,7 +165,7 @@ held_committed text shelf last change old new held b = record {
   moment = sym (ap last_in b.meta);
 }
 
--- what is kept once stands with the text, and as a command leaves it that is at the last moment
+-- what is kept once is there with the text, and as a command leaves it that is at the last moment
 pub held_stands : (text : List ℕ) (shelf : Shelf) (last : ℕ) (given : List ℕ) (t : ℕ) (told : Bool)
     (trees : Trees) → given ≡ text → told ≡ (last == t) → IsHeld text shelf last trees
     → IsKeptOnce told (meta_at given t) (tables_content trees).meta

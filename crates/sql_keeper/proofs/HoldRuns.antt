@@ -1,4 +1,4 @@
--- What is held for one session stands together, where rows rise.
+-- What is held for one session is together, where rows rise.
 use Rattle.std.proofs.Common.{◌≡◌, ℕ, zero, suc, ◌<◌, ◌≤◌, Bool, true, false, cond, List, [], ◌∷◌}
 use Rattle.std.proofs.Common.{length, get_or, drop, map, refl, sym, ap, subst, ◌∙◌, arith}
 use Rattle.std.proofs.Common.{true≢false, ◌++◌, ◌-◌}

@@ -58,7 +58,7 @@ kept_asked names told o p old new r kept asks to clean on =
     subst (λ (d : Database). Keeps names p d.trees) (sym still.now_is)
     (to old.now.trees (kept (asks.only.cleanness clean) still.was_open) (asks.found clean))
 
--- what is kept tells without a read
+-- what is kept says it without a read
 pub told_kept : {A E : Type 0} (names : Names) (told : Trees → A → Type 0) (o : Option KeptRows)
     (x : A) (s : State) → HasIdleBook s → AreKept names o s
     → ((trees : Trees) → Keeps names o trees → told trees x)

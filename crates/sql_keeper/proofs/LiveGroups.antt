@@ -102,7 +102,7 @@ open_loaded names rows xs told = record {
 
 -- ---- reads in turn
 
--- what was told of the first state, where nothing changed
+-- what was said of the first state, where nothing changed
 pub told_before : (P : Trees → Type 0) (old mid new : State) → OnlyReads old mid → OnlyReads mid new
     → HasCleanDisk new → IsTrue new.is_open → P mid.now.trees → P old.now.trees
 told_before P old mid new first second clean on =

@@ -33,7 +33,7 @@ use Rattle.sql_keeper.proofs.LiveGroups.{open_loaded}
 
 -- ---- counters
 
--- a test that tells all rows of a key alike keeps what is found, or none of it
+-- a test that answers alike for all rows of a key keeps what is found, or none of it
 pub find_kept : {A : Type 0} (q p : A → Bool) (b : Bool) → ((x : A) → q x ≡ true → p x ≡ b)
     → (xs : List A) → find q (filter p xs) ≡ (if b then find q xs else None)
 find_kept q p b same [] = either_none b (find q []) refl
@@ -77,7 +77,7 @@ live_read names shelf t told x w (head, live, counters) is found =
     ) in
     (account, (λ s g y v e f. live.grants s g y v (sym (found.groups s g) ∙ e) f))
 
--- what is told whatever the shelf and the moment
+-- what is said whatever the shelf and the moment
 pub for_each : {A E : Type 0} (P : Shelf → ℕ → A → Type 0) (r : Result A E)
     → ((shelf : Shelf) (t : ℕ) → IfOk r (P shelf t))
     → IfOk r (λ x. (shelf : Shelf) (t : ℕ) → P shelf t x)

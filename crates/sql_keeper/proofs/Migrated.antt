@@ -102,7 +102,7 @@ granted_1 names trees = λ i. record (tables_of names (content_at 1 trees)) {
 
 -- ---- what a migration makes of what the tables held
 
--- what is kept once is read as it stands
+-- what is kept once is read as it is
 pub meta_at : (v : ℕ) → IsVersion v → v < latest → (trees : Trees) →
     (content_at v trees).meta ≡ (tables_content trees).meta
 meta_at zero known less trees = absurd (omega (arith, known.0))

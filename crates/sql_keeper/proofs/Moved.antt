@@ -243,7 +243,7 @@ module _ (v : ℕ) (old mid new : State) (found : HasCleanDisk mid → IsFound v
   schema_was clean =
       ap (λ (d : Database). d.schema) (sym (same_at clean)) ∙ (found clean).schema
 
-  -- what stands since then stands as it was
+  -- what is there since then is as it was
   still_since : HasCleanDisk mid → IsStill mid new → IsStill old new
   still_since clean s =
       let first = (found clean).unchanged.0 in

@@ -123,7 +123,7 @@ nothing_left : (v : ℕ) (old new : State) → Survives old new (λ _. ⊥)
 nothing_left v old new s = survives_weaker old new (λ _. ⊥) (IsLeftLatest v old.now.trees)
     (λ clean db no. absurd no) s
 
--- outside a transaction a failure leaves what stood as it was
+-- outside a transaction a failure leaves what was there as it was
 spared_since : (v : ℕ) (old mid new : State) → HasIdleAt v old
     → (HasCleanDisk mid → HasCleanDisk old)
     → (HasCleanDisk mid → IsTrue mid.is_open → IsStill old mid) → HasCleanDisk mid

@@ -113,7 +113,7 @@ module _ (a : List ℕ) (x : ChargeRow) where
       charged_over {B = B} {E = E} p q r added (Ok v) adds old
       (record { done = two.done; kept = two.kept; survives = two.survives })
 
--- ---- all of them, over rows where covered blocks stand beside a charge
+-- ---- all of them, over rows where covered blocks are beside a charge
 
 -- of an account
 abbrev AreBeside : List ℕ → TablesContent → Type 0

@@ -257,7 +257,7 @@ put_is names new seen m change texts c named t kept =
     (with_stored change.number names change.rows (with_meta m c))
     (stored_beside names m change c named t.made.reservations t.covered))
 
--- what is kept once is the same at this moment, where its version and its text stand
+-- what is kept once is the same at this moment, where its version and its text are there
 moment_same : (m : Meta) (last : ℕ) (c : TablesContent) → c.meta ≡ Some (record m { last = last })
     → (o : Option Meta) → o ≡ Some m
     → record c { meta = o } ≡ with_meta m c

@@ -78,7 +78,7 @@ pub refused_still : {A B E F : Type 0} (text : List ℕ) (old new : State) (e : 
 refused_still text old new e f c =
     record { done = λ clean. tt; kept = c.kept; survives = c.survives }
 
--- what the store tells is told of a book and of tables that aren't there
+-- what the store reports is reported of a book and of tables that aren't there
 pub store_told : (text : List ℕ) (schema : Schema) (f : CreateFault) → (f ≡ Store) ⊎ (f ≡ Memory)
     → has_ours schema ≡ false → IsBookText text → IsCreateFault text schema f
 store_told text schema f (inl is) none book =
@@ -398,7 +398,7 @@ module _ {E : Type 0} (old mid : State) (m : MetaColumns)
     survives = meta.survives;
   }
 
-  -- what was read first is told of the state before
+  -- what was read first is said of the state before
   told_first : (P : Trees → Type 0) → HasCleanDisk mid → P mid.now.trees → P old.now.trees
   told_first P clean = subst (λ (d : Database). P d.trees)
       (meta.only.still clean (meta.stays clean)).now_is

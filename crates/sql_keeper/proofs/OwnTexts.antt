@@ -37,7 +37,7 @@ own_texts a c x content answer name is so of read again =
     (own_content a c content is of read))
     (own_answer x answer so again)
 
--- of the account itself only memory is told
+-- of the account itself only memory is reported
 pub memory_told : (a : List ℕ) (c : Content) → account_of c ≡ a → Memory ≡ texts_fault a c
 memory_told a c is =
     sym (ap (λ (b : Bool). if b then Memory else Rules)

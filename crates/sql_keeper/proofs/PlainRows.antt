@@ -17,7 +17,7 @@ use Rattle.sql_rules.specs.Rules.{is_ruled_session}
 use Rattle.sql_rules.specs.Tables.{AreRuled}
 use Rattle.sql_rules.proofs.Lookups.{found_in}
 
--- ---- a column of what stands under a key, behind the rowid
+-- ---- a column of what is under a key, behind the rowid
 
 second_of : (r : Row) → column (drop 1 r) 1 ≡ column r 2
 second_of [] = refl

@@ -221,7 +221,7 @@ module _ {A B C E : Type 0} (a : List ℕ) (p q r s : State) (x : A) (y : B) (z 
       (makes_all_then (λ c. with_sessions a xs (money c)) (groups gs) p r s y z
       (makes_all_then money (with_sessions a xs) p q r x (Ok y) one two) three)
 
--- the moment unless it stands, and a voucher that no account has redeemed
+-- the moment unless it is there, and a voucher that no account has redeemed
 pub puts_addition : {A B E : Type 0} (stands : Bool) (code k : List ℕ) (terms : VoucherTerms)
     (t : ℕ) (v : VoucherRow) (a b c : State) (x : A) (r : Result B E) → k ≡ code
     → v ≡ voucher_row (unspent terms)

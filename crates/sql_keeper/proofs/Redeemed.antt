@@ -8,7 +8,7 @@ use Rattle.sql_rows.specs.Content.{TablesContent}
 use Rattle.sql_keeper.specs.Content.{tables_of, voucher_in, Names}
 use Rattle.sql_keeper.specs.Writes.{voucher_row, with_redeemed}
 
--- what stands under a code once a row more does
+-- what is under a code once a row more is
 pub told_over : {A B : Type 0} (f : A → B) (b : Bool) (x : A) (o : Option A)
     → option_map f (if b then Some x else o) ≡ (if b then Some (f x) else option_map f o)
 told_over f true x o = refl

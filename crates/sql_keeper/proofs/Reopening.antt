@@ -1,4 +1,4 @@
--- A store that is stopped where it stands and opened again, and what a change leaves over a stop.
+-- A store that is stopped where it is and opened again, and what a change leaves over a stop.
 use Rattle.std.proofs.Common.{◌≡◌, ◌≤◌, ◌⊎◌, inl, inr, ◌∙◌, ap, sym, subst, arith, IsTrue}
 use Rattle.std.specs.Prelude.{IfOk, OnOk, Ok, Err, Result}
 use Rattle.sqlite_trees.specs.Tree.{Trees}

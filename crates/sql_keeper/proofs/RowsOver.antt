@@ -332,7 +332,7 @@ module _ (fresh : List ℕ → Bool) (r : Rows) (w : StoredRows) (x y : LiveRows
         (holds_there s g n) (are.holds s g n);
   }
 
--- ---- told by the tables
+-- ---- by the tables
 
 told_group : {A : Type 0} (f : Bool → Option A) (t : Bool)
     → (if t then f true else None) ≡ (if t then f t else None)
@@ -405,7 +405,7 @@ grants_over old new ws xs ys on stored are found s g x v e f =
 
 -- ---- all of it
 
--- of a session of which nothing is stored nothing is told
+-- of a session of which nothing is stored nothing is known
 nothing_told : (names : Names) (r : TableRows) (s : List ℕ) → IsUnknown r s
     → IsNothing (told_rows names r) s
 nothing_told names r s none = record {

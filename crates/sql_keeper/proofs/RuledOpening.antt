@@ -38,7 +38,7 @@ row_caused Store db told rules = inl (inl refl)
 row_caused Memory db told rules = inl (inr refl)
 row_caused Older db told rules = absurd (told.latest refl)
 
--- what is kept is in its rules, and tells the latest version
+-- what is kept is in its rules, and keeps the latest version
 kept_latest : (trees : Trees) (text : List ℕ) → IsUtf8 text → IsKept trees text →
     KeepsVersion latest trees
 kept_latest trees text utf8 kept = record {
@@ -79,7 +79,7 @@ module _ (old mid new : State) (r : ReadBooks) (finds : FindsBooks old mid (Ok r
         unruled = not_ruled;
       })
 
-  -- what the rows' test leaves as it was stands as it was before
+  -- what the rows' test leaves as it was is as it was before
   still_after : HasCleanDisk mid → IsStill mid new → IsStill old new
   still_after clean last =
       let first = (finds.found clean).1 in
@@ -100,7 +100,7 @@ module _ (old mid new : State) (r : ReadBooks) (finds : FindsBooks old mid (Ok r
     both_survive = survives_then old mid new (λ _. ⊥) (λ _. ⊥) (λ _. ⊥) (λ clean db no'. no')
         (λ clean db no'. no') finds.survives two
 
-    -- why it isn't told whether each row is in its rules
+    -- why it isn't said whether each row is in its rules
     pub rows_refused : (e : OpenFault) → (HasCleanDisk new → IsRowFault e old.now)
         → (HasCleanDisk new → Spares mid new) → FindsRuled old new (Err e)
     rows_refused e cause spares = record {
@@ -184,7 +184,7 @@ pub ruled_schema : (old mid : State) (r : ReadBooks) → FindsBooks old mid (Ok 
     → HasCleanDisk mid → mid.now.schema ≡ schema_at latest
 ruled_schema old mid r finds clean = (finds.idle clean (finds.found clean).2).book.schema
 
--- ---- of a database that has a fault no row is told
+-- ---- of a database that has a fault no row is reported
 
 pub rows_apart : AreRowsApart
 rows_apart db Foreign h k = h latest latest_known k.schema

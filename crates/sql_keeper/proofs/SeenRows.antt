@@ -53,7 +53,7 @@ seen_after o old new seen only clean on =
     subst (λ (d : Database). Sees o d.trees) (sym still.now_is)
     (seen (only.cleanness clean) still.was_open)
 
--- so what is kept once stands after what was only read
+-- so what is kept once stays after what was only read
 pub stands_after : (told : Bool) (m : Meta) (old new : State) → Stands told m old
     → OnlyReads old new → Stands told m new
 stands_after told m old new stands only clean on =
@@ -74,7 +74,7 @@ seen_asked told o p old new r seen asks to clean on =
     subst (λ (d : Database). Sees p d.trees) (sym still.now_is)
     (to old.now.trees (seen (asks.only.cleanness clean) still.was_open) (asks.found clean))
 
--- what was seen tells without a read
+-- what was seen says it without a read
 pub told_seen : {A E : Type 0} (told : Trees → A → Type 0) (o : Option SeenAccount) (x : A)
     (s : State) → HasIdleBook s → AreSeen o s
     → ((trees : Trees) → Sees o trees → told trees x) → Gathers {A = A} {E = E} told s s (Ok x)
@@ -136,7 +136,7 @@ pub seen_of_copy : (a b : List ℕ) (w : StoredRows) (x : SeenAccount) → a ≡
     → IsSeenOf b w x
 seen_of_copy a b w x same h = subst (λ n. IsSeenOf n w x) same h
 
--- what a reservation that holds of one bucket alone tells
+-- what a reservation that holds of one bucket alone says
 pub record IsToldGrant (g : ℕ) (o : Option Reservation) (y : SeenGrant) : Type 0 where
   pub reservation : Reservation
   pub is : o ≡ Some reservation

@@ -301,7 +301,7 @@ up_is n last rows r b told same is =
     (sym same)
     ∙ sym told ∙ is
 
--- the books of the rows below a number stand on both shelves
+-- the books of the rows below a number are on both shelves
 pub record AreShelvedTo (b : Book) (xs : List BookAt) (n : ℕ) (own other : Shelf) : Type 0 where
   pub first : own.first ≡ b
   pub later : AreOnly (λ m. row_numbered m xs) 2 own.later

@@ -119,7 +119,7 @@ asked_once {A} {B} {E} {F} told old mid new u r tested reads =
       survives = reads.survives;
     })
 
--- what is told without a read
+-- what is said without a read
 pub asked_none : {A B E F : Type 0} (told : Trees → A → Type 0) (old new : State) (u : B) (x : A)
     → IsStillOpen {A = B} {E = F} old new (Ok u) → ((trees : Trees) → told trees x)
     → Asks {A = A} {E = E} told old new (Ok x)
@@ -180,7 +180,7 @@ standing_shut {A} {B} {E} {F} Become old new f (Err e) failed tested = record {
       tested.survives;
 }
 
--- what is told of an answer by the tables before it
+-- what is said of an answer by the tables before it
 pub told_standing : {A B E F : Type 0} (P : A → Trees → Type 0) (old mid new : State) (u : B)
     (r : Result A E) → IsStillOpen {A = B} {E = F} old mid (Ok u)
     → (HasCleanDisk new → HasCleanDisk mid) → (HasCleanDisk new → IfOk r (λ x. P x mid.now.trees))

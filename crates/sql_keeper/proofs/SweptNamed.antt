@@ -46,7 +46,7 @@ abbrev pub AreOpenAlone : TableRows → StoredRows → Type 0
 AreOpenAlone r x =
     (s : List ℕ) → is_open_row (r.sessions s) ≡ false → session_in s x.sessions ≡ None
 
--- a group that is told in an open session, and without terms, has no reservation
+-- a group that is named in an open session, and without terms, has no reservation
 no_periods : (names : Names) (on : Bool) (book : Option ℕ) (p : Option PeriodNames) → on ≡ true
     → reserved_in names on book p ≡ None → p ≡ None
 no_periods names true book None opened none = refl
@@ -84,7 +84,7 @@ module _ (names : Names) (before after : StoredRows) (r : TableRows)
   shut_still s shut = open_same s
       ∙ ap (λ o. is_open_row (first_of o (r.sessions s))) (alone s shut) ∙ shut
 
-  -- a group that is among the rows and isn't named stands as it is there
+  -- a group that is among the rows and isn't named stays as it is there
   group_there : (s : List ℕ) (g : ℕ) (x : SessionGroup) → group_in s g named.groups ≡ None
       → group_in s g after.groups ≡ Some x → (told_rows names r).groups s g ≡ Some (group_row x)
   group_there s g x none e =
@@ -194,7 +194,7 @@ module _ (names : Names) (shelf : Shelf) (t : ℕ) (r : TableRows) (w : StoredRo
   keyed_swept = subst AreKeyed (sym swept.is)
       (keyed_named (differing_at shelf t before) (named_kept before after swept.kept.stored))
 
-  -- a reservation among them stands in a session that is open among all of them
+  -- a reservation among them is in a session that is open among all of them
   pub may_swept : AreWritable names after.sessions w.groups
   may_swept = subst (λ (x : StoredRows). AreWritable names after.sessions x.groups) (sym swept.is)
       (may_named names before after r there own apart swept.kept.may free alone)

@@ -182,7 +182,7 @@ module _ (names : Names) (text : List ℕ) (shelf : Shelf) (t : ℕ) where
     rules = rules;
   }
 
-  -- an account that is brought on after others was read as it stood before them
+  -- an account that is brought on after others was read as it was before them
   as_before : (numbers : List (List ℕ)) (a : List ℕ) (xs : List SweptAccount) (x : SweptAccount)
       (c d : TablesContent) → d ≡ with_sweep names text t xs c
       → AreApart (λ x y. same_name y x) (numbers ++ a ∷ []) → AreSweptOf names shelf t c numbers xs

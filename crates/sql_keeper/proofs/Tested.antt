@@ -1,4 +1,4 @@
--- Whether a change may be made of what is stored, told by what is read of it.
+-- Whether a change may be made of what is stored, by what is read of it.
 use Rattle.std.proofs.Common.{◌≡◌, ◌<◌, ◌≤◌, ◌+◌, take, get_or, length, ℕ, Bool, true, false}
 use Rattle.std.proofs.Common.{List, [], ◌∷◌, ◌++◌, cond, Option, Some, None, Result, Ok, Err, IfOk}
 use Rattle.std.proofs.Common.{IsTrue, inl, inr, refl, sym, ap, subst, ◌∙◌}
@@ -113,7 +113,7 @@ found_new {E} a groups x y old new stands gone =
     of_none r s Open h e = absurd (not_both (sym e))
     of_none r s Over h e = absurd (not_both (sym e))
 
--- whether it is open by how it stands
+-- whether it is open by what is known of it
 pub open_as : (r : TableRows) (s : List ℕ) (y : Standing) → IsStanding r s y →
     stands_open y ≡ is_open_row (r.sessions s)
 open_as r s Unknown h = ap is_open_row (sym h.row)
@@ -338,7 +338,7 @@ change_found {E} names change o xs ys y z old mid new same_xs same_ys is one wri
           two.only clean on ((two.found clean on).new both.1)) both.0);
     })
 
--- covered blocks stand beside a charge, since their key is one of charges
+-- covered blocks are beside a charge, since their key is one of charges
 pub beside_at : (s : State) → HasIdleBook s → IsLive s → (a : List ℕ) → HasCleanDisk s
     → IsTrue s.is_open → AreCoveredBeside (rows_in s.now.trees a)
 beside_at s idle live a clean on =

@@ -35,7 +35,7 @@ use Rattle.sql_keeper.proofs.Overlays.{name_from, not_both, number_from, opened}
 
 -- ---- the rows of an account
 
--- the rows may be put over those: a reservation stands in an open session with the names of its
+-- the rows may be put over those: a reservation is in an open session with the names of its
 -- book's periods, and a charge that is numbered stays so
 pub record MayBeOver (names : Names) (w : StoredRows) (r : TableRows) : Type 0 where
   pub live : (s : List ℕ) (g : ℕ) (x : SessionGroup) (y : Reservation)

@@ -1,4 +1,4 @@
--- What a change, a voucher and a book more leave of tables in which nothing stands that isn't told.
+-- What a change, a voucher and a book more leave of tables in which no row is without a meaning.
 use Rattle.std.proofs.Common.{◌≡◌, inl, inr, ◌∙◌, ◌++◌, ℕ, zero, suc, Bool, true, false, List, []}
 use Rattle.std.proofs.Common.{◌∷◌, Option, Some, None, refl, sym, ap}
 use Rattle.std.specs.Prelude.{is_some, slice_get, unwrap_or}

@@ -1,4 +1,4 @@
--- What a sweep leaves of tables in which nothing stands that isn't told.
+-- What a sweep leaves of tables in which no row is without a meaning.
 use Rattle.std.proofs.Common.{◌≡◌, ◌∙◌, ℕ, List, Option, Some, None, refl, sym, ap, subst}
 use Rattle.std.specs.Prelude.{is_some}
 use Rattle.shelves.specs.Shelves.{Shelf, IsShelf}

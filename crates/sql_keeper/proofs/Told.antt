@@ -1,4 +1,4 @@
--- Several reads in turn, and what is made of all that they told.
+-- Several reads in turn, and what is made of all that they said.
 use Rattle.std.proofs.Common.{◌≡◌, ◌<◌, ◌≤◌, ◌+◌, ◌∙◌, ap, sym, ℕ, List, [], ◌∷◌, ◌++◌, map, take}
 use Rattle.std.proofs.Common.{length, get_or, Result, Ok, IfOk, IsTrue}
 use Rattle.std.proofs.lemmas.List.{map_more, take_all}
@@ -12,7 +12,7 @@ use Rattle.sql_keeper.proofs.LiveGroups.{told_before}
 
 -- ---- one after another
 
--- what reads that answered tell of the tables
+-- what reads that answered say of the tables
 pub record Tells (P : Trees → Type 0) (old new : State) : Type 0 where
   pub found : HasCleanDisk new → IsTrue new.is_open → P old.now.trees
   pub reads : HaveRead old new

@@ -24,20 +24,20 @@ abbrev pub with_addition : BookText → VoucherCode → VoucherTerms → Moment 
 with_addition text code terms t c =
     with_voucher_row code (voucher_row (unspent terms)) (with_meta (meta_at text t) c)
 
--- the same as it is put: the moment isn't where it stands already
+-- the same as it is put: without the moment, where that is kept already
 abbrev pub with_addition_put : Bool → VoucherCode → VoucherTerms → Moment → TablesContent →
     TablesContent
 with_addition_put stands code terms t c =
     with_voucher_row code (voucher_row (unspent terms)) (with_moment_put stands t c)
 
 -- the tables hold the voucher; they would be found again: the catalog is the same, and so are the
--- version and the books, no rowid stands twice, and the moment is in the range of moments
+-- version and the books, no rowid comes twice, and the moment is in the range of moments
 pub record BecomesAdded (text : BookText) (code : VoucherCode) (terms : VoucherTerms) (t : Moment)
     (old new : Trees) : Type 0 where
   pub tables : (names : Names)
       → tables_of names (tables_content new)
       ≡ with_voucher code terms t (tables_of names (tables_content old))
-  -- where nothing stood that isn't told, nothing does
+  -- where no row was without a meaning, none is
   pub tidy : (names : Names) → IsTidy names (tables_content old) → IsTidy names (tables_content new)
   -- where all was in its rules, all is
   pub rules : (shelf : Shelf) → IsTrue (is_some (tables_content old).meta)

@@ -47,13 +47,13 @@ AreBooksKnown n c = (a : AccountName) (s : SessionName) (g : GroupId) (m : BookN
 
 -- the tables hold what they held, by the names of the books with those of the new one, if each
 -- reservation goes by a book that was there; they would be found again: the catalog and what is
--- kept once are the same, and no rowid stands twice
+-- kept once are the same, and no rowid comes twice
 pub record BecomesDated (n : BookNumber) (from : Moment) (text : BookText) (old new : Trees)
     : Type 0 where
   pub tables : (names : Names) (more : List (List ℕ)) → 1 ≤ length names
       → n ≡ suc (length names) → AreBooksKnown (length names) (tables_content old)
       → tables_of (names ++ more ∷ []) (tables_content new) ≡ tables_of names (tables_content old)
-  -- where nothing stood that isn't told, nothing does
+  -- where no row was without a meaning, none is
   pub tidy : (names : Names) (more : List (List ℕ)) → IsTidy names (tables_content old) →
       IsTidy (names ++ more ∷ []) (tables_content new)
   -- where all was in its rules, all is, by the books with one of the new text: if the row of it is
@@ -98,28 +98,28 @@ IsTextFault text (OfBook fault) = IsBookFault text fault
 IsTextFault text (OfShelf fault) = ⊥
 IsTextFault text (OfStore fault) = ⊥
 
--- when a fault is told of a text, over a shelf and the moment of the last accepted command: first
--- the text's own, then the shelf's
+-- when a fault is reported of a text, over a shelf and the moment of the last accepted command:
+-- first the text's own, then the shelf's
 abbrev pub IsAddFault : BookText → Moment → Shelf → Moment → AddFault → Type 0
 IsAddFault text from s last (OfBook fault) = IsBookFault text fault
 IsAddFault text from s last (OfShelf fault) = (b : Book) × IsBookOf text b
     × (¬ (fault ≡ Memory) → shelf_fault s from b last ≡ Some fault)
 IsAddFault text from s last (OfStore fault) = (b : Book) × IsBookOf text b
 
--- the book of the text stands behind those of the shelf
+-- the book of the text is behind those of the shelf
 pub record IsAdded (text : BookText) (from last : Moment) (old new : Shelf) : Type 0 where
   pub book : Book
   pub read : IsBookOf text book
   pub free : shelf_fault old from book last ≡ None
   pub shelf : new ≡ with_book old from book
 
--- the book stands behind those of the shelf, which had no fault of it
+-- the book is behind those of the shelf, which had no fault of it
 pub record IsBehind (from : Moment) (b : Book) (last : Moment) (old new : Shelf) : Type 0 where
   pub free : shelf_fault old from b last ≡ None
   pub shelf : new ≡ with_book old from b
   pub is : IsShelf new
 
--- the book stands behind those of two shelves, which had as many; the first had no fault of it, and
+-- the book is behind those of two shelves, which had as many; the first had no fault of it, and
 -- it begins before the end of all moments
 pub record IsOnBoth (from : Moment) (b : Book) (last : Moment) (before after own new : Shelf)
     : Type 0 where

@@ -74,7 +74,7 @@ AreShelvesOne = (trees : Trees) (text more : BookText) (s t : Shelf) → IsKept 
     → IsShelfOf more (tables_content trees).books t → s ≡ t
 
 -- the connection that was opened shows what was left, and each row in its rules, so no fault is
--- told of it but the store's or memory's
+-- reported of it but the store's or memory's
 abbrev pub IsFoundAgain : {S : Type 0} → Ghosts S → Held S → Held S → BookText → OpenFault → Type 0
 IsFoundAgain g old new text fault = IsLeftRuled text (state g old).now.trees
     → IsDatabase (state g old).now → HasCleanDisk (state g new) → IsNotOpened g old new fault

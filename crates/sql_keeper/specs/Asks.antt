@@ -20,8 +20,8 @@ pub record IsStillOpen {A E : Type 0} (old new : State) (result : Result A E) : 
   pub only : OnlyReads old new
   pub survives : Survives old new (λ _. ⊥)
 
--- outside a transaction, over a connection that may be shut: what is answered is told by the tables
--- of one that is open; whether there is an answer or not, nothing is changed, and a stop leaves
+-- outside a transaction, over a connection that may be shut: what is answered is what the tables
+-- say of one that is open; whether there is an answer or not, nothing is changed, and a stop leaves
 -- what it left before
 pub record Asks {A E : Type 0} (told : Trees → A → Type 0) (old new : State)
     (result : Result A E) : Type 0 where
@@ -30,14 +30,14 @@ pub record Asks {A E : Type 0} (told : Trees → A → Type 0) (old new : State)
   pub only : OnlyReads old new
   pub survives : Survives old new (λ _. ⊥)
 
--- what was read is handed on, or a fault is told
+-- what was read is handed on, or a fault is reported
 abbrev pub IsHanded : {A E F : Type 0} → Result A E → Result A F → Type 0
 IsHanded (Ok x) (Ok y) = y ≡ x
 IsHanded (Ok x) (Err f) = ⊥
 IsHanded (Err e) (Ok y) = ⊥
 IsHanded (Err e) (Err f) = Unit {0}
 
--- ---- the fault that is told of a read's, and the count of failures
+-- ---- the fault that is reported of a read's, and the count of failures
 
 -- memory was refused
 abbrev pub is_memory : Error → Bool

@@ -17,14 +17,14 @@ use Rattle.sql_keeper.specs.Shelves.{HasShelf}
 
 -- ---- what is kept once
 
--- it is there in its rules, and tells this version
+-- it is there in its rules, and keeps this version
 pub record KeepsVersion (v : TablesVersion) (trees : Trees) : Type 0 where
   pub row : Meta
   pub is : (tables_content trees).meta ≡ Some row
   pub ruled : IsRuledMeta row
   pub version : row.version ≡ v
 
--- it is there in its rules, and tells another version than this
+-- it is there in its rules, and keeps another version than this
 pub record IsOtherThan (v : TablesVersion) (trees : Trees) : Type 0 where
   pub row : Meta
   pub is : (tables_content trees).meta ≡ Some row
@@ -35,7 +35,7 @@ pub record IsOtherThan (v : TablesVersion) (trees : Trees) : Type 0 where
 abbrev pub IsUnruledMeta : Trees → Type 0
 IsUnruledMeta trees = (row : Meta) → (tables_content trees).meta ≡ Some row → ¬ IsRuledMeta row
 
--- it isn't there or is out of its rules; or it tells this version, the latest, and the texts that
+-- it isn't there or is out of its rules; or it keeps this version, the latest, and the texts that
 -- are kept aren't those of a shelf
 abbrev pub AreUnruled : TablesVersion → Trees → Type 0
 AreUnruled v trees = (row : Meta) → (tables_content trees).meta ≡ Some row → IsRuledMeta row
@@ -65,7 +65,7 @@ pub record IsOlder (db : Database) : Type 0 where
   pub stored : AreStoredAt version db.trees
   pub kept : KeepsVersion version db.trees
 
--- the tables are those of a version, and a rowid of theirs stands twice, or what is kept once isn't
+-- the tables are those of a version, and a rowid of theirs comes twice, or what is kept once isn't
 -- in the rules of who opens it
 pub record IsUnruled (db : Database) : Type 0 where
   pub version : TablesVersion

@@ -37,13 +37,13 @@ pub record Transacts {A E : Type 0} (change : TablesContent → TablesContent) (
     pub survives : Survives old new (λ db. IsTrue old.is_open × Turns change old.now.trees db)
 
 -- the tables hold the change and nothing else; they would be found again: the catalog is the same,
--- and so are the version and the books, no rowid stands twice, and the moment is in the range of
+-- and so are the version and the books, no rowid comes twice, and the moment is in the range of
 -- moments
 pub record Becomes (names : Names) (text : BookText) (change : Change) (old new : Trees)
     : Type 0 where
   pub tables : tables_of names (tables_content new) ≡
       changed change (tables_of names (tables_content old))
-  -- where nothing stood that isn't told, nothing does
+  -- where no row was without a meaning, none is
   pub tidy : IsTidy names (tables_content old) → IsTidy names (tables_content new)
   -- where all was in its rules, by the books of these names, all is
   pub rules : (shelf : Shelf) → names ≡ shelf_names shelf

@@ -1,4 +1,4 @@
--- What a keeper over a database holds, told by the rows of its tables.
+-- What a keeper over a database holds, by the rows of its tables.
 -- Source: profile.
 use Rattle.std.specs.Prelude.{ℕ, zero, suc, ◌&&◌, Bool, false, List, [], map, slice_get, Option}
 use Rattle.std.specs.Prelude.{Some, None, Result, Ok, Err, unwrap_or, option_map}
@@ -32,7 +32,7 @@ use Rattle.sql_rows.specs.Values.{Meta, Group, PeriodNames, Kept, VoucherRow}
 use Rattle.sql_rows.specs.Values.{request_kind, reference_kind}
 use Rattle.sql_rows.specs.Content.{TableRows, TablesContent}
 
--- ---- periods, which stand by their names
+-- ---- periods, which are there by their names
 
 -- the names of the periods of each book, in the order of the books' numbers; the first is 1
 abbrev pub Names : Type 0
@@ -72,7 +72,7 @@ book_in book = unwrap_or book 1
 abbrev pub terms_in : Names → BookNumber → PeriodNames → Terms
 terms_in names n p = record { book = n; periods = periods_in (names_numbered names n) p }
 
--- a reservation stands as long as its session is open
+-- a reservation counts as long as its session is open
 abbrev pub reserved_in : Names → Bool → Option BookNumber → Option PeriodNames → Option Terms
 reserved_in names is_open book periods =
     if is_open then option_map (terms_in names (book_in book)) periods else None
@@ -85,7 +85,7 @@ abbrev pub is_reserved : Option Group → Bool
 is_reserved None = false
 is_reserved (Some x) = is_some x.periods
 
--- what is held stands as long as its reservation
+-- what is held counts as long as its reservation
 abbrev pub held_in : Bool → Option BucketAmount → BucketAmount
 held_in has_reservation amount = if has_reservation then unwrap_or amount 0 else 0
 
@@ -132,7 +132,7 @@ told_charge r n = option_map (charge_in (r.covered n)) (r.charges n)
 abbrev pub charge_of : ChargeNumber → TableRows → Option ChargeRow
 charge_of n r = if is_numbered n r.head then told_charge r n else None
 
--- ---- kept answers, which stand as texts
+-- ---- kept answers, which are there as texts
 
 abbrev pub kept_told : Result Content WireFault → Result Answer WireFault → Option KeptAnswer
 kept_told (Ok c) (Ok x) = Some (record { content = c; answer = x })

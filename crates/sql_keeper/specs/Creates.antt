@@ -22,7 +22,7 @@ use Rattle.sql_keeper.specs.Tidy.{IsTidy}
 abbrev pub first_meta : BookText → Meta
 first_meta text = record { version = latest; book = text; last = 0 }
 
--- the tables of this book before any command: the database lists them, no rowid stands twice, and
+-- the tables of this book before any command: the database lists them, no rowid comes twice, and
 -- there is no other book
 pub record IsNewBook (text : BookText) (trees : Trees) : Type 0 where
   pub lists : Lists (trees catalog_tree) book_schema
@@ -30,9 +30,9 @@ pub record IsNewBook (text : BookText) (trees : Trees) : Type 0 where
   pub meta : (tables_content trees).meta ≡ Some (first_meta text)
   pub tables : (names : Names) → tables_of names (tables_content trees) ≡ no_tables
   pub books : (n : BookNumber) → (tables_content trees).books n ≡ None
-  -- nothing stands there that isn't told
+  -- no row there is without a meaning
   pub tidy : (names : Names) → IsTidy names (tables_content trees)
-  -- what stands there is in its rules, by any books
+  -- what is there is in its rules, by any books
   pub rules : (shelf : Shelf) → IsInRules shelf (tables_content trees)
   pub plain : ArePlain trees
 

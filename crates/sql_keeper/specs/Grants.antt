@@ -1,4 +1,4 @@
--- What was seen of a reservation, and a row that leaves its book and its one hold where they stand.
+-- What was seen of a reservation, and a row that leaves its book and its one hold where they are.
 -- Source: profile.
 use Rattle.std.specs.Prelude.{◌≡◌, ◌==◌, ◌&&◌, Bool, false, List, [], ◌∷◌, Option, Some, None}
 use Rattle.std.specs.Prelude.{option_map}

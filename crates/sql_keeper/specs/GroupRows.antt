@@ -100,7 +100,7 @@ pub record AreTermsOf (names : Names) (number : Option BookNumber) (p : PeriodNa
   pub book : number ≡ Some x.book
   pub periods : ArePeriodsOf (names_numbered names x.book) p x.periods
 
--- the holds of a rating group stand in the order of the buckets, and there is no other hold of it
+-- the holds of a rating group are in the order of the buckets, and there is no other hold of it
 pub record AreHoldsOf (buckets : List BucketRow) (held : List HeldColumns) (g : GroupId)
     (holds : List HeldAmount) : Type 0 where
   pub order : holds ≡ holds_along buckets g held

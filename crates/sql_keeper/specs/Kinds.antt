@@ -15,13 +15,13 @@ abbrev pub IsScoped : Bool → Option GroupId → Bool → Type 0
 IsScoped there None is = Unit {0}
 IsScoped there (Some g) is = is ≡ there
 
--- as the row under its key tells
+-- as the row under its key says
 abbrev pub counted_row : TableRows → Columns → BucketRow
 counted_row rows x = bucket_in (rows.allowances x.number) (bucket_row x)
 
 abbrev pub counted_rows : TableRows → List Columns → List BucketRow
 counted_rows rows xs = map (counted_row rows) xs
 
--- as the numbers of all buckets of blocks tell
+-- as the numbers of all buckets of blocks say
 abbrev pub counted_by : List BucketNumber → Columns → BucketRow
 counted_by numbers x = bucket_in (list_any (λ n. nat_eq n x.number) numbers) (bucket_row x)

@@ -25,7 +25,7 @@ pub record IsKept (trees : Trees) (text : BookText) : Type 0 where
   pub book : row.book ≡ text
   pub last : row.last ≤ 4_102_488_000
 
--- the tables of a book as they are found again: the database lists ours, no rowid stands twice
+-- the tables of a book as they are found again: the database lists ours, no rowid comes twice
 -- there, and it keeps their version with the text, which is one of characters and a book's; the
 -- other books that it keeps may follow it
 pub record IsLeft (text : BookText) (trees : Trees) : Type 0 where

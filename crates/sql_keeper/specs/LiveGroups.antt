@@ -20,7 +20,7 @@ use Rattle.sql_rows.specs.Lists.{AreSessions}
 use Rattle.sql_keeper.specs.Content.{stored_group_in, is_reserved, held_in, told_rows, Names}
 
 -- outside a transaction, several reads in turn, or none: while the connection stays open, what they
--- answer is told by the tables; whether they answer or not, they change nothing
+-- answer is what the tables say; whether they answer or not, they change nothing
 pub record Gathers {A E : Type 0} (told : Trees → A → Type 0) (old new : State)
     (result : Result A E) : Type 0
   where

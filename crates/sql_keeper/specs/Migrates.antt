@@ -67,7 +67,7 @@ AreGranted v old new = (a : AccountName) (s : SessionName) (g : GroupId)
 pub record BecomesLatest (v : TablesVersion) (old new : Trees) : Type 0 where
   pub tables : (names : Names) →
       tables_of names (tables_content new) ≡ tables_of names (content_at v old)
-  -- where nothing stood that isn't told, nothing does
+  -- where no row was without a meaning, none is
   pub tidy : (names : Names) → IsTidy names (content_at v old) → IsTidy names (tables_content new)
   pub granted : AreGranted v (content_at v old) (tables_content new)
   pub books : (tables_content new).books ≡ (content_at v old).books
@@ -82,8 +82,8 @@ pub record IsLeftLatest (v : TablesVersion) (old new : Trees) : Type 0 where
   pub text : BookText
   pub left : IsLeftRuled text new
 
--- a database of a version in the rules of who migrates it: no rowid stands twice, what is kept once
--- is there and in its rules, with the texts of a shelf where it tells that version, each
+-- a database of a version in the rules of who migrates it: no rowid comes twice, what is kept once
+-- is there and in its rules, with the texts of a shelf where it keeps that version, each
 -- reservation that gets a row of its book is in its rules, and so is each row, by that shelf
 pub record IsRuledVersion (v : TablesVersion) (trees : Trees) : Type 0 where
   pub stored : AreStoredAt v trees
@@ -108,7 +108,7 @@ abbrev pub with_granted : TablesVersion → TablesContent → TablesContent
 with_granted v c =
     if nat_le 2 v then c else record c { rows = λ a. granted_in (c.rows a) }
 
--- the rules are told only of a reservation that is out of them, before version 2
+-- the rules are reported only of a reservation that is out of them, before version 2
 abbrev pub AreUnruledReserved : TablesVersion → Trees → ReadFault → Type 0
 AreUnruledReserved v trees e =
     e ≡ reading.Rules → (v < 2) × ¬ AreRuledReserved (tables_content trees)

@@ -1,4 +1,4 @@
--- Whether a database of an older version tells that version, as an opening asks it.
+-- Whether a database of an older version keeps that version, as an opening asks it.
 -- Source: profile.
 use Rattle.std.specs.Prelude.{◌≡◌, IsTrue, Result, IfErr, OnOk}
 use Rattle.sql_tables.specs.Words.{TablesVersion}

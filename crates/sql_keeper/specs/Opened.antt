@@ -23,7 +23,7 @@ use Rattle.sql_keeper.specs.RuledOpening.{IsRowFault}
 use Rattle.sql_keeper.specs.Shelves.{IsShelfOf}
 use Rattle.sql_keeper.specs.Stops.{trees_in}
 
--- a keeper before its first call, and the shelf on which the book of its text stands first
+-- a keeper before its first call, and the shelf on which the book of its text is first
 pub record IsFresh {S : Type 0} (k : KeeperState S) (shelf : Shelf) : Type 0 where
   pub read : IsBookOf k.text shelf.first
   pub own : k.shelf ≡ shelf

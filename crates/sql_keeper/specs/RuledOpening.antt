@@ -34,7 +34,7 @@ pub record HasUnruledRow (db : Database) : Type 0 where
 abbrev pub IsRowFault : OpenFault → Database → Type 0
 IsRowFault fault db = IsStores fault ⊎ (HasFault fault db ⊎ ((fault ≡ Rules) × HasUnruledRow db))
 
--- of a database that has a fault no row is told
+-- of a database that has a fault no row is reported
 abbrev pub AreRowsApart : Type 0
 AreRowsApart = (db : Database) (fault : OpenFault) → HasFault fault db → ¬ HasUnruledRow db
 

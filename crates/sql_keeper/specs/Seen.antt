@@ -26,7 +26,7 @@ use Rattle.sql_keeper.specs.declared.seen.SeenGrant.{SeenGrant}
 use Rattle.sql_keeper.specs.declared.seen.Standing.{Standing}
 use Rattle.sql_keeper.specs.declared.seen.Standing.TheVariants.{Unknown, Open, Over}
 
--- ---- how a session stands
+-- ---- what is known of a session
 
 -- it has no row, and nothing of rating groups
 pub record IsUnknown (r : TableRows) (s : SessionName) : Type 0 where
@@ -94,7 +94,7 @@ pub record IsSeenWith (s : SessionName) (x y : SeenAccount) : Type 0 where
   pub grant : y.grant ≡ x.grant
   pub unknown : (z : SessionName) → y.unknown ≡ Some z → z ≡ s
 
--- how a session stands by what is seen of its account
+-- what is known of a session by what is seen of its account
 abbrev pub standing_in : SeenAccount → SessionName → Option Standing
 standing_in x s =
     if is_name s x.unknown then Some Unknown else (if is_name s x.live then Some Open else None)
@@ -115,7 +115,7 @@ Sees (Some x) trees = IsSeen (rows_in trees x.account) x
 abbrev pub AreSeen : Option SeenAccount → State → Type 0
 AreSeen o s = HasCleanDisk s → IsTrue s.is_open → Sees o s.now.trees
 
--- what is kept once is there with this version and this text, and where it is told, at this moment
+-- what is kept once is there with this version and this text, and where it is said, at this moment
 pub record IsKeptOnce (told : Bool) (m : Meta) (o : Option Meta) : Type 0 where
   pub last : Moment
   pub row : o ≡ Some (record m { last = last })

@@ -31,7 +31,7 @@ at_rest g law k keeper clean db may =
     law k.connection.store db on may
     ∙ ap (λ (d : Database). d.trees) (sym (keeper.idle clean.disk on).settled)
 
--- so it leaves the tables as they stand
+-- so it leaves the tables as they are
 pub settled_in : {S : Type 0} (g : Ghosts S) → AreSettled g → (k : KeeperState S) (t : Tables)
     → clean_in g k → LeavesIn g k t → t ≡ tables_in g k
 settled_in g law k t clean left = left.is

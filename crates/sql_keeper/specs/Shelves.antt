@@ -44,7 +44,7 @@ pub record IsShelfOf (text : BookText) (rows : BookNumber → Option BookRow) (s
 abbrev pub HasShelf : BookText → (BookNumber → Option BookRow) → Type 0
 HasShelf text rows = (s : Shelf) × IsShelfOf text rows s
 
--- the shelf on which the book of a text stands alone
+-- the shelf on which the book of a text is alone
 pub record IsAlone (text : BookText) (s : Shelf) : Type 0 where
   pub is : IsShelf s
   pub alone : s ≡ one_book s.first
@@ -95,7 +95,7 @@ IsShelfRead text xs s = IsShelfOf text (λ n. row_numbered n xs) s
 abbrev pub IsNoShelf : BookText → List BookAt → Type 0
 IsNoShelf text xs = ¬ HasShelf text (λ n. row_numbered n xs)
 
--- behind a first book stand those of the rows from number 2 on, up to the first that has no row, or
+-- behind a first book are those of the rows from number 2 on, up to the first that has no row, or
 -- up to 16 books
 pub record AreShelved (b : Book) (xs : List BookAt) (s : Shelf) : Type 0 where
   pub first : s.first ≡ b

@@ -12,7 +12,7 @@ use Rattle.sql_keeper.specs.Content.{tables_of}
 use Rattle.sql_keeper.specs.Inside.{KeeperState, IsClean, IsKeeper, names_in}
 use Rattle.sql_keeper.specs.Inside.{clean_in, failed_in, tables_in}
 
--- the rows of the database as they stand
+-- the rows of the database as they are
 abbrev pub trees_in : {S : Type 0} → Ghosts S → KeeperState S → Trees
 trees_in g k = (state g k.connection).now.trees
 
@@ -49,7 +49,7 @@ pub record IsCommitWhole {S : Type 0} (g : Ghosts S) (old new : KeeperState S)
     pub left : HasCleanDisk (state g new.connection) → (db : Trees) → MayLeave g new db
         → MayLeave g old db ⊎ Written db
 
--- between two calls a stop leaves the rows as they stand
+-- between two calls a stop leaves the rows as they are
 abbrev pub IsAtRest : {S : Type 0} → Ghosts S → KeeperState S → Type 0
 IsAtRest g k =
     IsKeeper g k → IsClean (state g k.connection) → (db : Trees) → MayLeave g k db

@@ -156,13 +156,13 @@ pub record TransactsSweep {A E : Type 0} (names : Names) (text : BookText) (shel
 -- ---- what becomes of the tables
 
 -- each account is brought to the moment; the tables would be found again: the catalog is the same,
--- and so are the version and the books, no rowid stands twice, and the moment is in the range of
+-- and so are the version and the books, no rowid comes twice, and the moment is in the range of
 -- moments
 pub record BecomesSwept (names : Names) (text : BookText) (shelf : Shelf) (t : Moment)
     (old new : Trees) : Type 0 where
   pub tables : IsSwept shelf t (tables_of names (tables_content old))
       (tables_of names (tables_content new))
-  -- where nothing stood that isn't told, nothing does
+  -- where no row was without a meaning, none is
   pub tidy : IsTidy names (tables_content old) → IsTidy names (tables_content new)
   -- where all was in its rules, by the books of these names, all is
   pub rules : (own : Shelf) → names ≡ shelf_names own → IsTrue (is_some (tables_content old).meta)

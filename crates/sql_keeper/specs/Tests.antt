@@ -31,7 +31,7 @@ use Rattle.sql_keeper.specs.declared.settling.NamedSessions.{NamedSessions}
 abbrev pub IsPeriodNamed : List (List ℕ) → Period → Type 0
 IsPeriodNamed names p = period_named names (name_at names p) ≡ Some p
 
--- a reservation stands in an open session, its periods have names in its book, and it holds of each
+-- a reservation is in an open session, its periods have names in its book, and it holds of each
 -- bucket once
 pub record IsWritable (names : Names) (sessions : List Session) (s : SessionName) (r : Reservation)
     : Type 0 where
@@ -126,7 +126,7 @@ pub record IsChangeFound (names : Names) (change : Change) (r : TableRows) (y : 
     pub made : IsTrue y.are_settled → MayBeMade names change r
     pub new : IsTrue y.are_new → AreNewGroups r change.rows.groups
 
--- it may be made, and whether its groups are new; covered blocks stand beside a charge
+-- it may be made, and whether its groups are new; covered blocks are beside a charge
 pub record IsTested (names : Names) (change : Change) (r : TableRows) (are_new : Bool)
     : Type 0 where
   pub made : MayBeMade names change r

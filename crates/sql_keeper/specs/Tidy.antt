@@ -1,4 +1,4 @@
--- Tables in which nothing stands that isn't told. What a keeper writes over such tables leaves such
+-- Tables in which no row is without a meaning. What a keeper writes over such tables leaves such
 -- tables; those of another writer may hold more, and are read all the same.
 -- Source: profile.
 use Rattle.std.specs.Prelude.{◌≡◌, ◌&&◌, ◌||◌, Bool, true, Option, Some, None}
@@ -39,19 +39,19 @@ is_key kind number =
 
 -- of an account
 pub record AreTidyRows (names : Names) (a : AccountName) (r : TableRows) : Type 0 where
-  -- a reservation stands in an open session, and its periods have the names of its book
+  -- a reservation is in an open session, and its periods have the names of its book
   pub live : (s : SessionName) (g : GroupId) → is_reserved (r.groups s g) ≡ true →
       is_open_row (r.sessions s) ≡ true
   pub terms : (s : SessionName) (g : GroupId) →
       has_terms names (r.grant_books s g) (r.groups s g) ≡ true
-  -- the number of a book, and what is held, stand beside a reservation
+  -- the number of a book, and what is held, are beside a reservation
   pub books : (s : SessionName) (g : GroupId) → is_some (r.grant_books s g) ≡ true →
       is_reserved (r.groups s g) ≡ true
   pub holds : (s : SessionName) (g : GroupId) (n : BucketNumber) → is_some (r.holds s g n) ≡ true →
       is_reserved (r.groups s g) ≡ true
   -- a bucket that counts blocks is there
   pub kinds : (n : BucketNumber) → r.allowances n ≡ true → is_some (r.buckets n) ≡ true
-  -- charges are numbered, and covered blocks stand beside one
+  -- charges are numbered, and covered blocks are beside one
   pub charges : (n : ChargeNumber) → is_some (r.charges n) ≡ true → is_numbered n r.head ≡ true
   pub covered : (n : ChargeNumber) → is_some (r.covered n) ≡ true → is_some (r.charges n) ≡ true
   -- texts that are kept are those of a command and its answer, under its key
@@ -60,13 +60,13 @@ pub record AreTidyRows (names : Names) (a : AccountName) (r : TableRows) : Type 
       → (is_key kind number ≡ true) × (is_some (kept_in a k) ≡ true)
 
 pub record IsTidy (names : Names) (c : TablesContent) : Type 0 where
-  -- what is kept once is there, and stands once
+  -- what is kept once is there, and is there once
   pub there : is_some c.meta ≡ true
   pub once : c.kept ≡ 1
   pub rows : (a : AccountName) → AreTidyRows names a (c.rows a)
 
--- rows that are written over those that stand end no session with a reservation that isn't among
--- them
+-- rows that are written over those that are there end no session with a reservation that isn't
+-- among them
 abbrev pub EndsTidy : StoredRows → TableRows → Type 0
 EndsTidy w r = (s : SessionName) (g : GroupId) → group_in s g w.groups ≡ None
     → is_reserved (r.groups s g) ≡ true → is_open_row (r.sessions s) ≡ true

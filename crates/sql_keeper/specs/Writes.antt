@@ -125,14 +125,14 @@ abbrev pub with_texts : AccountName → Key → Kept → TablesContent → Table
 with_texts a (Request s n) k c = with_rows a (with_answer request_kind s n k) c
 with_texts a (Reference x) k c = with_rows a (with_answer reference_kind x 0 k) c
 
--- ---- buckets and charges, with what stands beside them
+-- ---- buckets and charges, with what is beside them
 
 -- what a bucket counts
 abbrev pub with_kind : BucketKind → BucketNumber → TableRows → TableRows
 with_kind Money n = without_allowance n
 with_kind Blocks n = with_allowance n
 
--- it stands beside a bucket of one rating group alone
+-- it is beside a bucket of one rating group alone
 abbrev pub with_scoped : AccountName → Option GroupId → BucketKind → BucketNumber → TablesContent →
     TablesContent
 with_scoped a None k n c = c
@@ -158,7 +158,7 @@ abbrev pub with_all_paid : AccountName → List ChargeRow → TablesContent → 
 with_all_paid a = with_each (with_paid a)
 
 -- the same of a charge as it is put: where the account has none of its number, no covered blocks
--- stand there either
+-- are there either
 abbrev pub some_blocks : BlockCount → Option BlockCount
 some_blocks m = if m == 0 then None else Some m
 
@@ -199,7 +199,7 @@ with_stored a names w c =
     with_groups a names w.groups (with_sessions a w.sessions (with_counters a w.counters
     (with_all_counted a w.buckets (with_account a (head_columns_of w) c))))
 
--- what is kept of a command, as the texts that stand for it
+-- what is kept of a command, as its texts
 abbrev pub with_kept : AccountName → Option KeptAnswer → Option Kept → TablesContent → TablesContent
 with_kept a None t c = c
 with_kept a (Some k) None c = c
@@ -242,7 +242,7 @@ with_changed_rows names new seen change c =
     with_all_charged change.number change.charges.items
     (with_named change.number names new seen change.rows c)
 
--- the moment, as it is put: not where it stands already
+-- the moment, as it is put: it isn't, where that is kept already
 abbrev pub with_moment_put : Bool → Moment → TablesContent → TablesContent
 with_moment_put true t c = c
 with_moment_put false t c = with_last_moment t c

@@ -26,7 +26,7 @@ use sqlite::{Alter, Connection, Error, Transaction};
 use units::Moment;
 use voucher_rules::VoucherTerms;
 
-/// Puts the moment unless it stands already, and a voucher that no account has redeemed.
+/// Puts the moment unless it is there already, and a voucher that no account has redeemed.
 fn put_addition<S: Alter>(
     tx: &mut Transaction<'_, S>,
     stands: bool,
@@ -115,7 +115,7 @@ fn ask_to_add<S: Alter>(
 
 impl<S: Alter> SqlKeeper<S> {
     /// Adds a voucher of these terms under its code (profile), in one transaction with the moment
-    /// of the command: it stands there unspent, in the place of what stood there. At a fault
+    /// of the command: it is there unspent, in the place of what was there. At a fault
     /// nothing has changed, and whatever a stop leaves is the tables before or with the voucher.
     ///
     /// # Errors

@@ -41,7 +41,7 @@ pub(crate) fn read_text(alloc: Global, text: &str) -> Result<TariffBook, BookFau
     TariffBook::read(alloc, text.as_bytes())
 }
 
-/// The shelf on which the book of a text stands alone.
+/// The shelf on which the book of a text is alone.
 fn read_shelf(alloc: Global, text: &str) -> Result<TariffShelf, BookFault>
     ensures read { IfOk result (λ s. IsBookOf text.now s.first) }
     ensures alone { IfOk result (λ s. s ≡ one_book s.first) }
@@ -60,7 +60,7 @@ fn kept_text(alloc: Global, text: &str) -> Result<String, BookFault>
     Ok(String::from_str(alloc, text)?)
 }
 
-/// Reads the book of a text, which stands alone on both shelves.
+/// Reads the book of a text, which is alone on both shelves.
 pub(crate) fn read_book(alloc: Global, text: &str, last: Moment) -> Result<ReadBooks, BookFault>
     ensures alone { IfOk result (λ r. IsAlone text.now r.own) }
     ensures only { (b : Book) → IsBookOf text.now b → IfOk result (λ r. r.own.first ≡ b) }

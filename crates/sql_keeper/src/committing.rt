@@ -30,7 +30,7 @@ use sql_tables::ReadFault;
 use sqlite::{Alter, Connection, Error};
 use std::alloc::Global;
 
-/// Writes a change in one transaction; its moment unless it stands already.
+/// Writes a change in one transaction; its moment unless it is there already.
 fn write_change<S: Alter>(
     conn: &mut Connection<S>,
     books: &TariffShelf,

@@ -44,7 +44,7 @@ fn content_said(alloc: Global, account: &AccountNumber, text: &str) -> Result<Co
     read_content(alloc, account, bytes).map_err(fault_of)
 }
 
-/// The answer that a kept text says, with that text as it stands.
+/// The answer that a kept text says, with that text as it is.
 fn answer_said(alloc: Global, text: String) -> Result<WrittenAnswer, ReadFault>
     ensures { IfOk result (λ a. answer_of (string_bytes text) ≡ Ok a) }
 {
@@ -133,8 +133,8 @@ fn ask_for_answer<S: Alter>(
 }
 
 impl<S: Alter> SqlKeeper<S> {
-    /// What is kept under a key of an account (a request's key is its Session-Id and
-    /// CC-Request-Number, RFC 8506 sections 8.2 and 8.4); None where nothing is.
+    /// What is kept under a key of an account (a request's key is its Session-Id, RFC
+    /// 6733 section 8.8, and its CC-Request-Number, RFC 8506 section 8.2); None where nothing is.
     ///
     /// # Errors
     /// A fault of the store, which is counted, as are texts that aren't those of a command and its

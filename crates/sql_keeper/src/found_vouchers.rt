@@ -1,4 +1,4 @@
-//! What stands under the code of a voucher.
+//! What is under the code of a voucher.
 
 ghost use Rattle.std.specs.Prelude.{◌≡◌, IfOk, option_map};
 ghost use Rattle.sql_keeper.specs.Asks.{Asks};
@@ -90,7 +90,7 @@ fn ask_for_voucher<S: Alter>(
 }
 
 impl<S: Alter> SqlKeeper<S> {
-    /// What stands under the code of a voucher (profile): the voucher with its terms, and who
+    /// What is under the code of a voucher (profile): the voucher with its terms, and who
     /// redeemed it where anyone did; None where none was added.
     ///
     /// # Errors

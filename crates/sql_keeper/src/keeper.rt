@@ -1,4 +1,4 @@
-//! A keeper over a database: what it is. Its calls stand in modules of their own.
+//! A keeper over a database: what it is. Its calls are in modules of their own.
 
 ghost use Rattle.std.specs.Prelude.{◌≡◌};
 ghost use Rattle.sql_keeper.specs.Inside.{IsKeeper, failed_in};
@@ -14,9 +14,9 @@ use units::Moment;
 /// A keeper over a database. Between calls no transaction is open, so what it holds is what was
 /// committed last. It knows the text of its first book, its books and the moment of the last
 /// accepted command as the database keeps them, so that an open finds the same again. What it read
-/// last of an account it knows until it writes, so that a commit needn't read it once more. The rows
-/// of one account that may still change it keeps as it read or wrote them last, so that a load of
-/// that account needn't read them once more.
+/// last of an account it knows until it writes, so that a commit needn't read it once more. The
+/// rows of one account that may still change it keeps as it read or wrote them last, so that a load
+/// of that account needn't read them once more.
 ///
 /// Its store is clean while the disk returns what was written; where the disk failed a call, it is
 /// clean as long as the connection is open still. Nothing but a failure of the disk shuts it.

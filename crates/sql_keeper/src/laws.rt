@@ -75,7 +75,7 @@ pub fn ruled_tables_are_left_again()
     ensures { AreLeftRuledAgain }
 {}
 
-/// Where the connection shows what was left, each row in its rules, no fault is told but the
+/// Where the connection shows what was left, each row in its rules, no fault is reported but the
 /// store's or memory's.
 pub fn left_tables_are_found<S: Alter>()
     ensures { (old new : Held S) (text : List ℕ) (fault : OpenFault) →

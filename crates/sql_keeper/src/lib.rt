@@ -1,4 +1,4 @@
-//! What a keeper over a database holds, told by the rows of its tables, and what is tested of a
+//! What a keeper over a database holds, by the rows of its tables, and what is tested of a
 //! change before it is written.
 #![tactic(auto)]
 

@@ -54,7 +54,7 @@ pub(crate) struct ReadRows {
     pub counters: Vec<Counter>,
 }
 
-/// The purse of these buckets. They are out of the rules where they don't stand in the order of
+/// The purse of these buckets. They are out of the rules where they aren't in the order of
 /// their use.
 pub(crate) fn purse_of(alloc: Global, buckets: Vec<Bucket>) -> Result<Purse, ReadFault>
     ensures { IfOk result (λ purse. purse ≡ buckets.items) }

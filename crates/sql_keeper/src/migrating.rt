@@ -275,7 +275,7 @@ impl<S: Alter> SqlKeeper<S> {
     /// committed but where the commit itself failed.
     /// `Foreign`, the tables aren't exactly those of a version of this system, and only then;
     /// `Version`, another version is kept than that of the tables, and only then; `Rules`, a rowid
-    /// stands twice, or a row that is read is out of its rules, and only then; `Store`, also where
+    /// comes twice, or a row that is read is out of its rules, and only then; `Store`, also where
     /// a transaction is open; `Memory`.
     pub fn migrate(
         alloc: Global,

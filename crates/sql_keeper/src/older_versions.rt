@@ -1,5 +1,5 @@
-//! What is told of a database of an older version where it is opened: that it is older, where it
-//! keeps the version of its tables. Nothing is written.
+//! What is reported of a database of an older version where it is opened: that it is older, where
+//! it keeps the version of its tables. Nothing is written.
 
 ghost use Rattle.std.specs.Prelude.{◌≡◌, ◌<◌, false};
 ghost use Rattle.sql_tables.specs.Opens.{IsVersion};

@@ -69,7 +69,7 @@ fn compare_keys(row: &SessionBook, session: &SessionId, group: u32) -> Ordering
     row.session.cmp(session).then(row.columns.group.cmp(&group))
 }
 
-/// Where the book of a session's reservation in a rating group stands, by halves.
+/// Where the book of a session's reservation in a rating group is, by halves.
 fn book_place(numbers: &[SessionBook], session: &SessionId, group: u32) -> Result<usize, usize>
     requires { DoBooksRise numbers.now }
     ensures found { IfOk result

@@ -154,9 +154,9 @@ fn put_rows<S: Alter>(
     put_paid(tx, &change.number, &change.charges)
 }
 
-/// Puts the moment of the last accepted command, where what is kept once is there. Where it stands
-/// there already nothing is written, so that the engine doesn't write the row again either, which
-/// has the text of the book.
+/// Puts the moment of the last accepted command, where what is kept once is there. Where that
+/// moment is kept already nothing is written, so that the engine doesn't write the row again
+/// either, which has the text of the book.
 pub(crate) fn put_moment<S: Alter>(
     tx: &mut Transaction<'_, S>,
     moment: Moment,
@@ -176,9 +176,9 @@ pub(crate) fn put_moment<S: Alter>(
     Ok(())
 }
 
-/// Puts all that a change names: the moment unless it stands already, the account and its rows, the
-/// charges, the texts of what is kept, and the voucher that is redeemed. Where nothing was there of
-/// its groups, nothing of them is removed, nor where what was seen of them stays.
+/// Puts all that a change names: the moment unless it is there already, the account and its rows,
+/// the charges, the texts of what is kept, and the voucher that is redeemed. Where nothing was
+/// there of its groups, nothing of them is removed, nor where what was seen of them stays.
 pub(crate) fn put_change<S: Alter>(
     tx: &mut Transaction<'_, S>,
     books: &TariffShelf,

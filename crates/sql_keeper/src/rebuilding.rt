@@ -1,4 +1,4 @@
-//! Buckets made of the rows that stand for them; a row out of its rules is no bucket.
+//! Buckets made of their rows; a row out of its rules is no bucket.
 
 ghost use Rattle.std.specs.Prelude.{◌≡◌, nat_eq, map, IfOk};
 ghost use Rattle.std.specs.List.{list_any};

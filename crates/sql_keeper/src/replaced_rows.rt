@@ -196,7 +196,7 @@ fn insert_at<T: Drop>(rows: &mut Vec<T>, place: usize, row: T) -> Result<(), All
     Ok(())
 }
 
-/// Where a bucket would stand among others in the order of their use.
+/// Where a bucket would be among others in the order of their use.
 fn place_in_use(rows: &[Bucket], row: &Bucket) -> usize {
     match rows.binary_search_by(|other| {
         other
@@ -209,7 +209,7 @@ fn place_in_use(rows: &[Bucket], row: &Bucket) -> usize {
     }
 }
 
-/// Where a session would stand among others in the order of their names.
+/// Where a session would be among others in the order of their names.
 fn place_of_session(rows: &[Session], row: &Session) -> usize {
     match rows.binary_search_by(|other| other.id.cmp(&row.id)) {
         Ok(place) => place,
@@ -217,7 +217,7 @@ fn place_of_session(rows: &[Session], row: &Session) -> usize {
     }
 }
 
-/// Where what a session has of a rating group would stand among others in order.
+/// Where what a session has of a rating group would be among others in order.
 fn place_of_group(rows: &[SessionGroup], row: &SessionGroup) -> usize {
     match rows.binary_search_by(|other| {
         other

@@ -47,11 +47,11 @@ pub(crate) struct SeenGrant {
     pub group: u32,
     /// The number of its book.
     pub book: u8,
-    /// The bucket.
+    /// The bucket's number.
     pub bucket: u32,
 }
 
-/// How a session stands in the tables.
+/// What is known of a session in the tables.
 #[derive(Clone, Copy)]
 pub(crate) enum Standing {
     /// It has no row, and nothing of rating groups.
@@ -424,7 +424,7 @@ fn is_name(name: &Option<SessionId>, session: &SessionId) -> bool
     }
 }
 
-/// How a session stands of the account that was seen, where that is known.
+/// What is known of a session of the account that was seen, where that is known.
 fn standing_in(seen: &SeenAccount, session: &SessionId) -> Option<Standing>
     ensures { result ≡ standing_in seen.now session.now }
 {
@@ -437,7 +437,7 @@ fn standing_in(seen: &SeenAccount, session: &SessionId) -> Option<Standing>
     }
 }
 
-/// How a session of an account stands, if it is the one that was seen.
+/// What is known of a session of an account, if it is the one that was seen.
 fn standing_of_seen(
     seen: &SeenAccount,
     account: &AccountNumber,
@@ -452,7 +452,7 @@ fn standing_of_seen(
     standing_in(seen, session)
 }
 
-/// How a session of an account stands by what was seen, where that is known.
+/// What is known of a session of an account by what was seen, where that is known.
 pub(crate) fn standing_seen(
     seen: &Option<SeenAccount>,
     account: &AccountNumber,

@@ -37,7 +37,7 @@ fn stays(before: Standing, session: &Session) -> bool
     }
 }
 
-/// How a session stands by its row.
+/// What is known of a session by its row.
 fn standing_of(row: &Option<Session>) -> Standing
     ensures { result ≡ standing_of row.now }
 {
@@ -53,7 +53,7 @@ fn standing_of(row: &Option<Session>) -> Standing
     }
 }
 
-/// How a session stands in the tables, as it is read.
+/// What is known of a session in the tables, as it is read.
 fn read_standing<S: Alter>(
     conn: &mut Connection<S>,
     alloc: Global,
@@ -68,7 +68,7 @@ fn read_standing<S: Alter>(
     Ok(standing_of(&row))
 }
 
-/// How a session stands in the tables: as it was seen, or as it is read.
+/// What is known of a session in the tables: as it was seen, or as it is read.
 fn find_standing<S: Alter>(
     conn: &mut Connection<S>,
     alloc: Global,
@@ -313,7 +313,7 @@ fn find_change<S: Alter>(
     Ok(found_with(found, sessions, groups))
 }
 
-/// What is told of a change that may be made, or may not: whether its groups are new.
+/// What is said of a change that may be made, or may not: whether its groups are new.
 fn told(found: NamedSessions) -> Result<bool, ReadFault>
     ensures { IfOk result (λ new. IsTrue found.are_settled × (new ≡ found.are_new)) }
 {

@@ -1,4 +1,4 @@
-//! A keeper that is stopped where it stands, and its database opened again.
+//! A keeper that is stopped where it is, and its database opened again.
 
 ghost use Rattle.std.specs.Prelude.{IfErr, IfOk};
 ghost use Rattle.sqlite.specs.Held.{state};
@@ -34,7 +34,7 @@ fn stop_fault(error: StoreError) -> OpenFault
     }
 }
 
-/// The store of a connection that is stopped where it stands, opened again.
+/// The store of a connection that is stopped where it is, opened again.
 fn stop<S: Alter + Reopen + Drop>(connection: Connection<S>) -> Result<S, OpenFault>
     ensures left { IfOk result (λ store. IsHonest (S.Store.view store) →
         IsLeftFresh S.Store connection store) }
@@ -58,7 +58,7 @@ fn connect<S: Alter + Drop>(alloc: Global, store: S) -> Result<Connection<S>, Op
     }
 }
 
-/// A connection that is stopped where it stands, and another one to what the stop left.
+/// A connection that is stopped where it is, and another one to what the stop left.
 fn stop_and_connect<S: Alter + Reopen + Drop>(
     alloc: Global,
     connection: Connection<S>,
@@ -71,7 +71,7 @@ fn stop_and_connect<S: Alter + Reopen + Drop>(
     connect(alloc, store)
 }
 
-/// The keeper is stopped where it stands, and its database is opened again: it has the rows that
+/// The keeper is stopped where it is, and its database is opened again: it has the rows that
 /// the stop left, under the text of the keeper and the books of both. Where the keeper was clean
 /// they are those that it held.
 ///

@@ -1,4 +1,4 @@
-//! The texts that stand for what is kept of a command.
+//! The texts of what is kept of a command.
 
 ghost use Rattle.std.specs.Prelude.{◌≡◌, IfErr, IfOk, Some, option_map, true};
 ghost use Rattle.sql_rows.specs.Texts.{kept_of};
@@ -14,7 +14,7 @@ use sql_tables::ReadFault;
 use std::alloc::Global;
 use wire::write_content;
 
-/// The texts that stand for what is kept of a command of this account. What is of another account
+/// The texts of what is kept of a command of this account. What is of another account
 /// wouldn't be read again as what it is: it is out of the rules.
 #[tactic(auto, using(crate::proofs::OwnTexts::own_texts, crate::proofs::OwnTexts::memory_told))]
 fn texts_of(
@@ -37,7 +37,7 @@ fn texts_of(
     Ok(KeptTexts { content, answer })
 }
 
-/// The texts that stand for what is kept of a command of this account, where something is kept.
+/// The texts of what is kept of a command of this account, where something is kept.
 ///
 /// # Errors
 /// `Rules` where the command is of another account, exactly then; `Memory`.

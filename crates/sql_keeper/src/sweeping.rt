@@ -186,7 +186,7 @@ impl<S: Alter> SqlKeeper<S> {
     /// fault nothing has changed, and whatever a stop leaves is the rows before the sweep or with
     /// all of it.
     ///
-    /// One account after another is read and written within the transaction, so that what stands in
+    /// One account after another is read and written within the transaction, so that what is in
     /// memory of all of them are their numbers alone.
     ///
     /// # Errors

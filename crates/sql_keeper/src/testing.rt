@@ -75,7 +75,7 @@ fn is_named(books: &TariffShelf, number: u8, period: Period) -> bool
     }
 }
 
-/// Whether a reservation reads as it is written: it stands in an open session, and its periods have
+/// Whether a reservation reads as it is written: it is in an open session, and its periods have
 /// names in its book, which is on the shelf.
 fn is_writable(
     books: &TariffShelf,
@@ -108,7 +108,7 @@ fn may_stand(books: &TariffShelf, sessions: &[Session], row: &SessionGroup) -> b
     }
 }
 
-/// Whether each reservation stands in an open session, with periods that have names in its book.
+/// Whether each reservation is in an open session, with periods that have names in its book.
 pub(crate) fn are_writable(
     books: &TariffShelf,
     sessions: &[Session],
@@ -126,7 +126,7 @@ pub(crate) fn are_writable(
 }
 
 /// Whether a change may be written over an account with this head, so that what is written reads as
-/// the change: each reservation stands in an open session that is named with it, with periods that
+/// the change: each reservation is in an open session that is named with it, with periods that
 /// have names in its book, the charges are numbered on, and each row is in the rules of its table.
 /// It may exactly then.
 pub fn may_be_written(books: &TariffShelf, head: &Option<HeadColumns>, change: &Change) -> bool

@@ -12,7 +12,7 @@ use keepers::Redeemed;
 use sqlite::{Alter, Error, Transaction};
 use voucher_rules::Voucher;
 
-/// Puts a voucher under its code, as it stands.
+/// Puts a voucher under its code, as it is.
 pub(crate) fn put_voucher<S: Alter>(
     tx: &mut Transaction<'_, S>,
     code: &VoucherCode,
