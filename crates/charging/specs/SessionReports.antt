@@ -1,5 +1,5 @@
 -- What the sessions of an account report, as its accepted commands say (RFC 8506 sections 8.16 and
--- 8.18).
+-- 8.19).
 use Rattle.std.specs.Prelude.{List, [], ◌∷◌, if◌then◌else◌, Option, Some, None}
 use Rattle.units.specs.Words.{Moment, GroupId}
 use Rattle.identifiers.specs.Words.{SessionName, AccountName}

@@ -43,7 +43,7 @@ granted_data quantity switch = object
     (member (name_of_unit quantity.kind) (whole quantity.units)
     (perhaps tariff_time_change (option_map whole switch) no_members))
 
--- a URL (RFC 8506 section 8.38)
+-- Redirect-Server (RFC 8506 section 8.37): 2 is the type of a URL (section 8.38)
 unfoldable pub server_data : List ℕ → Data
 server_data address = object
     (member redirect_address_type (whole 2)
