@@ -59,7 +59,7 @@ row_later shelf t u history old new le none some h = at old.head refl
         let was = row_some shelf u history old head e h in
         row_of shelf t history new was.0 (some was.1)
 
--- an account doesn't stand for a later moment than the last
+-- an account isn't as of a later moment than the last
 pub as_of-last : (a : List ℕ) (list : List Accepted) → IsInTime list →
     as_of a list ≤ last_moment list
 as_of-last a [] h = omega arith

@@ -1,4 +1,4 @@
--- What the tables of a run tell of an account, and of a command that comes again.
+-- What the tables of a run say of an account, and of a command that comes again.
 use Rattle.std.proofs.Common.{◌≡◌, ℕ, List, ◌∷◌, sym, subst, ◌∙◌, take, length, Some}
 use Rattle.std.specs.Prelude.{Result, Ok, Err, IfOk}
 use Rattle.commands.specs.declared.answer.Answer.{Answer}

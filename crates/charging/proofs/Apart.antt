@@ -53,7 +53,7 @@ brought b u t ledger r v shelf le h x =
           (IsAccount-priced b x.listed shelf x.kept) told.0 (subst (λ m. m ≤ t) (sym told.1) le);
     }
 
--- rows of one ledger at one moment tell the same
+-- rows of one ledger at one moment say the same
 tell_same : (b : Shelf) (t : ℕ) (ledger : Ledger) (v w : Rows) → AreRowsAt b ledger t v →
     AreRowsAt b ledger t w → TellTheSame v w
 tell_same b t ledger v w p q =
@@ -201,7 +201,7 @@ own_is a all (command.Redeem r) e = own_named a r.account e
 own_is a all command.Sweep e = absurd (true≢false (sym e))
 own_is a all (command.Balance n) e = own_named a n e
 
--- what stands under the account's codes is the same after both lists
+-- what is under the account's codes is the same after both lists
 abbrev AreAlike : Shelf → (List ℕ → Bool) → List Accepted → List Accepted → Type 0
 AreAlike b mine run alone =
     (code : List ℕ) → mine code ≡ true → voucher b code run ≡ voucher b code alone

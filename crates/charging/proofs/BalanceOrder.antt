@@ -1,4 +1,4 @@
--- A balance tells each bucket of an account once, in the order of their numbers.
+-- A balance lists each bucket of an account once, in the order of their numbers.
 use Rattle.std.proofs.Common.{List}
 use Rattle.buckets.specs.Row.{BucketRow}
 use Rattle.ledger.specs.Ledger.{Ledger}

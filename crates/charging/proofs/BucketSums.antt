@@ -79,7 +79,7 @@ pub sum_in-inserted : (k : BucketKind) (f : BucketRow → ℕ) (b : BucketRow) (
 sum_in-inserted k f b rows =
     sum_by-inserted (λ x. if is_alike x.kind k then f x else 0) b rows
 
--- what is told by a bucket's number doesn't change with its position
+-- what is said by a bucket's number doesn't change with its position
 pub sum_in-moved : (k : BucketKind) (f : ℕ → ℕ) (v : ℕ → ℕ) (t : ℕ) (ledger : Ledger)
     (cs : List BucketRow) →
     sum_in k (λ b. f b.number) (map (bucket_at v t ledger) cs) ≡ sum_in k (λ c. f c.number) cs

@@ -1,4 +1,4 @@
--- Buckets by number: a list is told by what it has under each number.
+-- Buckets by number: a list is known by what it has under each number.
 use Rattle.std.proofs.Common.{◌≡◌, ℕ, suc, ◌+◌, ◌≤◌, ◌<◌, Bool, true, false, cond, List, [], ◌∷◌}
 use Rattle.std.proofs.Common.{◌++◌, refl, sym, ap, subst, ◌∙◌, arith, lit≤, Option, Some, None}
 use Rattle.std.specs.Prelude.{if◌then◌else◌, ◌==◌, nat_lt, sum_by}
@@ -79,7 +79,7 @@ found_one P n (x ∷ xs) y h e = at (x.number == n) refl e (found_one P n xs y h
         (subst P is h.0, subst (λ (z : BucketRow). z.number ≡ n) is (same_number x.number n k))
     at false k e rest = rest e
 
--- ---- two lists that ascend and tell the same are one
+-- ---- two lists that ascend and say the same are one
 
 pub one_list : (xs ys : List BucketRow) → IsAscending xs → IsAscending ys →
     ((n : ℕ) → bucket_in n xs ≡ bucket_in n ys) → xs ≡ ys
@@ -207,7 +207,7 @@ count_once n (x ∷ xs) h = at (x.number == n) refl (count_once n xs h.1)
         omega (arith, count_same n x xs e, none)
     at false e rest = omega (arith, count_other n x xs e, rest)
 
--- of numbers that don't fall, each of which stands once, each is below the next
+-- of numbers that don't fall, each of which comes once, each is below the next
 above : (n : ℕ) (ys : List BucketRow) → AllByRecursion (λ (y : BucketRow). n ≤ y.number) ys →
     count n ys ≡ 0 → AllByRecursion (λ (y : BucketRow). n < y.number) ys
 above n [] h e = tt

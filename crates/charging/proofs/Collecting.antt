@@ -160,7 +160,7 @@ charged_more k f v t ledger h =
     (sym (sum_in-moved k (λ n. sum_at n hs) v t ledger (credits ledger))
     ∙ sum_in-each k (λ x. sum_at x.number hs) f rows (sum_at-parts f rows (distinct v t ledger h)))
 
--- what a new charge row tells of each unit is what its parts are of it
+-- what a new charge row says of each unit is what its parts are of it
 taken_settled : (k : BucketKind) (v : ℕ → ℕ) (t : ℕ) (s : List ℕ) (g blocks n : ℕ) (due : Due)
     (ledger : Ledger) → AreCredited (credits ledger) (next_bucket ledger) →
     due.blocks ≤ held_sum Blocks (holds_at v t s g ledger) (buckets_at v t ledger)

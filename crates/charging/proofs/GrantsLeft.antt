@@ -25,7 +25,7 @@ use Rattle.reserving.proofs.Counted.{is_end, is_named, rest_none, unnamed_use, u
 abbrev pub held_together : BucketKind → List ℕ → ℕ → Ledger → ℕ
 held_together k s g ledger = sum_in k (λ c. held (only s g) c.number ledger) (credits ledger)
 
--- a grant is told alike, and no less is held for it
+-- a grant is said alike, and no less is held for it
 pub record LeavesGrant (s : List ℕ) (g : ℕ) (new old : Ledger) : Type 0 where
   pub grant : grant_open s g new ≡ grant_open s g old
   pub terms : open_grant s g new ≡ open_grant s g old

@@ -158,7 +158,7 @@ pub reads-refused : (b : Shelf) (t : ℕ) (r : Request) (ledger : Ledger) → is
     (decision b t r ledger).accepted ≡ false
 reads-refused b t r ledger h = read_ask r.ask b t r.session r.number ledger h
 
--- a decision that isn't an acceptance is told, and one that is is kept
+-- a decision that isn't an acceptance is answered, and one that is is kept
 pub decided-told : (b : Shelf) (r : Request) (t : ℕ) (h : History) →
     (decision b t r h.ledger).accepted ≡ false →
     decided_by r (decision b t r h.ledger) h ≡

@@ -1,4 +1,4 @@
--- One grant is told by all readers of open grants.
+-- All readers of open grants give one grant.
 use Rattle.std.proofs.Common.{◌≡◌, ℕ, Bool, true, false, List, [], ◌∷◌, refl, Option, Some, None}
 use Rattle.std.specs.Prelude.{◌==◌, ◌&&◌, if◌then◌else◌, option_map}
 use Rattle.ledger.specs.Ledger.{Ledger, GrantOf, Telling, counts, is_same, or_else, newest, inner}

@@ -136,7 +136,7 @@ new_rows b t x is shelf as_of rows = record {
   rows = subst (λ (y : Shelf). IsRowsOf [] (priced y (stored x))) shelf rows;
 }
 
--- a new account, and the change that tells it
+-- a new account, and its change
 pub record IsNew (b : Shelf) (n : List ℕ) (t : ℕ) (x fresh : AccountRows) (change : Change) :
     Type 0 where
   pub account : IsAccount x
@@ -229,7 +229,7 @@ bar-unknown b list n barred t old new time le tables none same =
     ∙ bar-unopened (standing b (bar_command n barred) list) (history b n list) n barred) refl
     refl same tables
 
--- the change tells the account as it stands after a command without charges
+-- the change has the account as it is after a command without charges
 pub record Tells (change : Change) (found : Loaded) (x : AccountRows) (kept : Option KeptAnswer)
     (redeemed : Option Redeemed) : Type 0 where
   pub number : change.number ≡ found.number
@@ -239,7 +239,7 @@ pub record Tells (change : Change) (found : Loaded) (x : AccountRows) (kept : Op
   pub kept_is : change.kept ≡ kept
   pub redeemed_is : change.redeemed ≡ redeemed
 
--- what a commit makes of an account as it stands
+-- what a commit makes of an account as it is
 abbrev pub made_change : Loaded → AccountRows → Vec ChargeRow Global → Option KeptAnswer →
     Option Redeemed → Change
 made_change found x charges kept redeemed = record {

@@ -195,7 +195,7 @@ priced_history b ranges a list =
 
 -- ---- rows
 
--- what is told of a group's reservation is the terms of its grant
+-- what is known of a group's reservation is the terms of its grant
 terms_told : (v : ℕ → ℕ) (t : ℕ) (ledger : Ledger) (s : List ℕ) (g : ℕ) (row : GroupRow)
     (x : Terms) → option_map group_row (group_at v t ledger s g) ≡ Some row →
     row.terms ≡ Some x → open_grant s g ledger ≡ Some x

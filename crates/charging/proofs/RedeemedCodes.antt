@@ -37,7 +37,7 @@ use Rattle.charging.specs.RedeemedCodes.{IsRedeemedAtMostOnce}
 no : {X : Type 0} → false ≡ true → X
 no e = absurd (true≢false (sym e))
 
--- ---- what stands under a code
+-- ---- what is under a code
 
 -- a command leaves under a code what its command of vouchers leaves
 one_left : (ends : DayEnds) (c : Command) (t : ℕ) (vouchers : Vouchers) (code : List ℕ) →

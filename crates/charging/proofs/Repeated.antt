@@ -302,7 +302,7 @@ unread : (read : Bool) (x y : CommandOutcome) → not read ≡ true → (if read
 unread true x y e = no e
 unread false x y e = refl
 
--- on a history that keeps it, a command is told its first answer
+-- on a history that keeps it, a command is answered as the first time
 repeat_request : (b : Shelf) (r : Request) (given : Answer) (t : ℕ) (h : History) →
     not (is_read r.ask) ≡ true → Keeps (record { content = content.Request r; answer = given }) h →
     outcome b None h (command.Ccr r) t ≡ only_told given h

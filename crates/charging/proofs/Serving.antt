@@ -286,7 +286,7 @@ module _ (b : Shelf) (list : List Accepted) (c : Command) (t : ℕ) (a : List �
     account = is_opened b list t a old found.account time le tables loads.load.1 loads.account
 
     -- the call left the account with the rows that weren't loaded the ledger's after the command,
-    -- and the change tells it
+    -- and the change has it
     pub record IsCalled (o : CommandOutcome) (x : AccountRows) (change : Change) : Type 0 where
       pub shelf : x.shelf ≡ found.account.shelf
       pub at_moment : x.as_of ≡ t
@@ -335,7 +335,7 @@ module _ (b : Shelf) (list : List Accepted) (c : Command) (t : ℕ) (a : List �
         })
         grown tables
 
--- what a stop leaves, told of what is left before a call and of what was written
+-- what a stop leaves, by what is left before a call and by what was written
 pub left_as : {A B P Q : Type 0} → A ⊎ B → (A → P) → (B → Q) → P ⊎ Q
 left_as (inl a) f g = inl (f a)
 left_as (inr b) f g = inr (g b)
@@ -374,7 +374,7 @@ pub served-as : (b : Shelf) (list : List Accepted) (c : Command) (t : ℕ) (old 
     IsServed b list c t old new given
 served-as b list c t old new given a is served = subst (IsServed b list c t old new) (sym is) served
 
--- what a call gives, told of what it is the same as
+-- what a call gives, by what it is the same as
 pub given-as : {A E : Type 0} (r : Result A E) (x y : A) → IfOk r (λ given. given ≡ x) → x ≡ y →
     IfOk r (λ given. given ≡ y)
 given-as (Ok given) x y is same = is ∙ same

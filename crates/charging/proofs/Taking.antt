@@ -44,7 +44,7 @@ kinds_found (b ∷ bs) h = (
   kinds_more b bs bs h.0 (kinds_found bs h.1),
 )
 
--- wherever the buckets stand
+-- wherever the buckets are
 kinds_moved : (n : ℕ) (v : ℕ → ℕ) (t : ℕ) (ledger : Ledger) (cs : List BucketRow) →
     kind_in n (map (bucket_at v t ledger) cs) ≡ kind_in n cs
 kinds_moved n v t ledger [] = refl
@@ -61,7 +61,7 @@ kinds_of cs rows same (x ∷ xs) h =
 
 -- ---- what is taken
 
--- what holds take of the buckets of a kind, where these are told by their numbers
+-- what holds take of the buckets of a kind, where these are known by their numbers
 abbrev amounts_of : BucketKind → List BucketRow → List HeldAmount → ℕ
 amounts_of k cs [] = 0
 amounts_of k cs (h ∷ hs) =

@@ -56,7 +56,7 @@ is_new (New voucher) = true
 is_new Present = false
 is_new Conflicting = false
 
--- it is new only where nothing stands under its code
+-- it is new only where nothing is under its code
 new_free : (o : Option Voucher) (terms : VoucherTerms) (w : Voucher) → addition o terms ≡ New w →
     o ≡ None
 new_free None terms w e = refl
@@ -221,7 +221,7 @@ module _ (b : Shelf) (list : List Accepted) (r : VoucherRedemption) (t : ℕ) (o
       (credited t Money y.from y.until y.scope y.amount h.ledger) h) full)
       refl refl same tables
 
-  -- the voucher stands spent under its code, and each other one as it was
+  -- the voucher is spent under its code, and each other one as it was
   spent : (change : Change) →
       change.redeemed ≡ Some (record { code = r.code; voucher = y.voucher }) →
       AreSpent b list t (command.Redeem r) change

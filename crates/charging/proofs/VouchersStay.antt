@@ -1,4 +1,4 @@
--- A voucher that was added stands under its code with its terms, whatever commands come, so adding
+-- A voucher that was added stays under its code with its terms, whatever commands come, so adding
 -- it again is a repeat.
 use Rattle.std.proofs.Common.{◌≡◌, ℕ, List, [], ◌∷◌, Option, Some, None, Bool, true, false}
 use Rattle.std.proofs.Common.{true≢false, refl, sym, ap, ◌∙◌}
@@ -89,7 +89,7 @@ keeps_through b code terms list (d ∷ ds) e =
 no : {X : Type 0} → false ≡ true → X
 no e = absurd (true≢false (sym e))
 
--- an addition is accepted only where nothing stands under its code
+-- an addition is accepted only where nothing is under its code
 free_if_taken : (o : Option Voucher) (terms : VoucherTerms) (h : History) →
     (addition_outcome (addition o terms) h).accepted ≡ true → o ≡ None
 free_if_taken None terms h taken = refl
@@ -101,7 +101,7 @@ free_if_taken (Some w) terms h taken = at (same_terms w.terms terms) taken
     at true k = no k
     at false k = no k
 
--- it stands there afterwards
+-- it is there afterwards
 stands_then : (b : Shelf) (list : List Accepted) (v : VoucherAddition) (t : ℕ) →
     voucher b v.code list ≡ None →
     terms_under (voucher b v.code (record { moment = t; command = command.AddVoucher v } ∷ list)) ≡

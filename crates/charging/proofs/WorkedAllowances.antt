@@ -157,7 +157,7 @@ other_blocks : comes_to with_blocks (command.Allow (allowance 4 None 10 a1)) 176
     ≡ refused ContentDiffers with_blocks
 other_blocks = refl
 
--- a reference that is kept is told of before all else that is wrong
+-- a reference that is kept is reported before all else that is wrong
 other_group : comes_to with_blocks (command.Allow (allowance 3 (Some 1) 99 a1)) 1767571320
     ≡ refused ContentDiffers with_blocks
 other_group = refl
@@ -171,7 +171,7 @@ of_allowance : comes_to with_blocks (command.Credit (credit a1)) 1767571320
     ≡ refused ContentDiffers with_blocks
 of_allowance = refl
 
--- one that is over is told of before its group
+-- one that is over is reported before its group
 over : comes_to with_blocks (command.Allow (allowance 3 (Some 1767571320) 99 a2)) 1767571320
     ≡ refused OutOfRange with_blocks
 over = refl

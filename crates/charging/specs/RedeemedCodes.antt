@@ -31,7 +31,7 @@ voucher_commands [] = []
 voucher_commands (d ∷ before) = voucher_commands before ++ voucher_command d.command d.moment
 
 -- what is under a code is what these leave of it: what is redeemed over one account's history
--- and what is redeemed at all is one telling
+-- and what is redeemed at all is known by the same list
 abbrev pub IsLeftByThese : Type 0
 IsLeftByThese = (b : Shelf) (list : List Accepted) (code : VoucherCode) →
     voucher b code list ≡ with_commands (book_days b) (voucher_commands list) (λ k. None) code

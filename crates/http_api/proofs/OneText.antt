@@ -63,7 +63,7 @@ are_turns b (suc n) first last (between, turns, turn) = (
   },
 )
 
--- ---- how often the clock is asked is told by what is asked
+-- ---- how often the clock is asked is known by what is asked
 
 abbrev count_of : Asking → ℕ
 count_of (refuses code) = 0

@@ -35,7 +35,7 @@ use Rattle.http_api.specs.declared.fault.ServeFault.TheVariants as serve
 pub begins_none : (w : Option (List ℕ)) (text : List ℕ) → Begins w w text
 begins_none w text = (0, Appends-nil w)
 
--- which fault was told
+-- which fault was answered
 abbrev error_of : {A : Type 0} → Result A ServeFault → ServeFault
 error_of (Ok x) = serve.Memory
 error_of (Err e) = e
@@ -203,7 +203,7 @@ module _ {C : Type 0} (gives : C → Option ℕ → C → Type 0) (b : Shelf) (c
       (λ list. once_unserved b list c (Some t)) (c1, given, refl)
       (λ list time are. subst (AreTables b list) (sym (serves list time are)) are) w
 
-  -- a command that is served, and its answer told
+  -- a command that is served, and its answer given
   pub served_reply : (c : Command) (t : ℕ) (c0 c1 : C) (old new : Tables) (answer : Answer) →
       gives c0 (Some t) c1 → Serves b c t old new (Ok answer) →
       Writes (response status.ok closes (answer_text answer)) →

@@ -1,4 +1,4 @@
--- What is told over a store that may not be asked any more.
+-- What is answered over a store that may not be asked any more.
 use Rattle.std.proofs.Common.{◌≡◌, ◌∙◌, List, refl, sym, subst, Option, Result}
 use Rattle.std.specs.Prelude.{ℕ, OnOk, OnErr}
 use Rattle.std.specs.Io.KnownBytes.{Appends}
@@ -42,7 +42,7 @@ module _ {A : Type 0} (Told : (List ℕ → Type 0) → Tables → Tables → Ty
             (err_gives result (told (Begins empty full) c) err);
       }
 
-  -- told otherwise
+  -- said otherwise
   pub shows_as : (Other : (List ℕ → Type 0) → Tables → Tables → Type 0) →
       ((Writes : List ℕ → Type 0) (x y : Tables) → Told Writes x y → Other Writes x y) →
       Shows Told empty full old new result → Shows Other empty full old new result
@@ -56,7 +56,7 @@ module _ {A : Type 0} (Told : (List ℕ → Type 0) → Tables → Tables → Ty
         err = err_gives result (told (Begins empty full) held had.next) had.err;
       }
 
-  -- so it is told of the tables of a keeper that stays clean
+  -- so it is said of the tables of a keeper that stays clean
   pub shown_ok : Shows Told empty full old new result → new.honest → new.clean →
       OnOk result (Told (Appends empty full) old.tables new.tables)
   shown_ok shows h c =

@@ -133,7 +133,7 @@ module _ {C : Type 0} (gives : C → Option ℕ → C → Type 0) (b : Shelf) (c
       q.account q.month t (charge_rows h.ledger) (by_number (buckets_at (validity_of b) t h.ledger))
       else answer_text (Refused AccountUnknown))) opened)
 
-  -- what is told of charges, of one list
+  -- what is said of charges, of one list
   told_reply : (t : ℕ) (list : List Accepted) (new : Tables) (h : History) (s : AccountState)
       (text : List ℕ) → h ≡ history b q.account list → AreTables b list new → IsInTime list →
       h.opened ≡ true → IsStateAt b (moment_of list t) h.ledger s →

@@ -70,7 +70,7 @@ tells_from O P S T old new h k t = record {
   written = t.written;
 }
 
--- a writer that fails tells no fault but its own
+-- a writer that fails reports no fault but its own
 stream_of : {A : Type 0} → StreamFault → Result A StreamFault → StreamFault
 stream_of other (Ok x) = other
 stream_of other (Err f) = f
@@ -81,7 +81,7 @@ unfolding stream_of
 writer_failed r f is fails = ap program.Stream (ap (stream_of f)
     (subst (λ r. OnErr r (r ≡ Err stream.Write)) is fails))
 
--- all was done but for the line that tells it
+-- all was done but for the line that says it
 pub write_done : {A : Type 0} (r : Result A ProgramFault) (P : DatabaseFault → Type 0) →
     IfErr r IsWriteFault → IfErr r (OnlyDone P)
 write_done (Ok x) P h = tt
@@ -125,7 +125,7 @@ end_said texts said Unread h end = absurd end
 keeps_of : (old new : Option (List ℕ)) → new ≡ old → Keeps old new
 keeps_of old new e = subst (Keeps old) (sym e) (Keeps-refl old)
 
--- nothing is told of what is done, but the faults of connections
+-- nothing is printed of what is done, but the faults of connections
 done_said : (texts : List Text) (said : ProgramWords) (old new : Option (List ℕ)) →
     IsSaid texts said → IsToldAtEnd said old new → Keeps old new ⊎ ServesConnections texts old new
 done_said texts (words.Serve serve) old new h told =
@@ -227,7 +227,7 @@ answered_ends Done old new printed = tt
 answered_ends Failed old new printed = printed
 answered_ends Unread old new printed = subst IsRead (sym printed.is) (is_read printed.answer)
 
--- a fault is told by its line
+-- a fault is reported by its line
 pub fault_told : (said : ProgramWords) (before after : Option (List ℕ)) (f : ProgramFault)
     (status : Status) (old mid new : Option (List ℕ)) → status ≡ Failed →
     IsFaultOf said f → LeavesOutput said before after f → mid ≡ old →

@@ -21,7 +21,7 @@ use Rattle.ocs.specs.Ends.{Says}
 use Rattle.ocs.specs.declared.fault.ProgramFault.{ProgramFault}
 use Rattle.ocs.specs.declared.fault.ProgramFault.TheVariants as program
 
--- why the vouchers of a file weren't all added and told
+-- why the vouchers of a file weren't all added and reported
 abbrev pub of_import : ImportFault → ProgramFault
 of_import (importing.Vouchers fault) = program.Vouchers fault
 of_import (importing.Database fault) = program.Database fault

@@ -40,7 +40,7 @@ beginning_before a b text more h =
       whole = ap (λ l. l ++ more) h.whole ∙ append_assoc h.part h.rest more;
     }
 
--- and what stands before is written whole
+-- and what is before is written whole
 pub beginning_after : (a b c : Option (List ℕ)) (first text : List ℕ) → Appends a b first →
     WritesBeginning b c text → WritesBeginning a c (first ++ text)
 beginning_after a b c first text h k =
@@ -74,7 +74,7 @@ pub first_told : (a b : Option (List ℕ)) (line number place : List ℕ) →
 first_told a b line number place h = subst (WritesBeginning a b)
     (sym (in_turn line number place)) (part_told a b line (number ++ (place ++ 10 ∷ [])) h)
 
--- a fault is told by its words
+-- a fault is reported by its words
 pub fault_told_by : (a b : Option (List ℕ)) (w : FaultWords) (p : Option ℕ) (line : List ℕ)
     (number place : Option ℕ) → line ≡ w.line → number ≡ w.number → place ≡ p →
     WritesBeginning a b (((line ++ number_told number) ++ place_told place) ++ 10 ∷ []) →

@@ -157,7 +157,7 @@ begun_at b t rows rest all row old mid new n (Err f) is e so kept =
     begun b t rows rest all row old mid new n e so kept
 begun_at b t rows rest all row old mid new n (Ok counts) is e so kept = absurd (false≢true is)
 
--- ---- what is told
+-- ---- what is reported
 
 pub told_from : (b : Shelf) (commands : List DatedCommand) (old new : Tables)
     (before after : Option (List ℕ)) (r : Result Counts StoreFault) (n : Counts) →

@@ -1,4 +1,4 @@
--- What is told of an account's month is its ledger's.
+-- What is printed of an account's month is its ledger's.
 use Rattle.std.proofs.Common.{◌≡◌, ℕ, true, false, List, Option, None, Some, refl, sym, ap}
 use Rattle.std.proofs.Common.{subst, ◌∙◌, ◌≤◌, Result, Ok, Err, arith, inl, inr}
 use Rattle.std.specs.Prelude.{if◌then◌else◌, IfOk, OnErr, OnOk}

@@ -292,7 +292,7 @@ module _ (b : Shelf) (amount : Option ℕ) (w0 w1 : Option (List ℕ)) where
             run.whole run.tables;
       }
 
--- a beginning of what is told is a beginning of the stream's text
+-- a beginning of what is answered is a beginning of the stream's text
 pub begins : (b : Shelf) (list : List Accepted) (amount : Option ℕ) (stream : List ℕ) (count : ℕ)
     (w0 w1 : Option (List ℕ)) → WritesBeginning w0 w1 (text_to count b list amount stream) →
     WritesBeginning w0 w1 (text_of b list amount stream)

@@ -89,7 +89,7 @@ both_told None (Err g) f h = absurd (none-some f h)
 both_told (Some k) (Ok x) f h = absurd (none-some f h)
 both_told (Some k) (Err g) f h = h
 
--- the keeper's fault is the one that is told
+-- the keeper's fault is the one that is reported
 pub ended-store : {A : Type 0} (fault : Option StoreFault) (written : Result A StreamFault)
     (result : Result A LinesFault) (f : StoreFault) → result ≡ ended_as fault written →
     result ≡ Err (Store f) → fault ≡ Some f
@@ -247,7 +247,7 @@ pub ended-asked : {A P : Type 0} (fault : Option StoreFault) (written : Result A
 ended-asked fault written result f e k h =
     asked_told fault written (subst IsWrite (sym k ∙ e) tt) h
 
--- ---- what is told, whatever the keeper holds
+-- ---- what is answered, whatever the keeper holds
 
 module _ (w0 w1 : Option (List ℕ)) (input : Input) (given : List Answer) where
   told_in : (r : Option (List ℕ)) →

@@ -1,4 +1,4 @@
--- The fault of an office, out of the fault of a database that tells it.
+-- The fault of an office, out of the fault of a database that reports it.
 use Rattle.std.proofs.Common.{◌≡◌, Result, Ok, Err, ap}
 use Rattle.operations.specs.declared.fault.OfficeFault.{OfficeFault}
 use Rattle.operations.specs.declared.status.Status.{Status}

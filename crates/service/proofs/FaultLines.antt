@@ -1,4 +1,4 @@
--- Faults of connections, told one after another; a port that is told.
+-- Faults of connections, reported one after another; a port that is printed.
 use Rattle.std.proofs.Common.{ℕ, ◌+◌, List, [], ◌∷◌, ◌++◌, length, length-append, refl}
 use Rattle.std.proofs.Common.{ap, subst, ◌∙◌, Option, Some, None}
 use Rattle.std.specs.Io.KnownBytes.{Appends, Keeps}

@@ -152,7 +152,7 @@ over_from image old s (Ok x) keeper says opened honesty done = λ clean.
     comes_from image old (keeper x) s (says x) opened (honesty clean) (done clean)
 over_from image old s (Err e) keeper says opened honesty done = tt
 
--- and of what it answers over a reader that tells its bytes
+-- and of what it answers over a reader that shows its bytes
 pub read_from : {D A E : Type 0} {g : disk.Ghosts D} (image : Image)
     (old : KeeperState (FileStore D g)) (s : Shelf) (r : Result A E) (bytes : Option (List ℕ))
     (keeper : A → KeeperState (FileStore D g))
@@ -233,7 +233,7 @@ prints_of words shelf q old new status same printed = record {
   printed = subst (λ (x : MonthQuery). PrintsMonth shelf x old new status) same printed;
 }
 
--- what it tells is
+-- what it answers is
 pub tells_of : (words : StatementWords) (shelf : Shelf) (q : MonthQuery) (t : ℕ) (old : Tables)
     (before after : Option (List ℕ)) (given : Result Status OfficeFault) → q ≡ query_of words →
     IsMonthTold shelf q t old before after given →

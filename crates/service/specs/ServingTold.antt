@@ -65,7 +65,7 @@ IsUnlistened database.File = ⊥
 IsUnlistened database.Memory = ⊥
 IsUnlistened _ = Unit {0}
 
--- one of telling it
+-- one of printing that it is listened to
 abbrev pub IsTellFault : DatabaseFault → Type 0
 IsTellFault database.File = Unit {0}
 IsTellFault database.Memory = Unit {0}

@@ -38,7 +38,7 @@ begun_second a b c first second p h = record {
   whole = ap (λ l. first ++ l) h.whole ∙ sym (append_assoc first h.part h.rest);
 }
 
--- two texts and a third, which is told by a value, are written, or a beginning of the third
+-- two texts and a third, which is of a value, are written, or a beginning of the third
 pub three_written : {A : Type 0} (a b c d : Option (List ℕ)) (first second : List ℕ)
     (third : A → List ℕ) (s t : A) → s ≡ t → Appends a b first → Appends b c second →
     Appends c d (third s) → Appends a d ((first ++ second) ++ third t)

@@ -3,7 +3,7 @@
 use crate::tests::scenarios::try_all;
 
 /// Of five blocks three are held of the allowance and two of money; of four that are used three are
-/// covered. A balance tells both buckets, each in its unit.
+/// covered. A balance lists both buckets, each in its unit.
 const MIXED: &str = r##"1767571200 open 49151
 = {"Result-Code":2001}
 1767571200 credit 49151 {"Amount":1000000,"Reference":"c1"}
@@ -71,7 +71,7 @@ buckets: (2; 0, 0, 1, 1)
 counters: 10 0 1;
 charges: 1 at 1767608100 of s35 10 1 0 0 0 covered 1;"##;
 
-/// A reference stands for one allowance or one credit for good. What else may be wrong is told
+/// A reference stands for one allowance or one credit for good. What else may be wrong is reported
 /// before a group that the book has not.
 const REFUSED: &str = r##"1767571200 allow 49151 {"Blocks":2,"Reference":"a1","Scope":99}
 = {"Refusal":"O2"}
@@ -113,8 +113,8 @@ unchanged
 last: 1767571440
 buckets: (1000000000; 1000000000, 0, 0, 0) (2; 2, 0, 0, 0) (5; 5, 0, 0, 0)"##;
 
-/// Events: an enquiry tells the whole price; a check and a debit ask for what no allowance covers,
-/// and a debit takes the blocks first.
+/// Events: an enquiry answers the whole price; a check and a debit ask for what no allowance
+/// covers, and a debit takes the blocks first.
 const EVENTS: &str = r##"1767571200 open 49151
 = {"Result-Code":2001}
 1767571200 credit 49151 {"Amount":90000,"Reference":"c1"}

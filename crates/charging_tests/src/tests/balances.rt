@@ -3,7 +3,7 @@
 use crate::tests::ends::HELD_BY_TWO;
 use crate::tests::scenarios::try_all;
 
-/// Of an account that isn't there none is told.
+/// Of an account that isn't there none is answered.
 const NO_BUCKETS: &str = r##"1767571200 balance 49151
 = {"Refusal":"O2"}
 1767571200 open 49151
@@ -11,10 +11,10 @@ const NO_BUCKETS: &str = r##"1767571200 balance 49151
 1767571200 balance 49151
 = {"Account":"49151","Barred":false,"Buckets":[],"Moment":1767571200}"##;
 
-/// Of a grant that two buckets hold, each bucket is told as of the moment, whatever the
+/// Of a grant that two buckets hold, each bucket is listed as of the moment, whatever the
 /// account's last command was: what a live session holds past its bucket's end is reserved, what a
 /// settlement leaves of it is expired, and what is available until a bucket's end is expired from
-/// it on. Buckets stand by number, used up or not. Nothing of the account changes.
+/// it on. Buckets come by number, used up or not. Nothing of the account changes.
 const BALANCES: &str = r##"1767608040 balance 49151
 = {"Account":"49151","Barred":false,"Buckets":[{"Available":0,"Charged":0,"Credited":150000,
   "Expired":0,"From":1767571200,"Number":1,"Reserved":150000,"Until":1767607800},

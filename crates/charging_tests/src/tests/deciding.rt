@@ -50,7 +50,7 @@ fn push_change(
     push_decided(rt, alloc, text, decided);
 }
 
-/// Whether a request is read; then what it comes to is told.
+/// Whether a request is read; then what it comes to is written.
 fn push_read(
     rt: &impl Abort,
     alloc: Global,

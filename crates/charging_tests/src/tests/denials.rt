@@ -2,8 +2,8 @@
 
 use crate::tests::scenarios::try_all;
 
-/// A group that the book has not is told beside one that is granted, and alone denies the session;
-/// so does a bar, which goes before the unknown group of a debit.
+/// A group that the book has not is answered beside one that is granted, and alone denies the
+/// session; so does a bar, which goes before the unknown group of a debit.
 const BARRED: &str = r##"1767571200 open 49151
 = {"Result-Code":2001}
 1767571200 credit 49151 {"Amount":1000000,"Reference":"c1"}

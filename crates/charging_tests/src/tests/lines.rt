@@ -70,7 +70,7 @@ fn allowance(rt: &impl Abort, alloc: Global, words: &str) -> Command {
     ))
 }
 
-/// `ACCOUNT REFERENCE`: a credit of 0, which no body can tell.
+/// `ACCOUNT REFERENCE`: a credit of 0, which no body can say.
 fn nothing(rt: &impl Abort, alloc: Global, words: &str) -> Command {
     let (number, name) = first_word(rt, words);
     let amount = money(rt, "0");

@@ -1,4 +1,4 @@
-//! The rows of accounts as text, a line a table. No other file says how a row is told.
+//! The rows of accounts as text, a line a table. No other file says how a row is written.
 
 use crate::tests::lines::{account, code};
 use buckets::Bucket;
@@ -34,7 +34,7 @@ fn push_counters(rt: &impl Abort, text: &mut String, rows: &[Counter]) {
     }
 }
 
-/// Each session's name, last number, last moment and state. Those that were left stand first.
+/// Each session's name, last number, last moment and state. Those that were left come first.
 fn push_sessions(rt: &impl Abort, text: &mut String, rows: &[Session]) {
     push(rt, text, "sessions:");
     for row in rows {
@@ -146,7 +146,7 @@ fn push_rows_of(
     push_charges(rt, text, keeper.charges(number));
 }
 
-/// What stands under the code, in a line: the account that redeemed it, `unspent`, or nothing.
+/// What is under the code, in a line: the account that redeemed it, `unspent`, or nothing.
 fn push_voucher(
     rt: &impl Abort,
     alloc: Global,
@@ -165,7 +165,7 @@ fn push_voucher(
     write!(text, "\nvoucher {word}: {redeemer}").expect(rt, "memory");
 }
 
-/// What stands under the first three codes.
+/// What is under the first three codes.
 fn push_vouchers(rt: &impl Abort, alloc: Global, text: &mut String, keeper: &mut MemoryKeeper) {
     push_voucher(rt, alloc, text, keeper, "000000000001");
     push_voucher(rt, alloc, text, keeper, "000000000002");

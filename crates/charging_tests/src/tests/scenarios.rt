@@ -4,7 +4,7 @@
 //! answer in the line after it, and then lines of the rows as they are after these commands;
 //! `unchanged` says that no row is another than before them. The commands of a part are run as one
 //! list. A line that begins with two spaces goes on with the one before it. A line of a table that
-//! isn't there is told as `no such table`.
+//! isn't there is printed as `no such table`.
 
 use crate::tests::lines::{all_commands, first_word, is_command, moment};
 use crate::tests::rows::{push, push_rows};
@@ -159,7 +159,7 @@ fn add_book(rt: &impl Abort, alloc: Global, shelf: &mut TariffShelf, line: &str)
     added.expect(rt, "a book that may follow");
 }
 
-/// Tries a scenario over a new keeper. It is told by texts, each going on after the one before it.
+/// Tries a scenario over a new keeper. It is given as texts, each going on after the one before it.
 pub(crate) fn try_all(rt: &impl Abort, alloc: Global, texts: &[&str]) {
     try_over(rt, alloc, "", texts);
 }

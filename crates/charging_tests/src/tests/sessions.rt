@@ -190,7 +190,7 @@ buckets: (90000; 0, 0, 90000, 0)
 counters: 30 0 1000000000;
 charges: 1 at 1767607320 of s16 30 1000000000 90000000000000 90000 89999999910000;"##;
 
-/// Two reports of two groups each: an account's charges stand in the order in which they were made,
+/// Two reports of two groups each: an account's charges are in the order in which they were made,
 /// whatever comes between them and after them. Of the other account there are none.
 const NUMBERED: &str = r##"1767607200 open 49151
 = {"Result-Code":2001}

@@ -68,7 +68,7 @@ fn change_into(rt: &impl Abort, alloc: Global, next: u64, rows: &str) -> Change 
 }
 
 /// `FIRST NEXT & ROWS`: whether these rows may be written where the account's next charge was the
-/// first and becomes the next. Rows stand between `&`.
+/// first and becomes the next. Rows are between `&`.
 fn may_be(rt: &impl Abort, alloc: Global, shelf: &TariffShelf, words: &str) -> bool {
     let (numbers, rows) = words.split_once(" & ").expect(rt, "numbers and rows");
     let (first, next) = numbers.split_once(" ").expect(rt, "two numbers");
@@ -109,7 +109,7 @@ fn try_all(rt: &impl Abort, alloc: Global, shelf: &TariffShelf, lines: &str) {
 }
 
 /// The content is the body's members that are there, in byte order of their names. Charges are
-/// numbered one after another. A reservation stands in an open session and is of the one book that
+/// numbered one after another. A reservation is in an open session and is of the one book that
 /// there is, with two of its periods, which are two.
 const CASES: &str = r#"content 49152 {"Amount":1,"Reference":"v1"} -> out of the rules
 content 49151 {"Amount":1,"Reference":"v1"} -> {"Amount":1,"Reference":"v1"}

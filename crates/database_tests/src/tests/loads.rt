@@ -84,7 +84,7 @@ fn commit(
     keeper.commit(change).expect(rt, "a commit");
 }
 
-/// Commits a change that ends a session and leaves its reservation, and tells what is answered.
+/// Commits a change that ends a session and leaves its reservation, and says what is answered.
 fn tell_ended(rt: &impl Abort, alloc: Global, keeper: &mut SqlKeeper<MemStore>, text: &mut String) {
     let rows = (account_with(rt, alloc, FIVE), account_ended(rt, alloc));
     let change = change_of(rt, alloc, moment(rt, AT), "49151", rows);
@@ -125,7 +125,7 @@ fn views(
 }
 
 /// What may still change is viewed. A row that is the same before and after isn't named, whatever
-/// stands there; one that differs is. A session isn't ended beside a reservation.
+/// is there; one that differs is. A session isn't ended beside a reservation.
 const VIEWS: &str = "no account
 account as of 1767607200, next charge 1
 bucket 2 1767607200 1767700000 - 10 7 3 0 0

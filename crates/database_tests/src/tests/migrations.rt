@@ -18,7 +18,7 @@ fn tables_of(alloc: Global, version: u32) -> Result<Connection<MemStore>, Error>
 }
 
 /// A database of the tables of a version with the worked book, whose last command was at 50. What
-/// is kept once tells this number as the version.
+/// is kept once has this number as the version.
 fn database(alloc: Global, tables: u32, version: u32) -> Result<Connection<MemStore>, Error> {
     let mut conn = tables_of(alloc, tables)?;
     conn.execute(

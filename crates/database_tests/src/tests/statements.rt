@@ -132,7 +132,7 @@ up to 1
 from 2 to 2
 ";
 
-/// Live buckets stand in the order of their ends, dead ones and all by number, charges by number.
+/// Live buckets are in the order of their ends, dead ones and all by number, charges by number.
 const ROWS: &str = "live
 bucket 3 10 400 10 30 0 30 0 0
 bucket 2 10 500 10 30 30 0 0 0
@@ -227,7 +227,7 @@ hold 20 1 5
 hold 20 2 9
 ";
 
-/// What stands beside the rows of the groups, the buckets and the charges that are there; and the
+/// What is beside the rows of the groups, the buckets and the charges that are there; and the
 /// books after the first.
 fn try_beside<S: Alter>(
     rt: &impl Abort,
@@ -296,7 +296,7 @@ no answer
 ";
 
 /// What is kept of the request, of one of another number, and of the operator's command; and what
-/// stands under three codes.
+/// is under three codes.
 const ANSWERS: &str = "a request: first
 no answer
 a credit: first

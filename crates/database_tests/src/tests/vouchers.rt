@@ -32,7 +32,7 @@ fn other_terms(rt: &impl Abort) -> VoucherTerms {
     VoucherTerms::new(money(rt, 1), None, None).expect(rt, "terms")
 }
 
-/// What stands under a code.
+/// What is under a code.
 fn tell_voucher(
     rt: &impl Abort,
     alloc: Global,
@@ -49,7 +49,7 @@ fn tell_voucher(
     }
 }
 
-/// What stands under two codes, and the moment of the last change.
+/// What is under two codes, and the moment of the last change.
 fn tell_vouchers(
     rt: &impl Abort,
     alloc: Global,
@@ -91,7 +91,7 @@ fn redeem(rt: &impl Abort, alloc: Global, keeper: &mut SqlKeeper<MemStore>, shel
     keeper.commit(change).expect(rt, "a commit");
 }
 
-/// What stands there before the voucher is added, after it is, after it is redeemed, and after
+/// What is there before the voucher is added, after it is, after it is redeemed, and after
 /// another is added in its place.
 const VOUCHERS: &str = "no voucher
 no voucher

@@ -168,7 +168,7 @@ fn weeks_and_zones(rt: HostRuntime) {
     assert!(rt; calendar(&rt, rt.alloc(), -840, gap).is_none());
 }
 
-/// Each minute of the week stands in one entry, and each day's minutes in so many, of equal length
+/// Each minute of the week is in one entry, and each day's minutes in so many, of equal length
 /// but for the last.
 fn minutes(alloc: Global, count: u16, to: u16) -> Result<Vec<Entry>, AllocError> {
     let mut entries = Vec::new(alloc);

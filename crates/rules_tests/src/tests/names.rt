@@ -1,4 +1,4 @@
-//! Tests of `identifiers`: each text is made and told, and what is no address is refused.
+//! Tests of `identifiers`: each text is made and written, and what is no address is refused.
 
 use crate::tests::tables::{Teller, Words, try_table};
 use crate::tests::values::session_id;

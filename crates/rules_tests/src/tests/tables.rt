@@ -1,4 +1,4 @@
-//! Tables of cases: a case is a line of a constant text, `CASE => WHAT IS TOLD OF IT`, and a line
+//! Tables of cases: a case is a line of a constant text, `CASE => WHAT IS FOUND OF IT`, and a line
 //! that begins with two spaces goes on with the one before it. All tables have one loop.
 
 use std::alloc::Global;
@@ -6,9 +6,9 @@ use std::fmt::Debug;
 use std::process::Abort;
 use std::str::FromStr;
 
-/// What tells of the cases of a table.
+/// What says what is found of a table's cases.
 pub(crate) trait Teller {
-    /// What is told of a case.
+    /// What is found of a case.
     fn tell<R: Abort>(&mut self, rt: &R, alloc: Global, case: &str) -> String;
 }
 
@@ -26,7 +26,7 @@ fn try_line<R: Abort, T: Teller>(rt: &R, alloc: Global, teller: &mut T, line: &s
     try_told(rt, case, told.as_str(), expected);
 }
 
-/// Tries what is told of a case.
+/// Tries what is found of a case.
 pub(crate) fn try_told(rt: &impl Abort, case: &str, told: &str, expected: &str) {
     assert_eq!(rt; told, expected, "{case}");
 }

@@ -62,7 +62,7 @@ pub(crate) fn book_in_zone(rt: &impl Abort, alloc: Global, text: &str, zone: &st
     book(rt, alloc, text.as_str())
 }
 
-/// The shelf on which a book that a text is read as stands alone.
+/// The shelf with the book that a text is read as, and no other.
 pub(crate) fn shelf(rt: &impl Abort, alloc: Global, text: &str) -> TariffShelf {
     let book = book(rt, alloc, text);
     TariffShelf::new(alloc, book).expect(rt, "a shelf")

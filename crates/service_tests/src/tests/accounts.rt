@@ -48,7 +48,7 @@ pub(crate) fn moment(rt: &impl Abort, seconds: u64) -> Moment {
     Moment::of_command(seconds).expect(rt, "a moment")
 }
 
-/// A clock that stands still.
+/// A clock that doesn't move.
 pub(crate) fn clock(rt: &impl Abort, seconds: u64) -> FixedClock {
     FixedClock {
         moment: moment(rt, seconds),

@@ -51,7 +51,7 @@ pub(crate) fn told<S: Read, K: ChargeSource>(
     told_by(rt, alloc, shelf, reader, keeper, &mut clock(rt, TEN))
 }
 
-/// What was told, and behind it what a connection is told that opens the account.
+/// What was answered, and behind it what a connection is answered that opens the account.
 pub(crate) fn then_opening<K: ChargeSource>(
     rt: &impl Abort,
     alloc: Global,

@@ -106,7 +106,8 @@ fn a_store_fault(rt: HostRuntime) {
     expect_told(&rt, ended, Err(fault), &written, wanted.as_bytes());
 }
 
-/// Where writing the answers fails too, the store's fault is told, and that they weren't written.
+/// Where writing the answers fails too, the store's fault is reported, and that they weren't
+/// written.
 #[test]
 fn a_store_fault_and_a_writer_that_fails(rt: HostRuntime) {
     let alloc = rt.alloc();
@@ -168,7 +169,7 @@ impl Write for FailingWriter {
 /// Two lines that are no requests.
 const UNREAD: &[u8] = b"0 {}\n{}\n";
 
-/// What they are told: 47 bytes and 21, which the writer takes in 6 calls and 3.
+/// What they are answered: 47 bytes and 21, which the writer takes in 6 calls and 3.
 const FAULTS: &[u8] =
     b"{\"Failed-AVP\":\"Session-Id\",\"Result-Code\":5005}\n{\"Result-Code\":5012}\n";
 
@@ -198,7 +199,7 @@ fn read_to_a_fault(
     answer(alloc, shelf, &mut reader, written)
 }
 
-/// A reader that fails at this call is told as such; nothing is written.
+/// A reader that fails at this call is reported as such; nothing is written.
 fn fail_to_read(rt: &impl Abort, alloc: Global, shelf: &TariffShelf, left: usize) {
     let mut written = Vec::new(alloc);
     let ended = read_to_a_fault(alloc, shelf, left, &mut written);
@@ -224,7 +225,7 @@ fn a_reader_that_fails(rt: HostRuntime) {
     read_to_the_end(&rt, alloc, &shelf, 9);
 }
 
-/// A writer that fails at this call is told as such; a beginning of the answers is written.
+/// A writer that fails at this call is reported as such; a beginning of the answers is written.
 fn fail_to_write(rt: &impl Abort, alloc: Global, shelf: &TariffShelf, left: usize) {
     let mut reader = UNREAD;
     let mut writer = failing_writer(alloc, left);

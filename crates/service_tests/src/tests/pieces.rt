@@ -172,7 +172,8 @@ fn ends_at_each_byte(rt: HostRuntime) {
     try_below(&rt, alloc, &mut Ended { shelf: &shelf }, 103);
 }
 
-/// A reader gives single bytes and fails after so many calls. The 103rd call tells the end.
+/// A reader gives single bytes and fails after so many calls. The 103rd call says that this is the
+/// end.
 #[derive(Drop)]
 struct Unread<'a> {
     shelf: &'a TariffShelf,

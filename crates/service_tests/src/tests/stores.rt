@@ -54,7 +54,7 @@ fn told_after(
     told_by(rt, alloc, shelf, &mut bytes, &mut keeper, &mut clock)
 }
 
-/// Whether these two answers are told, and no other.
+/// Whether these two answers are written, and no other.
 fn are_told(told: &str, first: &str, second: &str) -> bool {
     match told.strip_prefix(first) {
         Some(rest) => rest.strip_prefix(second) == Some("\nserved 2"),

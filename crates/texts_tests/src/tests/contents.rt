@@ -227,7 +227,7 @@ x -> no JSON object
 {"Amount":1,"From":4102444800,"Reference":"r1"} -> From is invalid
 {"Amount":1,"Reference":"r1","Until":0} -> Until is invalid"##;
 
-/// What a text is tells its members: a request has a Session-Id, a redemption a Voucher-Code, an
+/// What a text is its members say: a request has a Session-Id, a redemption a Voucher-Code, an
 /// allowance Blocks, a credit none of them.
 const KINDS: &str = r##"{"Reference":"v1","Subscription-Id-Data":"49151",
   "Voucher-Code":"000000000001"} -> Redeem(VoucherRedemption { code: VoucherCode {

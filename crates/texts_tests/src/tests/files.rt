@@ -251,7 +251,7 @@ fn amounts_days_and_scopes(rt: HostRuntime) {
     try_told(&rt, rt.alloc(), Told::File, SCOPES);
 }
 
-/// The first fault of the first faulty record is told.
+/// The first fault of the first faulty record is reported.
 const ORDER: &str = r##"#x,0,0,x,x -> 2 at 2
 #x,0,0,x -> 3 at 2
 #000000000001,0,0,x -> 4 at 2

@@ -66,7 +66,8 @@ fn readers_that_fail(rt: HostRuntime) {
     try_after(&rt, alloc, "code\n", 5, "1 at 1");
 }
 
-/// Where an allocation is refused, that is what is told. A run that refuses each in turn shows it.
+/// Where an allocation is refused, that is what is reported. A run that refuses each in turn shows
+/// it.
 #[test]
 fn memory_that_is_refused(rt: HostRuntime) {
     match read_vouchers(rt.alloc(), TWO.as_bytes()) {

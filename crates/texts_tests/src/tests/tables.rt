@@ -4,7 +4,7 @@ use crate::tests::{answers, contents, faults, files, lines, members, requests, w
 use std::alloc::Global;
 use std::process::Abort;
 
-/// What a case tells of its text.
+/// What a case says of its text.
 #[derive(Clone, Copy)]
 pub(crate) enum Told {
     /// What is said of the members of a body.

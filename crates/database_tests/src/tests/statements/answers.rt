@@ -120,7 +120,7 @@ fn tell_voucher<S: Alter>(
     push_voucher_columns(rt, text, &row);
 }
 
-/// What stands under three codes.
+/// What is under three codes.
 pub(crate) fn tell_vouchers<S: Alter>(
     rt: &impl Abort,
     alloc: Global,

@@ -1,4 +1,4 @@
-//! What stands beside rows in tables of its own: the books of reservations, which buckets count
+//! What is beside rows in tables of its own: the books of reservations, which buckets count
 //! blocks, and the covered blocks of charges; and the books after the first.
 
 ghost use Rattle.database_tests.specs.Ready.{IsReady};
@@ -135,7 +135,7 @@ fn tell_allowances<S: Alter>(
     push(rt, text, "\n");
 }
 
-/// What stands beside the rows of an account and a session.
+/// What is beside the rows of an account and a session.
 pub(crate) fn tell_beside<S: Alter>(
     rt: &impl Abort,
     alloc: Global,

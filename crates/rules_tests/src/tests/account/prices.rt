@@ -356,7 +356,7 @@ fn granted_otherwise(prices: &Prices, funds: u128) -> u64 {
     count
 }
 
-/// How often tiers and blocks tell otherwise, over places, numbers of blocks, sides and funds.
+/// How often tiers and blocks differ, over places, numbers of blocks, sides and funds.
 fn told_otherwise(prices: &Prices) -> u64 {
     let mut count: u64 = 0;
     for n in 0..20 {
@@ -368,7 +368,7 @@ fn told_otherwise(prices: &Prices) -> u64 {
     count
 }
 
-/// `GROUP BEFORE AFTER`: how often tiers and blocks tell otherwise in two periods.
+/// `GROUP BEFORE AFTER`: how often tiers and blocks differ in two periods.
 fn otherwise(rt: &impl Abort, alloc: Global, book: &TariffBook, words: &mut Words<'_>) -> String {
     let (group, before) = (words.number(rt), Period(words.number(rt)));
     let prices = prices_of(rt, book, group, before, Period(words.number(rt)));

@@ -1,7 +1,8 @@
-//! Each fault of each key, and which of two faults is told.
+//! Each fault of each key, and which of two faults is reported.
 //!
-//! A case is the texts of the document that are changed, and the number of the fault that is told
-//! of it (0: the document is read). Expected faults are reckoned from the rules of the format.
+//! A case is the texts of the document that are changed, and the number of the fault that is
+//! reported of it (0: the document is read). Expected faults are reckoned from the rules of the
+//! format.
 
 use crate::tests::tables::{Teller, try_table};
 use crate::tests::tariff::documents::SMALL;
@@ -285,7 +286,7 @@ currency = 978 -> currency = 978|currency = 978 => 1
 978 -> 2026-01-05T08:00:00Z => 3
 from = "00:00" -> from = 00:00:00 => 3"##;
 
-/// Of two faults the first in the order of the keys is told.
+/// Of two faults the first in the order of the keys is reported.
 const ORDER: &str = r##"+00:00 -> +14:30 & currency -> xcurrency => 4
 978 -> "x" & validity -> xvalidity => 3
 validity = 3600 -> validity = 1 & periods -> xperiods => 4

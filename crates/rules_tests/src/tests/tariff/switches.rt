@@ -42,7 +42,7 @@ fn cut(book: &TariffBook, moment: Moment, seconds: u32) -> Option<u64> {
     }
 }
 
-/// Whether the book tells the switch and the validity that a search finds.
+/// Whether the book gives the switch and the validity that a search finds.
 fn agrees(book: &TariffBook, start: u64, seconds: u32) -> Option<bool> {
     if seconds > 43_200 {
         return None;

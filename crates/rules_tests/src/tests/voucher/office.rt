@@ -83,7 +83,7 @@ fn redeemed(rt: &impl Abort, alloc: Global, redemption: &Redemption) -> String {
     text.expect(rt, "memory")
 }
 
-/// What stands under a code, and the days by which it is redeemed.
+/// What is under a code, and the days by which it is redeemed.
 #[derive(Drop)]
 pub(crate) struct Office {
     days: Days,
@@ -91,7 +91,7 @@ pub(crate) struct Office {
 }
 
 impl Office {
-    /// Nothing stands under the code yet.
+    /// Nothing is under the code yet.
     pub(crate) fn new(days: Days) -> Office {
         Office { days, found: None }
     }

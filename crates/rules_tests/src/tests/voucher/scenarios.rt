@@ -5,7 +5,7 @@ use crate::tests::voucher::office::{Office, days_of, optional, terms};
 use std::alloc::Global;
 use std::process::Abort;
 
-/// Tries the lines of a scenario over a code under which nothing stands, in UTC.
+/// Tries the lines of a scenario over a code under which nothing is, in UTC.
 fn play(rt: &impl Abort, alloc: Global, lines: &str) {
     let mut office = Office::new(days_of(rt, alloc, 0));
     try_table(rt, alloc, &mut office, lines);
