@@ -1,4 +1,4 @@
--- The numbers and names by which answers and requests are told.
+-- The numbers and names by which answers and requests are written.
 use Rattle.std.specs.Prelude.{ℕ, ◌==◌, List, [], ◌∷◌, Option, codes, nat_eq}
 use Rattle.std.specs.List.{find}
 use Rattle.std.specs.Cmp.Lexicographic.{pointwise}

@@ -1,6 +1,6 @@
 -- What is asked of each command that is kept: its account, and the key of its answer.
--- Source: profile; a request's key is its Session-Id and CC-Request-Number (RFC 8506 sections 8.2
--- and 8.4).
+-- Source: profile; a request's key is its Session-Id (RFC 6733 section 8.8) and CC-Request-Number
+-- (RFC 8506 section 8.2).
 use Rattle.std.specs.Prelude.{◌≡◌, ℕ, ◌&&◌, ◌++◌, Bool, true, false, List, nat_eq}
 use Rattle.std.specs.Bool.{Decides}
 use Rattle.std.specs.Cmp.{unsigned_Decides}
@@ -62,7 +62,7 @@ key_itself (Request s n) =
     both (same_name s s) (nat_eq n n) ((bytes_decides s s).1 refl) ((unsigned_Decides n n).1 refl)
 key_itself (Reference r) = (bytes_decides r r).1 refl
 
--- the test tells equal keys
+-- the test knows equal keys
 pub key_decides : (x y : Key) → Decides (same_key x y) (x ≡ y)
 key_decides x y = (key_sound x y, λ e. subst (λ k. same_key x k ≡ true) e (key_itself x))
 

@@ -29,7 +29,7 @@ usage_numbered n = find (λ x. usage_number x == n) all_usages
 abbrev pub same_usage : TariffChangeUsage → TariffChangeUsage → Bool
 same_usage = usage.eq
 
--- no tag stands twice, and at most one part has none
+-- no tag comes twice, and at most one part has none
 abbrev pub tags_differ : List UsedPart → Bool
 tags_differ = all_differ (λ (p q : UsedPart). option_eq same_usage p.change q.change)
 

@@ -4,7 +4,7 @@ use Rattle.std.specs.List.{list_all}
 use Rattle.commands.specs.Differ.{all_differ}
 use Rattle.commands.specs.declared.service.Service.{Service}
 
--- no rating group stands twice
+-- no rating group comes twice
 abbrev pub groups_differ : List Service → Bool
 groups_differ = all_differ (λ (s t : Service). s.group == t.group)
 

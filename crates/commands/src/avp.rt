@@ -97,7 +97,7 @@ fn first_of(all: &[Avp], name: &str) -> Option<Avp>
 }
 
 impl Avp {
-    /// The name that stands in the text.
+    /// The name that is in the text.
     pub fn name(self) -> &'static str
         ensures { result.now ≡ name_of self }
     {

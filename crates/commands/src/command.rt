@@ -226,7 +226,7 @@ impl Eq for KeptCredit {
 /// A voucher that an operator adds (profile).
 #[derive(Drop)]
 pub struct VoucherAddition {
-    /// The code under which it stands.
+    /// The code under which it is.
     pub code: VoucherCode,
     /// What it gives to the account that redeems it.
     pub terms: VoucherTerms,

@@ -2,7 +2,7 @@
 
 ghost use Rattle.commands.specs.Inverse.{AreTables};
 
-/// In a report of used units (RFC 8506 section 8.27); a fault is told of the whole report.
+/// In a report of used units (RFC 8506 section 8.27); a fault is reported of the whole report.
 pub const TARIFF_CHANGE_USAGE: &str = "Tariff-Change-Usage";
 
 /// How a request or a command ended (RFC 6733 section 7.1, RFC 8506 section 9).
@@ -51,7 +51,7 @@ pub const ACCOUNTS: &str = "Accounts";
 /// Why an operator's command is refused, `O1` to `O7` (profile).
 pub const REFUSAL: &str = "Refusal";
 
-/// The number of the account that a balance tells of (profile).
+/// The number of the account that a balance is of (profile).
 pub const ACCOUNT: &str = "Account";
 
 /// Whether the account is barred (profile).

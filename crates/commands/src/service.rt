@@ -40,7 +40,7 @@ impl Drop for Service {
 }
 
 /// The services of an initial request, in its order: 1 to 16, each asks for units and none reports
-/// any. No rating group stands twice.
+/// any. No rating group comes twice.
 ///
 /// Contracts see the list of services.
 #[derive(Clone, Debug)]
@@ -86,7 +86,7 @@ impl InitialServices {
 }
 
 /// The services of an update, in its order: 1 to 16, each may ask for units and may report some. No
-/// rating group stands twice.
+/// rating group comes twice.
 ///
 /// Contracts see the list of services.
 #[derive(Clone, Debug)]
@@ -132,7 +132,7 @@ impl UpdateServices {
 }
 
 /// The services of a termination, in its order: at most 16, none asks for units and each may report
-/// some. No rating group stands twice.
+/// some. No rating group comes twice.
 ///
 /// Contracts see the list of services.
 #[derive(Clone, Debug)]
