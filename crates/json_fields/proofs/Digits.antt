@@ -1,13 +1,16 @@
 -- Digits alone write the whole number that a numeral with neither a point nor an exponent is.
-use Rattle.std.proofs.Common.{◌≡◌, ◌<◌, ◌^◌, ℕ, List, [], ◌∷◌, ◌++◌, length, get_or, Some, false}
-use Rattle.std.proofs.Common.{eqb, Result, Ok, Err, IfSome, refl, sym, ap, ◌∙◌, arith}
+use Rattle.std.proofs.Common.{◌≡◌, ◌<◌, ◌^◌, ℕ, List, [], ◌∷◌, ◌++◌, length, get_or, Some, true, false}
+use Rattle.std.proofs.Common.{◌+◌, ◌-◌, ◌*◌, ◌≤◌, eqb, take, refl, sym, ap, subst, ◌∙◌, arith}
 use Rattle.std.proofs.lemmas.Bool.{ne_eqb, lt-ltb}
-use Rattle.std.proofs.lemmas.List.{append-nil}
-use Rattle.std.proofs.lemmas.Str.Parse.{digit_from_value}
+use Rattle.std.proofs.lemmas.Int.Digits.{digits_more, digits_value_more, digits_value-lt}
+use Rattle.std.proofs.lemmas.List.{append-nil, take_all, length-take-le}
+use Rattle.std.proofs.lemmas.Str.{digit_value_digit}
+use Rattle.std.proofs.lemmas.Str.Parse.{digit_from_value, tells_all_ascii_digits}
+use Rattle.std.proofs.Math.Nat.{pow-le-pow_right}
+use Rattle.std.specs.Char.{digit_value, is_ascii_digit}
 use Rattle.std.proofs.lemmas.Float.Parse.{scan_numeral-text_of}
 use Rattle.std.specs.Float.Numeral.{Parts, IsWellFormed, scan_numeral}
-use Rattle.std.specs.Result.{result_ok}
-use Rattle.std.specs.Str.Parse.{AllDigits, IsNumeral, ParsesUnsigned, digits_value}
+use Rattle.std.specs.Str.Parse.{AllDigits, IsNumeral, digits_value}
 use Rattle.serde_json.specs.Data.{unsigned}
 use Rattle.serde_json.specs.Read.{number_of, number_from}
 
@@ -55,11 +58,40 @@ number_is ds numeral fits =
     let read : number_from false (scan_numeral ds) ≡ number_of ds = rw (no_minus ds numeral.1) in
     sym read ∙ ap (number_from false) (scanned ds numeral.1) ∙ whole ds numeral.0 fits
 
--- what is parsed of a text that doesn't begin with a plus is its number
-pub number_parsed : {E : Type 0} (bs : List ℕ) (r : Result ℕ E) → eqb (get_or bs 0 0) 43 ≡ false →
-    ParsesUnsigned 64 10 bs r → IfSome (result_ok r) (λ n. number_of bs ≡ Some (unsigned n))
-number_parsed bs (Ok n) e parses =
-    let known : IsNumeral 10 bs × (digits_value 10 bs < 2 ^ 64) = rw e at parses.0 in
-    let is : n ≡ digits_value 10 bs = rw e at parses.1 in
-    number_is bs known.0 known.1 ∙ ap (λ m. Some (unsigned m)) (sym is)
-number_parsed bs (Err e) f parses = tt
+-- n is what the first i bytes write, which are digits
+abbrev pub IsSoFar : List ℕ → ℕ → ℕ → Type 0
+IsSoFar bs i n = AllDigits 10 (take i bs) × (n ≡ digits_value 10 (take i bs))
+
+below : (ds : List ℕ) (k : ℕ) → AllDigits 10 ds → length ds ≤ k → digits_value 10 ds < 10 ^ k
+below ds k all few =
+    omega (arith, digits_value-lt 10 ds all, pow-le-pow_right {n = 10} (omega arith) few)
+
+-- one digit more
+pub one_more : (bs : List ℕ) (i n b : ℕ) → i < length bs → b ≡ get_or bs i 0 → 48 ≤ b → b ≤ 57 →
+    IsSoFar bs i n → IsSoFar bs (i + 1) (n * 10 + (b - 48))
+one_more bs i n b inside at low high so_far =
+    let value : b - 48 ≡ digit_value b = omega (arith, digit_value_digit b (low, high)) in
+    let small : digit_value b < 10 = omega (arith, value, high) in (
+      digits_more 10 bs i inside so_far.0 (rw (← at) small),
+      ap (λ m. n * 10 + m) value ∙ ap (λ m. m * 10 + digit_value b) so_far.1
+          ∙ ap (λ c. digits_value 10 (take i bs) * 10 + digit_value c) at
+          ∙ sym (digits_value_more 10 bs i inside),
+    )
+
+pub digit_within : (b : ℕ) → is_ascii_digit b ≡ true → (48 ≤ b) × (b ≤ 57)
+digit_within b e = (tells_all_ascii_digits.parts b [] (rw e refl)).0
+
+pub few_so_far : (bs : List ℕ) (i n : ℕ) → i ≤ 17 → i ≤ length bs → IsSoFar bs i n → n < 10 ^ 17
+few_so_far bs i n few inside so_far =
+    let long : length (take i bs) ≤ 17 = omega (arith, length-take-le i bs inside) in
+    omega (arith, so_far.1, below (take i bs) 17 so_far.0 long)
+
+-- what all bytes write is their number
+pub number_so_far : (bs : List ℕ) (i n : ℕ) → 0 < length bs → length bs ≤ 18 → length bs ≤ i →
+    IsSoFar bs i n → number_of bs ≡ Some (unsigned n)
+number_so_far bs i n some few end so_far =
+    let whole : take i bs ≡ bs = take_all i bs end in
+    let all : AllDigits 10 bs = subst (AllDigits 10) whole so_far.0 in
+    let small : digits_value 10 bs < 2 ^ 64 = omega (arith, below bs 18 all few) in
+    let is : n ≡ digits_value 10 bs = so_far.1 ∙ ap (digits_value 10) whole in
+    number_is bs (some, all) small ∙ ap (λ m. Some (unsigned m)) (sym is)

@@ -15,6 +15,9 @@ use fast_float::Numeral;
 use json::Value;
 use serde_json::Number;
 
+/// The most digits that are read one by one: what they write fits 64 bits.
+const MOST_DIGITS: usize = 18;
+
 fn has_minus(bytes: &[u8]) -> bool
     ensures value { result ≡ (slice_index bytes.now 0 == 45) }
     ensures len { IsTrue result → 0 < length bytes.now }
@@ -61,23 +64,23 @@ pub(crate) fn number(text: &str) -> Option<Number>
     }
 }
 
-fn has_plus(bytes: &[u8]) -> bool
-    ensures { result ≡ (slice_index bytes.now 0 == 43) }
-{
-    !bytes.is_empty() && bytes[0] == b'+'
-}
-
-/// The whole number that a text writes by digits alone, where it fits. Most numbers are read so,
-/// without a look for a point or an exponent.
-#[inline]
+/// The number that 1 to 18 digits write. Most numbers are read so, without a look for a point or
+/// an exponent.
 fn digits(text: &str) -> Option<u64>
     ensures { IfSome result (λ n. number_of text.now ≡ Some (unsigned n)) }
 {
     let bytes = text.as_bytes();
-    if has_plus(bytes) {
+    if bytes.is_empty() || bytes.len() > MOST_DIGITS {
         return None;
     }
-    fast_float::parse_u64(bytes).ok()
+    let mut value = 0;
+    for byte in bytes {
+        if !byte.is_ascii_digit() {
+            return None;
+        }
+        value = value * 10 + (*byte - b'0') as u64;
+    }
+    Some(value)
 }
 
 /// Whether the number that a text of JSON's grammar writes is in range.
