@@ -138,7 +138,7 @@ fn put_answer(out: &mut Writer, answer: &Answer) -> Result<(), AllocError>
 }
 
 /// Room for most answers, in bytes, so that their text doesn't grow step by step.
-const ROOM: usize = 320;
+const ROOM: usize = 256;
 
 #[tactic(auto, unfolding(crate::specs::Spelled::answer_text))]
 fn compact(alloc: Global, answer: &Answer) -> Result<String, AllocError>
