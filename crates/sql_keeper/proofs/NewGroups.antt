@@ -27,8 +27,8 @@ use Rattle.sql_keeper.specs.Seen.{IsKeptOnce}
 use Rattle.sql_keeper.specs.Tests.{AreNewGroups, AreWritable, IsTested}
 use Rattle.sql_keeper.specs.Writes.{columns_of, with_all_charged, with_change, with_change_put}
 use Rattle.sql_keeper.specs.Writes.{with_kept, with_named, with_new_book, with_new_group}
-use Rattle.sql_keeper.specs.Writes.{with_changed_rows, with_moment_put, with_new_groups, with_redeemed}
-use Rattle.sql_keeper.specs.Writes.{meta_with, with_stored}
+use Rattle.sql_keeper.specs.Writes.{with_changed_rows, with_moment_put, with_new_groups}
+use Rattle.sql_keeper.specs.Writes.{meta_with, with_redeemed, with_stored}
 use Rattle.sql_keeper.proofs.Changed.{AreKeyed, keyed_named, keyed_without, over_stored}
 use Rattle.sql_keeper.proofs.Changed.{stored_over, without_groups}
 use Rattle.sql_keeper.specs.Grants.{is_kept}

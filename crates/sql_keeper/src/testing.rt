@@ -136,7 +136,8 @@ pub fn may_be_written(books: &TariffShelf, head: &Option<HeadColumns>, change: &
         AreNumbered (first_number head.now) change.now.rows.next_charge change.now.charges.items }
     ensures rules { IsTrue result →
         IsTrue (is_ruled_change (shelf_names books.now) change.now) }
-    ensures back { AreWritable (shelf_names books.now) change.now.rows.sessions change.now.rows.groups →
+    ensures back { AreWritable (shelf_names books.now) change.now.rows.sessions
+        change.now.rows.groups →
         AreNumbered (first_number head.now) change.now.rows.next_charge change.now.charges.items →
         IsTrue (is_ruled_change (shelf_names books.now) change.now) → IsTrue result }
 {

@@ -150,8 +150,8 @@ module _ (t : ℕ) where
         → (tables_content old).meta ≡ Some (meta_in (drop 1 r))
     found r has same =
         ap (option_map meta_in)
-        (stands_under book_schema meta (inl refl) (key_index meta) (inl refl) refl refl refl old fits
-        stored meta_key (λ x e. full_key places meta_key x (refl, tt) e) r has
+        (stands_under book_schema meta (inl refl) (key_index meta) (inl refl) refl refl refl old
+        fits stored meta_key (λ x e. full_key places meta_key x (refl, tt) e) r has
         (keys_back (key_of places r) meta_key same))
 
     missing : ((r : Row) → Has (old 0) r → test r ≡ true → ⊥) → (tables_content old).meta ≡ None
