@@ -1,8 +1,8 @@
-"""Runs the program with its growths of memory counted and some of them refused, and gives the rows that
-it leaves.
+"""Runs the program with its growths of memory counted and some of them refused, and gives the rows
+that it leaves.
 
-A growth is a call of the C library's malloc or of its kin. growths.c, which gcc compiles, is loaded into
-the program and shares the count with this process, as it does which growths are refused."""
+A growth is a call of the C library's malloc or of its kin. growths.c, which gcc compiles, is loaded
+into the program and shares the count with this process, as it does which growths are refused."""
 import collections
 import contextlib
 import itertools
@@ -89,8 +89,8 @@ class Server:
         self.line = self.running.stdout.readline()
 
     def sent(self, requests, due=()):
-        """What each request is answered on a connection, the empty text where it ends; up to the first
-        that isn't answered as is due."""
+        """What each request is answered on a connection, the empty text where it ends; up to the
+        first that isn't answered as is due."""
         answers, place = [], ("127.0.0.1", self.port)
         with contextlib.suppress(OSError), socket.create_connection(place, timeout=SECONDS) as peer:
             with peer.makefile("rb") as read:
@@ -135,8 +135,8 @@ def copied(base, names=None):
 
 
 def rows_in(work):
-    """The rows of each table of a folder's database, and what SQLite's checks say of it; of a copy, so
-    that the files stay as they are."""
+    """The rows of each table of a folder's database, and what SQLite's checks say of it; of a copy,
+    so that the files stay as they are."""
     with copied(work, ("db", "db-wal")) as place, contextlib.closing(sqlite3.connect(place / "db")) as opened:
         tables = opened.execute("SELECT name FROM sqlite_master WHERE type = 'table'").fetchall()
         asked = [(name, f"SELECT * FROM {name}") for name, in tables]

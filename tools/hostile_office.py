@@ -49,8 +49,8 @@ UNDUE = (
 
 @dataclass(frozen=True)
 class Office:
-    """The program; the database that batches begin with, and the statements that were due on the way
-    to it; what is changed: requests of files of lines, books, files of vouchers."""
+    """The program; the database that batches begin with, and the statements that were due on the
+    way to it; what is changed: requests of files of lines, books, files of vouchers."""
 
     built: str
     base: pathlib.Path
@@ -112,8 +112,8 @@ def replayed(built, place, text):
 
 
 def rows(place, unwanted=UNDUE):
-    """All rows of a database, which has none that is unwanted. A changed byte of a comment in the texts
-    of its tables need not be UTF-8."""
+    """All rows of a database, which has none that is unwanted. A changed byte of a comment in the
+    texts of its tables need not be UTF-8."""
     with contextlib.closing(sqlite3.connect(place / "db")) as opened:
         opened.text_factory = lambda text: text.decode(errors="replace")
         for asked in unwanted:

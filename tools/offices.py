@@ -156,7 +156,8 @@ class Counts:
         return False
 
     def skip(self, what):
-        """Prints what isn't tried since a tool is missing; it counts neither as passed nor as failed."""
+        """Prints what isn't tried since a tool is missing; it counts neither as passed nor as
+        failed."""
         self.skipped += 1
         print(f"{self.name}: skipped: {what}")
 

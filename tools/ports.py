@@ -2,9 +2,9 @@
 
     python3 tools/ports.py
 
-prints a port. Scripts that run at once are given different ones: a file of the user's says which was
-given last, and a port comes again after all others from 20000 to 31999. None of these is given to the
-near end of a connection by the machine."""
+prints a port. Scripts that run at once are given different ones: a file of the user's says which
+was given last, and a port comes again after all others from 20000 to 31999. None of these is given
+to the near end of a connection by the machine."""
 import contextlib
 import fcntl
 import os
