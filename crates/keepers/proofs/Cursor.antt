@@ -1,4 +1,4 @@
--- Whether a row is among others, by the one that stands at a place.
+-- Whether a row is among others, by the one that is at a place.
 use Rattle.std.proofs.Common.{◌≡◌, ℕ, zero, suc, ◌<◌, Bool, true, false, List, [], ◌∷◌, length}
 use Rattle.std.proofs.Common.{get_or, refl, sym, ap, ◌∙◌, arith, cond, Some}
 use Rattle.std.specs.Prelude.{◌==◌, is_some}
@@ -37,7 +37,7 @@ other {A} same eq sound row old key y h = at (eq row y) refl
 turned : (a b : ℕ) → (a == b) ≡ true → (b == a) ≡ true
 turned a b e = ap (λ n. b == n) (number_from a b e) ∙ number_itself b
 
--- the row with the key stands at the place and differs: so do all
+-- the row with the key is at the place and differs: so do all
 pub new_at : {A : Type 0} (same eq : A → A → Bool) → ((x y : A) → same x y ≡ same y x) →
     ((x y : A) → eq x y ≡ true → x ≡ y) → (row : A) (xs : List A) (i : ℕ) (d : A) → i < length xs →
     AreApart same xs →

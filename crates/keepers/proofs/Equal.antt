@@ -1,4 +1,4 @@
--- Rows that are told equal are equal.
+-- Rows that a test finds equal are equal.
 use Rattle.std.proofs.Common.{◌≡◌, ℕ, true, List, [], ◌∷◌, refl, ap, Option}
 use Rattle.std.proofs.Common.{Some, None}
 use Rattle.std.specs.Prelude.{◌==◌}

@@ -12,7 +12,7 @@ use Rattle.reserving.specs.Left.{bucket_in, placed, merged, only, first_of}
 use Rattle.reserving.proofs.LeftTests.{find_filter}
 use Rattle.keepers.specs.Keyed.{same_bucket}
 
--- ---- what one of two lists alone tells
+-- ---- what one of two lists alone says
 
 pub told_by_one : {A : Type 0} (o l x : Option A) → (x ≡ None → o ≡ l) →
     ((y : A) → l ≡ Some y → x ≡ None) → first_of x o ≡ first_of l x

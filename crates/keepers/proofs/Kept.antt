@@ -68,7 +68,7 @@ module _ (w live : StoredRows) (old roomy back new rows : LeftStore) (was is : K
     (more : KnowsMore was is)
     (leaving : IsLeaving w live rows) (noted : AreNoted rows is) (room : AreSameRows old roomy)
     (behind : IsAppended roomy rows back) where
-  -- what stands behind is known, too
+  -- what is behind is known, too
   pub known_behind : AreKnown is back
   known_behind = record {
     buckets = buckets_known w was.numbers is.numbers old.buckets.items live.buckets

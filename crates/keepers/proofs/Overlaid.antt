@@ -1,4 +1,4 @@
--- The rows of a change over those that stand: what is live after it, and what isn't live any more.
+-- The rows of a change over those that are there: what is live after it, and what isn't live any more.
 use Rattle.std.proofs.Common.{◌≡◌, ℕ, Bool, true, false, cond, List, [], ◌∷◌, ◌++◌, refl, sym, ap}
 use Rattle.std.proofs.Common.{◌∙◌, subst, Option, Some, None}
 use Rattle.std.specs.Prelude.{if◌then◌else◌, ◌==◌, ◌&&◌, ◌||◌, not, filter, is_some, option_map}
@@ -65,7 +65,7 @@ module _ {A : Type 0} (same : A → A → Bool) (q : A → Bool) (one : (x y : A
       ∙ ap (λ o. first_of o (find q named)) (find_filter same q one p live apart)
       ∙ over_turned p (find q live) (find q named) hides
 
--- what is live over what stands is what is named over it
+-- what is live over what is there is what is named over it
 over_is : {A : Type 0} (p : A → Bool) (n o l : Option A) → ((y : A) → l ≡ Some y → o ≡ Some y) →
     first_of (first_of n (only p l)) o ≡ first_of n o
 over_is p None o None h = refl

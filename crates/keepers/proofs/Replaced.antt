@@ -1,4 +1,4 @@
--- What is left once the rows are others, by what a store in memory does: those that leave stand
+-- What is left once the rows are others, by what a store in memory does: those that leave are
 -- behind, and what there are rows of again goes.
 use Rattle.std.proofs.Common.{◌≡◌, ℕ, zero, suc, ◌+◌, ◌<◌, ◌≤◌, Bool, true, false, List, [], ◌∷◌}
 use Rattle.std.proofs.Common.{◌++◌, length, take, get_or, sym, ap, subst, ◌∙◌, arith}

@@ -1,4 +1,4 @@
--- What the rows of an account tell, whatever list they are written in.
+-- What the rows of an account say, whatever list they are written in.
 use Rattle.std.proofs.Common.{◌≡◌, ℕ, sym, ap, subst, ◌∙◌}
 use Rattle.buckets.specs.Row.{IsBalanced}
 use Rattle.buckets.specs.Spend.{Each}
