@@ -1,4 +1,4 @@
--- The rows of a change over those that are there: what is live after it, and what isn't live any more.
+-- The rows of a change over those that are there: what is live after it, and what no longer is.
 use Rattle.std.proofs.Common.{◌≡◌, ℕ, Bool, true, false, cond, List, [], ◌∷◌, ◌++◌, refl, sym, ap}
 use Rattle.std.proofs.Common.{◌∙◌, subst, Option, Some, None}
 use Rattle.std.specs.Prelude.{if◌then◌else◌, ◌==◌, ◌&&◌, ◌||◌, not, filter, is_some, option_map}
