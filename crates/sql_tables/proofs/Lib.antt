@@ -30,3 +30,4 @@ pub mod StoredOrder
 pub mod Standing
 pub mod OpeningSteps
 pub mod OpeningTexts
+pub mod Versions

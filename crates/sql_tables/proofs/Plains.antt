@@ -1,9 +1,9 @@
 -- Lists in which there is no number with a fraction.
-use Rattle.std.proofs.Common.{◌≡◌, refl, ap, sym, ◌∙◌, ℕ, zero, suc, ◌+◌, ◌<◌, Bool, true, false}
+use Rattle.std.proofs.Common.{◌≡◌, refl, ap, sym, ◌∙◌, ℕ, zero, suc, ◌+◌, ◌<◌, Bool, true}
 use Rattle.std.proofs.Common.{IsTrue, ◌&&◌, List, [], ◌∷◌, map, take, length, slice_index_or, ◌≤◌}
 use Rattle.std.proofs.Common.{subst, arith}
 use Rattle.std.specs.List.{list_all}
-use Rattle.std.proofs.lemmas.Bool.{and_parts, both_ways}
+use Rattle.std.proofs.lemmas.Bool.{and_parts}
 use Rattle.sqlite_schema.specs.declared.schema.Schema.{Schema}
 use Rattle.sqlite_sql.specs.Term.{Term}
 use Rattle.sql_tables.specs.Plain.{is_plain, is_plain_term}
@@ -94,17 +94,3 @@ same_as first second v same known is equal all = (
   (λ yes'. sym (equal yes') ∙ is),
   (λ ours. all (subst (λ s. IsTrue (is_plain s)) (sym is) (version_plain v known)) (is ∙ sym ours)),
 )
-
-pub no_version : (s : Schema) (one two three : Bool)
-    → (s ≡ schema_at 1 → IsTrue one) → (s ≡ schema_at 2 → IsTrue two)
-    → (s ≡ schema_at 3 → IsTrue three) → one ≡ false → two ≡ false → three ≡ false
-    → (v : ℕ) → IsVersion v → ¬ (s ≡ schema_at v)
-no_version s one two three is1 is2 is3 no1 no2 no3 zero known is = absurd (omega (arith, known.0))
-no_version s one two three is1 is2 is3 no1 no2 no3 (suc zero) known is =
-    both_ways one no1 (is1 is)
-no_version s one two three is1 is2 is3 no1 no2 no3 (suc (suc zero)) known is =
-    both_ways two no2 (is2 is)
-no_version s one two three is1 is2 is3 no1 no2 no3 (suc (suc (suc zero))) known is =
-    both_ways three no3 (is3 is)
-no_version s one two three is1 is2 is3 no1 no2 no3 (suc (suc (suc (suc n)))) known is =
-    let high : suc (suc (suc (suc n))) ≤ 3 = known.1 in absurd (omega (arith, high))

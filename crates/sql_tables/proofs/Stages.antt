@@ -158,7 +158,7 @@ split_between (suc k) (suc l) (suc m) [] low high = refl
 split_between (suc k) (suc l) (suc m) (x ∷ xs) low high =
     split_between k l m xs (omega (arith, low)) (omega (arith, high))
 
-tables_to : (k l : ℕ) → k ≤ l → (stage l).tables ≡ (stage k).tables ++ tables_between k l
+pub tables_to : (k l : ℕ) → k ≤ l → (stage l).tables ≡ (stage k).tables ++ tables_between k l
 tables_to k l low = ap tables_of (split_at k l (pieces_to latest) low)
     ∙ tables_of-append (take k (pieces_to latest)) (drop k (take l (pieces_to latest)))
 
@@ -192,7 +192,7 @@ answered k l a b u v all = record {
 
 -- ---- all of them
 
-none_stored : (ts : List Table) (trees : Trees) → AreEmpty ts trees → AllByRecursion
+pub none_stored : (ts : List Table) (trees : Trees) → AreEmpty ts trees → AllByRecursion
     (λ (t : Table). IsStored (trees t.tree)) ts
 none_stored [] trees h = tt
 none_stored (t ∷ ts) trees h = (subst IsStored (sym h.0) (tt, tt), none_stored ts trees h.1)

@@ -1,10 +1,10 @@
 //! The tables and indexes, made.
 
-ghost use Rattle.std.specs.Prelude.{◌≡◌, ◌≤◌, ◌<◌, ◌+◌, false, IfOk};
+ghost use Rattle.std.specs.Prelude.{◌≡◌, ◌≤◌, ◌<◌, ◌+◌, false, length, IfOk};
 ghost use Rattle.sql_tables.specs.Stages.{Adds, BuildsAll, BuildsTo, CommitsAll};
 ghost use Rattle.sql_tables.specs.Stages.{CommitsTo, Creates, HasNoTable, HasStage, HasVersion};
 ghost use Rattle.sql_tables.specs.Stages.{Migrates};
-ghost use Rattle.sql_tables.specs.Schema.{book_schema, latest, schema_at};
+ghost use Rattle.sql_tables.specs.Schema.{book_schema, latest, pieces_to, schema_at};
 ghost use Rattle.sql_tables.specs.Statements.{Attempts, AttemptsOver};
 ghost use Rattle.sqlite.specs.Held.{state};
 ghost use Rattle.sqlite.specs.Steps.{over_memory};
@@ -17,6 +17,18 @@ use std::alloc::Global;
 
 /// The version of the tables that are made.
 pub const LATEST: u32 = 3;
+
+/// How many tables and indexes the versions up to this one have.
+fn pieces_to(version: u32) -> usize
+    requires known { (1 ≤ version) × (version ≤ latest) }
+    ensures { result ≡ length (pieces_to version) }
+{
+    match version {
+        1 => 12,
+        2 => 15,
+        _ => 17,
+    }
+}
 
 /// Makes the table or the index at a place.
 fn create<S: Alter>(tx: &mut Transaction<'_, S>, place: usize) -> Result<usize, Error>
@@ -57,7 +69,7 @@ pub fn create_each<S: Alter>(tx: &mut Transaction<'_, S>) -> Result<(), Error>
     requires stage { HasStage 0 (state S.Store tx.old.conn.now) }
     ensures { AttemptsOver S.Store BuildsAll tx.old.conn tx.new.conn result }
 {
-    create_between(tx, 0, 17)
+    create_between(tx, 0, pieces_to(LATEST))
 }
 
 /// Makes what the versions up to this one have, within a transaction, in a database that has no
@@ -69,11 +81,7 @@ fn create_to<S: Alter>(tx: &mut Transaction<'_, S>, version: u32) -> Result<(), 
     ensures makes { Attempts (BuildsTo version) (state S.Store tx.old.conn.now)
         (state S.Store tx.new.conn.now) result }
 {
-    match version {
-        1 => create_between(tx, 0, 12),
-        2 => create_between(tx, 0, 15),
-        _ => create_between(tx, 0, 17),
-    }
+    create_between(tx, 0, pieces_to(version))
 }
 
 /// Makes what the versions after this one add, within a transaction: the schema is then that of the
@@ -87,10 +95,7 @@ pub fn create_since<S: Alter>(tx: &mut Transaction<'_, S>, version: u32) -> Resu
     requires has { HasVersion version (state S.Store tx.old.conn.now) }
     ensures { AttemptsOver S.Store (Migrates version) tx.old.conn tx.new.conn result }
 {
-    match version {
-        1 => create_between(tx, 12, 17),
-        _ => create_between(tx, 15, 17),
-    }
+    create_between(tx, pieces_to(version), pieces_to(LATEST))
 }
 
 /// Makes the tables and their indexes in a database that has none: all of them or nothing, also

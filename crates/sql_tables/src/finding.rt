@@ -6,7 +6,7 @@ ghost use Rattle.sql_tables.specs.Schema.{schema_at};
 ghost use Rattle.sql_tables.specs.Opens.{FindsAll, FindsVersion, IsNoVersion, IsOpenFaultTold};
 ghost use Rattle.sql_tables.specs.Opens.{IsVersion};
 
-use crate::creating::create_in_memory_at;
+use crate::creating::{LATEST, create_in_memory_at};
 use crate::fault::OpenFault;
 use crate::rising::{fault_of, rowids_differ};
 use crate::same::same_schema;
@@ -40,17 +40,12 @@ fn version_of<S: Alter>(conn: &Connection<S>, alloc: Global) -> Result<u32, Open
     ensures told { IfErr result IsNoVersion }
     ensures means { IfErr result (IsOpenFaultTold (state S.Store conn.now).now) }
 {
-    let third = has_version(conn, alloc, 3)?;
-    if third {
-        return Ok(3);
-    }
-    let second = has_version(conn, alloc, 2)?;
-    if second {
-        return Ok(2);
-    }
-    let first = has_version(conn, alloc, 1)?;
-    if first {
-        return Ok(1);
+    'versions: for later in 0..LATEST {
+        let version = LATEST - later;
+        let same = has_version(conn, alloc, version)?;
+        if same {
+            return Ok(version);
+        }
     }
     Err(OpenFault::Foreign)
 }
