@@ -48,7 +48,7 @@ pub(crate) fn open_account<K: Keeper>(
     if keeper.has_account(&number)? {
         return Ok(refuse(alloc, Refusal::AccountExists)?);
     }
-    let before = Account::new(alloc, shelf).into_stored();
+    let before = Account::new(alloc, shelf).into_stored().into_earlier();
     let mut account = Account::new(alloc, shelf);
     account.advance(moment);
     let loaded = Loaded {

@@ -1,13 +1,14 @@
 //! Requests of gateways.
 
-ghost use Rattle.std.specs.Prelude.{◌≡◌, Some, None, false, IfOk, IfSome};
+ghost use Rattle.std.specs.Prelude.{◌≡◌, Some, None, false, IfOk, IfSome, option_copied};
 ghost use Rattle.commands.specs.declared.answer.Answer.TheVariants as answer;
 ghost use Rattle.commands.specs.declared.answer.Failure.TheVariants.{InvalidAvpValue};
 ghost use Rattle.commands.specs.declared.avp.Avp.TheVariants.{RequestNumber};
 ghost use Rattle.commands.specs.declared.command.Command.TheVariants.{Ccr};
 ghost use Rattle.commands.specs.declared.command.Content.TheVariants as content;
 ghost use Rattle.shelves.specs.Shelves.{Shelf};
-ghost use Rattle.keepers.specs.Change.{IsLoad};
+ghost use Rattle.decisions.specs.Calls.{own_of};
+ghost use Rattle.keepers.specs.Change.{IsLoadedFrom};
 ghost use Rattle.keepers.specs.Tables.{Tables};
 ghost use Rattle.charging.specs.Outcomes.{failed, repeated};
 ghost use Rattle.charging.specs.Parts.{Leaves, PartKeeps, PartReads};
@@ -18,7 +19,9 @@ use crate::committing::{commit, moment_on};
 use crate::repetition::repeated;
 use commands::{Answer, Avp, Content, Failure, Outcome, Request, RequestAnswer};
 use decisions::{Decided, begins_session, decide, is_read, read};
+use identifiers::SessionId;
 use keepers::{Keeper, KeptAnswer, Key, Loaded, StoreFault};
+use reserving::Account;
 use shelves::TariffShelf;
 use std::alloc::{AllocError, Global};
 use units::Moment;
@@ -52,10 +55,10 @@ pub(crate) fn serve_request<K: Keeper>(
     if is_known(keeper, &request)? {
         return Ok(tell_failed(alloc, &request, Failure::InvalidAvpValue(Avp::SessionId))?);
     }
-    let Some(loaded) = keeper.load(shelf, &request.account, moment)? else {
+    let Some(account) = keeper.view(shelf, &request.account, moment)? else {
         return Ok(tell_failed(alloc, &request, Failure::UserUnknown)?);
     };
-    decide_on(alloc, keeper, loaded, request, moment)
+    decide_on(alloc, keeper, account, request, moment)
 }
 
 /// Whether a request begins a session of which the account has a row.
@@ -150,17 +153,29 @@ fn answer_read<K: Keeper>(
     }
 }
 
-/// Decides a request, and commits it where it is accepted.
+/// The session whose rows alone a request may change: its own, where nothing of the account ends at
+/// the moment.
+fn own_of<'r>(account: &Account, request: &'r Request, moment: Moment) -> Option<&'r SessionId>
+    ensures { option_copied result ≡ own_of request.now moment account.now }
+{
+    if account.is_quiet(moment) {
+        Some(&request.session)
+    } else {
+        None
+    }
+}
+
+/// Decides a request, and commits it where it is accepted. Of the account as it was before are kept
+/// the rows alone that the request may change.
 fn decide_on<K: Keeper>(
     alloc: Global,
     keeper: &mut K,
-    mut loaded: Loaded,
+    mut account: Account,
     request: Request,
     moment: Moment,
 ) -> Result<WrittenAnswer, StoreFault>
     ensures served { (K.seen keeper.new).clean → (b : Shelf) →
-        IsLoad b moment request.account ((K.seen keeper.old).tables.rows request.account)
-        (Some loaded.entry) →
+        IsLoadedFrom b moment ((K.seen keeper.old).tables.rows request.account) account.entry →
         kept_of_request request (K.seen keeper.old).tables ≡ None →
         is_known request (K.seen keeper.old).tables ≡ false →
         ServesAt b (Ccr request) moment (K.seen keeper.old).tables (K.seen keeper.new).tables
@@ -170,23 +185,25 @@ fn decide_on<K: Keeper>(
     ensures kept { PartKeeps (K.seen keeper.old) (K.seen keeper.new) result }
     ensures left { Leaves (K.seen keeper.old) (K.seen keeper.new)
         (λ t. (b : Shelf) →
-        IsLoad b moment request.account ((K.seen keeper.old).tables.rows request.account)
-        (Some loaded.entry) →
+        IsLoadedFrom b moment ((K.seen keeper.old).tables.rows request.account) account.entry →
         kept_of_request request (K.seen keeper.old).tables ≡ None →
         is_known request (K.seen keeper.old).tables ≡ false →
         WritesAt b (Ccr request) moment (K.seen keeper.old).tables t) }
 {
-    let moment = moment_on(&loaded.account, moment);
-    match decide(alloc, &mut loaded.account, &request, false, moment) {
-        Ok(decided) if decided.accepted => keep(alloc, keeper, loaded, decided, request),
-        Ok(decided) => {
-            keeper.abandon(loaded);
-            Ok(WrittenAnswer::new(alloc, Answer::Request(decided.answer))?)
+    let moment = moment_on(&account, moment);
+    let before = account.earlier(own_of(&account, &request, moment))?;
+    let number = request.account.clone()?;
+    match decide(alloc, &mut account, &request, false, moment) {
+        Ok(decided) if decided.accepted => {
+            let loaded = Loaded {
+                number,
+                account,
+                before,
+            };
+            keep(alloc, keeper, loaded, decided, request)
         }
-        Err(AllocError) => {
-            keeper.abandon(loaded);
-            Err(StoreFault::Memory)
-        }
+        Ok(decided) => Ok(WrittenAnswer::new(alloc, Answer::Request(decided.answer))?),
+        Err(AllocError) => Err(StoreFault::Memory),
     }
 }
 

@@ -18,18 +18,19 @@ use Rattle.ledger.specs.declared.terms.Terms.{Terms}
 use Rattle.ledger.specs.Ledger.{is_same}
 use Rattle.reserving.specs.Left.{differing}
 use Rattle.ledger.specs.Lists.{EachIn}
-use Rattle.reserving.specs.Rows.{AreApart}
 use Rattle.reserving.specs.Sessions.{is_session, session_in}
+use Rattle.reserving.specs.Earlier.{AreEarlier, rows_in, earlier_of}
 use Rattle.reserving.specs.Stored.{StoredRows, IsStored}
 use Rattle.reserving.specs.Others.{own_sessions, own_groups, other_sessions, other_groups}
 use Rattle.ledger.proofs.Names.{is_same-refl, number_same}
+use Rattle.reserving.proofs.OwnEarlier.{own_row}
 use Rattle.reserving.proofs.Keys.{both_true}
 use Rattle.reserving.proofs.Lists.{EachIn-weaker, not_both}
 use Rattle.reserving.proofs.LeftTests.{each_filter, each_passes, apart_filter}
 use Rattle.keepers.specs.Keyed.{same_bucket, same_session, same_group, same_counter}
 use Rattle.keepers.specs.Differing.{equal_session, equal_group, equal_hold, equal_terms}
 use Rattle.keepers.specs.Differing.{equal_reservation, same_state, named_rows, named_rows_of}
-use Rattle.keepers.specs.Differing.{equal_bucket, equal_counter, changed_session}
+use Rattle.keepers.specs.Differing.{equal_bucket, equal_counter, changed_session, named_for}
 use Rattle.keepers.specs.Naming.{IsNamed}
 use Rattle.keepers.proofs.Found.{distinct_apart}
 use Rattle.keepers.proofs.PartsKept.{each_in}
@@ -179,12 +180,32 @@ named_own s before after sessions groups = λ i. record after {
       before.groups after.groups groups i;
 }
 
--- ---- what is named of one session
+-- ---- one session's rows before are enough
 
--- the row of a session as a list
-abbrev rows_in : Option Session → List Session
-rows_in None = []
-rows_in (Some x) = x ∷ []
+passed_twice : {A : Type 0} (p : A → Bool) (xs : List A) → filter p (filter p xs) ≡ filter p xs
+passed_twice p [] = refl
+passed_twice p (x ∷ xs) = at (p x) refl (passed_twice p xs)
+  where
+    at : (t : Bool) → p x ≡ t → filter p (filter p xs) ≡ filter p xs →
+        filter p (cond t (x ∷ filter p xs) (filter p xs)) ≡ cond t (x ∷ filter p xs) (filter p xs)
+    at true e rest =
+        ap (λ t. cond t (x ∷ filter p (filter p xs)) (filter p (filter p xs))) e
+        ∙ ap (λ l. x ∷ l) rest
+    at false e rest = rest
+
+pub named_earlier : (own : Option (List ℕ)) (before after : StoredRows) →
+    named_for own (earlier_of own before) after ≡ named_for own before after
+named_earlier None before after = refl
+named_earlier (Some s) before after = λ i. record after {
+  buckets = differing equal_bucket before.buckets after.buckets;
+  counters = differing equal_counter before.counters after.counters;
+  sessions = differing equal_session (passed_twice (is_session s) before.sessions i)
+      (own_sessions s after.sessions);
+  groups = differing equal_group (passed_twice (λ r. is_same r.session s) before.groups i)
+      (own_groups s after.groups);
+}
+
+-- ---- what is named of one session
 
 changed_is : (was is : Option Session) →
     changed_session was is ≡ differing equal_session (rows_in was) (rows_in is)
@@ -196,28 +217,8 @@ changed_is (Some y) (Some x) = at (equal_session x y)
     at true = refl
     at false = refl
 
--- where no two sessions have one name, one row at most is a session's
-own_row : (s : List ℕ) (rows : List Session) → AreApart same_session rows →
-    own_sessions s rows ≡ rows_in (session_in s rows)
-own_row s [] h = refl
-own_row s (x ∷ xs) h = at (is_session s x) refl (own_row s xs h.1)
-  where
-    none : (ys : List Session) → EachIn (λ y. same_session x y ≡ false) ys →
-        is_session s x ≡ true → own_sessions s ys ≡ []
-    none [] g e = refl
-    none (y ∷ ys) g e =
-        ap (λ t. cond t (y ∷ own_sessions s ys) (own_sessions s ys))
-        (ap (is_same y.id) (sym (equal_names x.id s e)) ∙ g.0)
-        ∙ none ys g.1 e
-
-    at : (t : Bool) → is_session s x ≡ t → own_sessions s xs ≡ rows_in (session_in s xs) →
-        cond t (x ∷ own_sessions s xs) (own_sessions s xs)
-        ≡ rows_in (cond t (Some x) (session_in s xs))
-    at true e rest = ap (λ l. x ∷ l) (none xs h.0 e)
-    at false e rest = rest
-
 pub session_named : (s : List ℕ) (before after : StoredRows) (new : List Session)
-    (was is : Option Session) → IsStored before → IsStored after →
+    (was is : Option Session) → AreEarlier before → IsStored after →
     new ≡ changed_session was is →
     was ≡ session_in s before.sessions → is ≡ session_in s after.sessions →
     new ≡ differing equal_session (own_sessions s before.sessions) (own_sessions s after.sessions)

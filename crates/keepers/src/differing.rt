@@ -13,10 +13,10 @@ ghost use Rattle.keepers.specs.Differing.{equal_reservation, equal_group};
 use buckets::{Bucket, BucketKind, HeldAmount};
 use ledger::Terms;
 use rating::Periods;
-use reserving::{Counter, Reservation, Session, SessionGroup, SessionState, StoredAccount};
+use reserving::{Counter, EarlierRows, Reservation, Session, SessionGroup, SessionState};
 
 /// Whether a bucket's row differs from all before, from this place on.
-pub(crate) fn is_new_bucket(before: &StoredAccount, cursor: &mut usize, row: &Bucket) -> bool
+pub(crate) fn is_new_bucket(before: &EarlierRows, cursor: &mut usize, row: &Bucket) -> bool
     ensures { result ≡ not (list_any (equal_bucket row.now) before.now.buckets) }
 {
     // For the prover alone: looking at the value makes known here what its type keeps.
@@ -38,7 +38,7 @@ pub(crate) fn is_new_bucket(before: &StoredAccount, cursor: &mut usize, row: &Bu
 }
 
 /// Whether a counter's row differs from all before, from this place on.
-pub(crate) fn is_new_counter(before: &StoredAccount, cursor: &mut usize, row: &Counter) -> bool
+pub(crate) fn is_new_counter(before: &EarlierRows, cursor: &mut usize, row: &Counter) -> bool
     ensures { result ≡ not (list_any (equal_counter row.now) before.now.counters) }
 {
     let _kept = before.as_of();
@@ -59,7 +59,7 @@ pub(crate) fn is_new_counter(before: &StoredAccount, cursor: &mut usize, row: &C
 }
 
 /// Whether a session's row differs from all before, from this place on.
-pub(crate) fn is_new_session(before: &StoredAccount, cursor: &mut usize, row: &Session) -> bool
+pub(crate) fn is_new_session(before: &EarlierRows, cursor: &mut usize, row: &Session) -> bool
     ensures { result ≡ not (list_any (equal_session row.now) before.now.sessions) }
 {
     let _kept = before.as_of();
@@ -80,7 +80,7 @@ pub(crate) fn is_new_session(before: &StoredAccount, cursor: &mut usize, row: &S
 }
 
 /// Whether what a session has of a group differs from all before, from this place on.
-pub(crate) fn is_new_group(before: &StoredAccount, cursor: &mut usize, row: &SessionGroup) -> bool
+pub(crate) fn is_new_group(before: &EarlierRows, cursor: &mut usize, row: &SessionGroup) -> bool
     ensures { result ≡ not (list_any (equal_group row.now) before.now.groups) }
 {
     let _kept = before.as_of();

@@ -85,7 +85,7 @@ pub(crate) fn load_entry<'b>(
         return Ok(None);
     };
     let number = number.clone()?;
-    let before = account.copy()?.into_stored();
+    let before = account.earlier(None)?;
     Ok(Some(Loaded {
         number,
         account,

@@ -8,7 +8,7 @@ use crate::kept_answer::KeptAnswer;
 use crate::named_rows::NamedRows;
 use identifiers::{AccountNumber, SessionId, VoucherCode};
 use ledger::ChargeRow;
-use reserving::{Account, StoredAccount};
+use reserving::{Account, EarlierRows, StoredAccount};
 use std::alloc::{AllocError, Global};
 use units::Moment;
 use voucher_rules::Voucher;
@@ -20,8 +20,9 @@ pub struct Loaded<'b> {
     pub number: AccountNumber,
     /// Its rows that may still change, priced by the shelf that it was loaded with.
     pub account: Account<'b>,
-    /// The rows that may still change, as they were loaded.
-    pub before: StoredAccount,
+    /// Its rows as they were loaded: all, or beside the buckets and counters those of one session,
+    /// where a command leaves each other session's as they are.
+    pub before: EarlierRows,
 }
 
 /// A voucher that an account redeemed.
@@ -55,7 +56,7 @@ pub struct Change {
 fn named_for(
     alloc: Global,
     own: Option<&SessionId>,
-    before: &StoredAccount,
+    before: &EarlierRows,
     after: &StoredAccount,
 ) -> Result<NamedRows, AllocError>
     ensures { IfOk result

@@ -13,7 +13,7 @@ use crate::differing::{
 };
 use buckets::Bucket;
 use identifiers::SessionId;
-use reserving::{Counter, Session, SessionGroup, StoredAccount};
+use reserving::{Counter, EarlierRows, Session, SessionGroup, StoredAccount};
 use std::alloc::{AllocError, Global};
 use std::marker::Model;
 use units::Moment;
@@ -52,7 +52,7 @@ impl NamedRows {
     /// Out of memory.
     pub fn differing(
         alloc: Global,
-        before: &StoredAccount,
+        before: &EarlierRows,
         after: &StoredAccount,
     ) -> Result<NamedRows, AllocError>
         ensures { IfOk result (λ named. named ≡ named_rows before.now after.now) }
@@ -79,7 +79,7 @@ impl NamedRows {
     pub fn differing_of(
         alloc: Global,
         session: &SessionId,
-        before: &StoredAccount,
+        before: &EarlierRows,
         after: &StoredAccount,
     ) -> Result<NamedRows, AllocError>
         ensures { IfOk result (λ named. named ≡ named_rows_of session.now before.now after.now) }
@@ -177,7 +177,7 @@ pub(crate) fn copy_of_group(row: &SessionGroup) -> Result<SessionGroup, AllocErr
 /// The buckets that differ from all before.
 fn new_buckets(
     alloc: Global,
-    before: &StoredAccount,
+    before: &EarlierRows,
     rows: &[Bucket],
 ) -> Result<Vec<Bucket>, AllocError>
     ensures { IfOk result
@@ -196,7 +196,7 @@ fn new_buckets(
 /// The counters that differ from all before.
 fn new_counters(
     alloc: Global,
-    before: &StoredAccount,
+    before: &EarlierRows,
     rows: &[Counter],
 ) -> Result<Vec<Counter>, AllocError>
     ensures { IfOk result
@@ -215,7 +215,7 @@ fn new_counters(
 /// The sessions that differ from all before.
 fn new_sessions(
     alloc: Global,
-    before: &StoredAccount,
+    before: &EarlierRows,
     rows: &[Session],
 ) -> Result<Vec<Session>, AllocError>
     ensures { IfOk result
@@ -234,7 +234,7 @@ fn new_sessions(
 /// What sessions have of groups that differs from all before.
 fn new_groups(
     alloc: Global,
-    before: &StoredAccount,
+    before: &EarlierRows,
     rows: &[SessionGroup],
 ) -> Result<Vec<SessionGroup>, AllocError>
     ensures { IfOk result
@@ -284,7 +284,7 @@ fn changed_session(
 fn changed_sessions(
     alloc: Global,
     session: &SessionId,
-    before: &StoredAccount,
+    before: &EarlierRows,
     after: &StoredAccount,
 ) -> Result<Vec<Session>, AllocError>
     ensures { IfOk result (λ new. new.items

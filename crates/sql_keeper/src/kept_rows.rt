@@ -16,7 +16,7 @@ use crate::seen::SeenAccount;
 use buckets::Purse;
 use identifiers::AccountNumber;
 use keepers::{Change, Loaded};
-use reserving::{Session, SessionGroup, StoredAccount};
+use reserving::{EarlierRows, Session, SessionGroup};
 use sql_tables::ReadFault;
 use std::alloc::{AllocError, Global};
 
@@ -96,7 +96,7 @@ pub(crate) fn copy_of_kept(
 }
 
 /// The rows of an account that may still change, once more.
-fn rows_of(alloc: Global, account: &StoredAccount) -> Result<LiveRows, AllocError>
+fn rows_of(alloc: Global, account: &EarlierRows) -> Result<LiveRows, AllocError>
     ensures { IfOk result (AreTaken account.now) }
 {
     Ok(LiveRows {

@@ -54,11 +54,12 @@ fn loaded_of<'b>(
 ) -> Result<Option<Loaded<'b>>, ReadFault>
     ensures { IfOk result (IsLoadOf shelf.now number.now rows) }
 {
-    let Some(before) = rows else {
+    let Some(stored) = rows else {
         return Ok(None);
     };
     let number = number.clone()?;
-    let account = priced_copy(&before, shelf, moment)?;
+    let account = priced_copy(&stored, shelf, moment)?;
+    let before = stored.into_earlier();
     Ok(Some(Loaded {
         number,
         account,

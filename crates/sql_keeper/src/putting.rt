@@ -20,7 +20,7 @@ use crate::voucher_puts::put_redeemed;
 use commands::{Content, KeyRef};
 use identifiers::AccountNumber;
 use keepers::{Change, KeptAnswer, NamedRows};
-use reserving::StoredAccount;
+use reserving::EarlierRows;
 use shelves::TariffShelf;
 use sql_rows::{
     HeadColumns, KeptTexts, put_account, put_answer, put_counters, put_last_moment, put_sessions,
@@ -28,8 +28,8 @@ use sql_rows::{
 use sqlite::{Alter, Error, Transaction};
 use units::Moment;
 
-/// What is kept of an account once.
-pub(crate) fn head_of(rows: &StoredAccount) -> HeadColumns
+/// What is kept of an account once, as it was loaded.
+pub(crate) fn head_of(rows: &EarlierRows) -> HeadColumns
     ensures { result ≡ head_columns_of rows.now }
 {
     HeadColumns {

@@ -21,7 +21,7 @@ use crate::putting::head_of;
 use buckets::HeldAmount;
 use identifiers::{AccountNumber, SessionId};
 use keepers::Loaded;
-use reserving::{Reservation, Session, SessionGroup, SessionState, StoredAccount};
+use reserving::{EarlierRows, Reservation, Session, SessionGroup, SessionState};
 use sql_rows::HeadColumns;
 use sql_tables::ReadFault;
 
@@ -187,7 +187,7 @@ fn grant_seen(groups: &[SessionGroup], live: &Option<SessionId>) -> Option<SeenG
 }
 
 /// What is seen of the account of these rows.
-fn seen_as(account: AccountNumber, rows: &StoredAccount) -> SeenAccount
+fn seen_as(account: AccountNumber, rows: &EarlierRows) -> SeenAccount
     ensures { IsSeenOf account rows.now result }
 {
     let live = first_open(rows.sessions());
@@ -203,7 +203,7 @@ fn seen_as(account: AccountNumber, rows: &StoredAccount) -> SeenAccount
 
 /// What is seen of the account of these rows; None for want of memory.
 #[tactic(auto, using(crate::proofs::SeenRows::seen_of_copy))]
-fn seen_of(account: &AccountNumber, rows: &StoredAccount) -> Option<SeenAccount>
+fn seen_of(account: &AccountNumber, rows: &EarlierRows) -> Option<SeenAccount>
     ensures { IfSome result (IsSeenOf account.now rows.now) }
 {
     match account.clone() {

@@ -56,6 +56,7 @@ pub(crate) fn swept_of(
     if !are_writable(names, after.sessions(), after.groups()) {
         return Err(ReadFault::Rules);
     }
-    let rows = NamedRows::differing(alloc, &before, &after)?;
+    let earlier = before.into_earlier();
+    let rows = NamedRows::differing(alloc, &earlier, &after)?;
     Ok(SweptAccount { number, rows })
 }

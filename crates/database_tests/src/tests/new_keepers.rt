@@ -26,7 +26,7 @@ pub(crate) fn change_of(
     rows: (StoredAccount, StoredAccount),
 ) -> Change {
     let (before, after) = rows;
-    let rows = NamedRows::differing(alloc, &before, &after).expect(rt, "room");
+    let rows = NamedRows::differing(alloc, &before.into_earlier(), &after).expect(rt, "room");
     Change {
         moment,
         number: account(rt, alloc, number),

@@ -27,7 +27,7 @@ abbrev change : (g : _) → After-commit g → Change
 change g c = record {
   moment = c.advance.new.self.as_of;
   number = c.args.number;
-  rows = named_rows c.into_stored-before.result (stored c.advance.new.self);
+  rows = named_rows c.into_earlier-before.result (stored c.advance.new.self);
   charges = c.new-2.result;
   kept = None;
   redeemed = None;
@@ -52,7 +52,7 @@ done g c t clean made = λ list time is le.
       named = refl;
       moment = refl;
       after = ap (λ (w : StoredRows). named_rows w (stored c.advance.new.self))
-          c.into_stored-before.ensures;
+          (c.into_earlier-before.ensures ∙ c.into_stored.ensures);
       kept = refl;
       redeemed = refl;
       charges = c.new-2.ensures.items;

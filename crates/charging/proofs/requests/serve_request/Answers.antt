@@ -1,10 +1,11 @@
 use Rattle.std.proofs.Common.{◌≡◌, ◌∙◌, ap, sym, subst, false, Some, None}
 use Rattle.commands.specs.declared.command.Command.TheVariants.{Ccr}
-use Rattle.keepers.specs.Change.{IsLoad}
+use Rattle.keepers.specs.Change.{IsLoadedFrom}
 use Rattle.keepers.specs.Tables.{Tables}
 use Rattle.charging.specs.Stepping.{ServesAt, WritesAt, is_known, kept_of_request, LeavesRefused}
-use Rattle.charging.proofs.Serving.{left_as, none_loaded, some_loaded}
+use Rattle.charging.proofs.Serving.{left_as}
 use Rattle.charging.proofs.Requested.{request-unknown, request-again, request-known}
+use Rattle.charging.proofs.Requested.{none_viewed, some_viewed}
 use Rattle.charging.proofs.requests.serve_request.Goals as goal
 use Rattle.charging.proofs.requests.serve_request.Goals.{After-decide_on}
 
@@ -31,39 +32,41 @@ returns-then-branch-clause-served g c = λ clean list time is le.
 
 pub returns-in_default-2-clause-served : goal.returns-in_default-2-clause-served
 returns-in_default-2-clause-served g c = λ clean list time is le.
-    let clean_known = c.in_ok-loaded.ensures.cleanness clean in
+    let clean_known = c.in_ok-account.ensures.cleanness clean in
     let clean_read = c.in_ok-is_known.ensures.cleanness clean_known in
     let clean_find = c.in_ok-read.ensures.kept.cleanness clean_read in
     let same = c.in_ok-is_known.ensures.same clean_known ∙ c.in_ok-read.ensures.same clean_read
     ∙ c.in_ok-kept.ensures.same clean_find in
     request-unknown c.args.shelf.now list c.args.request c.args.moment
     (g.K.Keeper.seen c.args.keeper.now).tables
-    (g.K.Keeper.seen c.load.new.self).tables c.in_ok-tell_failed-2.field-0 time le is
-    (none_loaded c.args.shelf.now c.args.moment c.args.request.account
-    (g.K.Keeper.seen c.is_known.new.keeper).tables
-    (g.K.Keeper.seen c.args.keeper.now).tables c.in_ok-loaded.field-0 same
-    (c.in_ok-loaded.ensures.found clean) c.in_default-2.is)
-    c.in_ok-tell_failed-2.ensures (c.in_ok-loaded.ensures.same clean ∙ same)
+    (g.K.Keeper.seen c.view.new.self).tables c.in_ok-tell_failed-2.field-0 time le is
+    (ap (λ (x : Tables). (x.rows c.args.request.account).head) (sym same)
+    ∙ none_viewed c.args.shelf.now c.args.moment
+    ((g.K.Keeper.seen c.is_known.new.keeper).tables.rows c.args.request.account)
+    c.in_ok-account.field-0 (c.in_ok-account.ensures.found clean) c.in_default-2.is)
+    c.in_ok-tell_failed-2.ensures (c.in_ok-account.ensures.same clean ∙ same)
 
 -- what was loaded and what was looked for, of the tables before the call
-taken : (g : _) (c : After-decide_on g) → (g.K.Keeper.seen c.load.new.self).clean →
-    IsLoad c.args.shelf.now c.args.moment c.args.request.account
-    ((g.K.Keeper.seen c.load.new.self).tables.rows c.args.request.account) (Some c.in-Some-2.loaded)
-    × (kept_of_request c.args.request (g.K.Keeper.seen c.load.new.self).tables ≡ None)
-    × (is_known c.args.request (g.K.Keeper.seen c.load.new.self).tables ≡ false)
-    × ((g.K.Keeper.seen c.load.new.self).tables ≡ (g.K.Keeper.seen c.args.keeper.now).tables)
+taken : (g : _) (c : After-decide_on g) → (g.K.Keeper.seen c.view.new.self).clean →
+    IsLoadedFrom c.args.shelf.now c.args.moment
+    ((g.K.Keeper.seen c.view.new.self).tables.rows c.args.request.account) c.in-Some-2.account
+    × (kept_of_request c.args.request (g.K.Keeper.seen c.view.new.self).tables ≡ None)
+    × (is_known c.args.request (g.K.Keeper.seen c.view.new.self).tables ≡ false)
+    × ((g.K.Keeper.seen c.view.new.self).tables ≡ (g.K.Keeper.seen c.args.keeper.now).tables)
 taken g c clean_load =
-    let clean_known = c.in_ok-loaded.ensures.cleanness clean_load in
+    let clean_known = c.in_ok-account.ensures.cleanness clean_load in
     let clean_read = c.in_ok-is_known.ensures.cleanness clean_known in
     let clean_find = c.in_ok-read.ensures.kept.cleanness clean_read in
-    let same_load = c.in_ok-loaded.ensures.same clean_load in
+    let same_load = c.in_ok-account.ensures.same clean_load in
     let same_known = c.in_ok-is_known.ensures.same clean_known in
     let all = same_load ∙ same_known ∙ c.in_ok-read.ensures.same clean_read
     ∙ c.in_ok-kept.ensures.same clean_find in
-    let loads = some_loaded c.args.shelf.now c.args.moment c.args.request.account
-    (g.K.Keeper.seen c.is_known.new.keeper).tables
-    (g.K.Keeper.seen c.load.new.self).tables c.in_ok-loaded.field-0 c.in-Some-2.loaded
-    (sym same_load) (c.in_ok-loaded.ensures.found clean_load) c.in-Some-2.is in
+    let loads = subst (λ (x : Tables). IsLoadedFrom c.args.shelf.now c.args.moment
+    (x.rows c.args.request.account) c.in-Some-2.account) (sym same_load)
+    (some_viewed c.args.shelf.now c.args.moment
+    ((g.K.Keeper.seen c.is_known.new.keeper).tables.rows c.args.request.account)
+    c.in_ok-account.field-0 c.in-Some-2.account (c.in_ok-account.ensures.found clean_load)
+    c.in-Some-2.is) in
     let fresh = ap (kept_of_request c.args.request) all
     ∙ sym (c.in_ok-kept.ensures.found clean_find) ∙ c.in_default.is in
     let new = ap (is_known c.args.request) (same_load ∙ same_known)
@@ -81,15 +84,15 @@ returns-clause-served g c = λ clean.
 pub returns-clause-left : goal.returns-clause-left
 returns-clause-left g c = λ honest t l.
     let honest_load = c.decide_on.ensures.kept.honesty honest in
-    let honest_known = c.in_ok-loaded.ensures.honesty honest_load in
+    let honest_known = c.in_ok-account.ensures.honesty honest_load in
     let honest_read = c.in_ok-is_known.ensures.honesty honest_known in
     let honest_find = c.in_ok-read.ensures.kept.honesty honest_read in
     let known = taken g (goal.at.returns-clause-left g c).After-decide_on
-    (c.in_ok-loaded.ensures.stands honest_load) in
+    (c.in_ok-account.ensures.stands honest_load) in
     left_as (c.decide_on.ensures.left honest t l)
     (λ before. c.in_ok-kept.ensures.left honest_find t (c.in_ok-read.ensures.left honest_read t
     (c.in_ok-is_known.ensures.left honest_known t
-    (c.in_ok-loaded.ensures.left honest_load t before))))
+    (c.in_ok-account.ensures.left honest_load t before))))
     (λ writes. subst (λ (x : Tables).
     WritesAt c.args.shelf.now (Ccr c.args.request) c.args.moment x t) known.3
     (writes c.args.shelf.now known.0 known.1 known.2))
@@ -105,9 +108,9 @@ returns-then-branch-clause-refused g c = λ clean e.
 
 pub returns-in_default-2-clause-refused : goal.returns-in_default-2-clause-refused
 returns-in_default-2-clause-refused g c = λ clean e.
-    let clean_known = c.in_ok-loaded.ensures.cleanness clean in
+    let clean_known = c.in_ok-account.ensures.cleanness clean in
     let clean_read = c.in_ok-is_known.ensures.cleanness clean_known in
-    c.in_ok-loaded.ensures.same clean ∙ c.in_ok-is_known.ensures.same clean_known
+    c.in_ok-account.ensures.same clean ∙ c.in_ok-is_known.ensures.same clean_known
     ∙ c.in_ok-read.ensures.same clean_read
     ∙ c.in_ok-kept.ensures.same (c.in_ok-read.ensures.kept.cleanness clean_read)
 
