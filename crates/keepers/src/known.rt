@@ -118,13 +118,6 @@ pub(crate) fn any_named(names: &HashMap<SessionId, bool>, rows: &[Session]) -> b
     rows.iter().any(|row| names.contains_key(&row.id))
 }
 
-/// Whether the session of a group is known.
-pub(crate) fn any_group_of_named(names: &HashMap<SessionId, bool>, rows: &[SessionGroup]) -> bool
-    ensures { result ≡ list_any (λ r. is_named names.now r.session) rows.now }
-{
-    rows.iter().any(|row| names.contains_key(&row.session))
-}
-
 /// Whether a session is known. None of these sessions is; its row is looked for among them from
 /// this place on.
 fn is_known(

@@ -12,7 +12,7 @@ ghost use Rattle.keepers.specs.Named.{may_go_on};
 ghost use Rattle.reserving.specs.Restored.{given};
 ghost use Rattle.keepers.specs.Overlaying.{IsRestDead, back_from, is_fresh};
 
-use crate::known::{Known, any_group_of_named, any_named, any_of_cycles, may_go_on, note};
+use crate::known::{Known, any_group_named, any_named, any_of_cycles, may_go_on, note};
 use crate::left_rows::{LeftStore, append, keep, leaving_rows, make_room};
 use crate::named_rows::NamedRows;
 use crate::overlaying::{given_over, rows_alone, rows_over};
@@ -214,6 +214,9 @@ fn going_on<'s>(
 ) -> &'s [Counter]
     ensures { result.now ≡ if may_go_on shelf.now moment cycles.now then rows.now else [] }
 {
+    if rows.is_empty() {
+        return rows;
+    }
     if may_go_on(cycles, shelf, moment) {
         rows
     } else {
@@ -242,7 +245,7 @@ fn is_fresh(known: &Known, rows: &GivenRows) -> bool
     ensures { result ≡ is_fresh known.now.names known.now.cycles (given rows.now) }
 {
     !any_named(&known.names, &rows.sessions)
-        && !any_group_of_named(&known.names, &rows.groups)
+        && !any_group_named(&known.names, &rows.sessions, &rows.groups)
         && !any_of_cycles(&known.cycles, &rows.counters)
 }
 
