@@ -7,6 +7,7 @@ use Rattle.identifiers.specs.Texts.{same_name}
 use Rattle.reserving.specs.declared.session.Session.{Session}
 use Rattle.reserving.specs.Sessions.{is_open, is_session, session_in}
 use Rattle.reserving.specs.Left.{first_of}
+use Rattle.ledger.specs.Lists.{EachIn}
 use Rattle.reserving.proofs.Lists.{not_both, find-passes, EachIn-found}
 use Rattle.ledger.proofs.Holds.{same_from}
 use Rattle.reserving.proofs.LeftParted.{find_both}
@@ -48,6 +49,18 @@ pub known_none : (names : Names) (s : List ℕ) (left live : List Session) →
     AreLeftSessions names left → is_named names s ≡ false → is_some (session_in s live) ≡ false →
     false ≡ is_some (session_in s (left ++ live))
 known_none names s left live h e f = sym (unnamed names s left h e) ∙ known_left s left live f
+
+-- the names of these sessions are kept: that of a row among them is
+pub named_among : (names : Names) (s : List ℕ) (rows : List Session) →
+    EachIn (λ (r : Session). is_named names r.id ≡ true) rows →
+    is_some (session_in s rows) ≡ true → is_named names s ≡ true
+named_among names s rows h e = at (session_in s rows) refl
+  where
+    at : (o : Option Session) → session_in s rows ≡ o → is_named names s ≡ true
+    at None f = absurd (not_both (sym (ap is_some f) ∙ e))
+    at (Some r) f = ap (is_named names)
+        (sym (same_from r.id s (find-passes (is_session s) rows r f)))
+        ∙ EachIn-found (λ (r : Session). is_named names r.id ≡ true) (is_session s) rows r h f
 
 -- a name that was kept stays so
 pub named_on : (was is : Names) (name : List ℕ) →

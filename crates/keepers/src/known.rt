@@ -35,7 +35,7 @@ pub(crate) fn note(known: &mut Known, rows: &LeftStore) -> Result<(), AllocError
     note_buckets(&mut known.numbers, &rows.buckets)?;
     note_counters(&mut known.cycles, &rows.counters)?;
     note_sessions(&mut known.names, &rows.sessions)?;
-    note_groups(&mut known.names, &rows.groups)?;
+    note_groups(&mut known.names, &rows.sessions, &rows.groups)?;
     Ok(())
 }
 
@@ -86,16 +86,38 @@ fn note_sessions(names: &mut HashMap<SessionId, bool>, rows: &[Session]) -> Resu
     Ok(())
 }
 
+/// Keeps a session's name. The names of these sessions are kept already; its row is looked for among
+/// them from this place on.
+fn note_other_name(
+    names: &mut HashMap<SessionId, bool>,
+    sessions: &[Session],
+    place: &mut usize,
+    name: &SessionId,
+) -> Result<(), AllocError>
+    requires { EachIn (λ r. is_named names.old r.id ≡ true) sessions.now }
+    ensures stay { (s : List ℕ) → is_named names.old s ≡ true → is_named names.new s ≡ true }
+    ensures noted { OnOk result (is_named names.new name.now ≡ true) }
+{
+    if has_session_near(sessions, place, name) {
+        return Ok(());
+    }
+    let name = name.clone()?;
+    note_name(names, name)
+}
+
+/// Keeps the names of the groups' sessions. Those of these sessions are kept already.
 fn note_groups(
     names: &mut HashMap<SessionId, bool>,
+    sessions: &[Session],
     rows: &[SessionGroup],
 ) -> Result<(), AllocError>
+    requires { EachIn (λ r. is_named names.old r.id ≡ true) sessions.now }
     ensures stay { (s : List ℕ) → is_named names.old s ≡ true → is_named names.new s ≡ true }
     ensures noted { OnOk result (EachIn (λ r. is_named names.new r.session ≡ true) rows.now) }
 {
+    let mut place = 0;
     for row in rows {
-        let name = row.session.clone()?;
-        note_name(names, name)?;
+        note_other_name(names, sessions, &mut place, &row.session)?;
     }
     Ok(())
 }

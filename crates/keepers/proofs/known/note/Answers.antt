@@ -1,8 +1,15 @@
-use Rattle.std.proofs.Common.{◌≡◌, true, subst, rules}
+use Rattle.std.proofs.Common.{◌≡◌, ◌∙◌, true, subst, rules}
 use Rattle.ledger.specs.Lists.{EachIn}
 use Rattle.reserving.proofs.Lists.{EachIn-weaker}
 use Rattle.keepers.specs.Named.{is_numbered, is_named, AreLeftCounters}
 use Rattle.keepers.proofs.known.note.Goals as goal
+
+pub note_groups-requires : goal.note_groups-requires
+note_groups-requires c =
+    let noted : c.deref-3.result.now ≡ c.args.rows.now.sessions.items = search rules in
+    let asked : c.args.rows.now.sessions.items ≡ c.deref-4.result.now = search rules in
+    subst (EachIn (λ r. is_named c.note_sessions.new.names r.id ≡ true)) (noted ∙ asked)
+    c.in_ok-note_sessions.ensures.noted
 
 pub returns-clause-more : goal.returns-clause-more
 returns-clause-more c = record {
@@ -16,7 +23,7 @@ returns-clause-noted c =
     let buckets : c.deref.result.now ≡ c.args.rows.now.buckets.items = search rules in
     let counters : c.deref-2.result.now ≡ c.args.rows.now.counters.items = search rules in
     let sessions : c.deref-3.result.now ≡ c.args.rows.now.sessions.items = search rules in
-    let groups : c.deref-4.result.now ≡ c.args.rows.now.groups.items = search rules in
+    let groups : c.deref-5.result.now ≡ c.args.rows.now.groups.items = search rules in
     record {
       buckets = subst (EachIn (λ b. is_numbered c.note_buckets.new.numbers b.number ≡ true)) buckets
           c.in_ok-note_buckets.ensures.noted;
