@@ -86,8 +86,8 @@ fn note_sessions(names: &mut HashMap<SessionId, bool>, rows: &[Session]) -> Resu
     Ok(())
 }
 
-/// Keeps a session's name. The names of these sessions are kept already; its row is looked for among
-/// them from this place on.
+/// Keeps a session's name. The names of these sessions are kept already; its row is looked for
+/// among them from this place on.
 fn note_other_name(
     names: &mut HashMap<SessionId, bool>,
     sessions: &[Session],
