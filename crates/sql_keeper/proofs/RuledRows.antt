@@ -1,14 +1,14 @@
 -- What is written of rows in their rules leaves content in its rules.
 use Rattle.std.proofs.Common.{◌≡◌, ℕ, zero, suc, List, [], ◌∷◌, Bool, true, false, ◌&&◌, ◌||◌, Some}
 use Rattle.std.proofs.Common.{None, Option, refl, subst, sym, ap, length, map, arith, ◌+◌, ◌++◌}
-use Rattle.std.proofs.Common.{◌<◌, ◌≤◌}
-use Rattle.std.specs.Prelude.{is_some, option_map, slice_get, unwrap_or, nat_le, ◌==◌}
+use Rattle.std.proofs.Common.{◌≤◌, ◌∙◌}
+use Rattle.std.specs.Prelude.{is_some, option_map, slice_get, unwrap_or, nat_le, nat_lt, ◌==◌}
 use Rattle.std.specs.Prelude.{if◌then◌else◌}
 use Rattle.std.specs.List.{list_all, list_any}
 use Rattle.std.proofs.lemmas.Bool.{and_from, and_parts}
 use Rattle.std.proofs.lemmas.Bool.Decides.{nat_tests}
 use Rattle.std.proofs.lemmas.List.{length-append, length-map}
-use Rattle.identifiers.specs.Texts.{is_account_number, is_session_id}
+use Rattle.identifiers.specs.Texts.{is_session_id}
 use Rattle.tariffs.specs.Books.{Book}
 use Rattle.voucher_rules.specs.declared.terms.VoucherTerms.{VoucherTerms}
 use Rattle.voucher_rules.specs.Standing.{unspent}
@@ -41,11 +41,15 @@ use Rattle.sql_rows.specs.Content.{with_session_row}
 use Rattle.sql_rows.specs.Content.{with_answer, with_covered, without_covered, without_holds}
 use Rattle.sql_rows.specs.Each.{with_counters, with_each, with_sessions}
 use Rattle.sql_rows.specs.Values.{Group, Kept, Meta, PeriodNames, plain_bucket, plain_charge}
-use Rattle.sql_rows.specs.Values.{reference_kind, request_kind}
+use Rattle.sql_rows.specs.Values.{flag_number, reference_kind, request_kind}
+use Rattle.sqlite.specs.Values.{or_null}
+use Rattle.sqlite_value.specs.declared.value.Value.TheVariants.{Text}
 use Rattle.sql_rules.specs.Columns.{is_moment, is_numbering, is_small, is_in_bounds}
-use Rattle.sql_rules.specs.Rules.{are_kept_texts, has_period, is_answer_key, is_period_name}
-use Rattle.sql_rules.specs.Ruled.{AreInRules, IsInRules, are_named, is_book, is_bucket, is_charge}
-use Rattle.sql_rules.specs.Ruled.{is_counter, is_group, is_head, is_session, is_voucher}
+use Rattle.sql_rules.specs.Rules.{are_kept_texts, are_periods, has_period, is_answer_key}
+use Rattle.sql_rules.specs.Rules.{is_period_name}
+use Rattle.sql_rules.specs.Ruled.{AreInRules, IsInRules, is_book, is_bucket, is_charge, is_counter}
+use Rattle.sql_rules.specs.Ruled.{is_group, is_session, is_voucher}
+use Rattle.sql_rules.proofs.Decoded.{are_named, periods_are}
 use Rattle.sql_rules.proofs.KeptRules.{account_kept, allowance_gone, allowance_kept, answer_kept}
 use Rattle.sql_rules.proofs.KeptRules.{book_kept, bucket_kept, charge_kept, counter_kept}
 use Rattle.sql_rules.proofs.KeptRules.{covered_gone}
@@ -185,7 +189,8 @@ module _ (shelf : Shelf) where
         let grouped = with_rows a (with_group_row s g row) c in
         let one : IsInRules shelf grouped = rows_kept shelf c in' a (with_group_row s g row)
         (group_kept shelf a (c.rows a) (in'.rows a) s g row
-        (and_from _ _ parts.0 (names_known sessions s x.reservation may))) in
+        (and_from _ _ parts.0 (periods_are shelf row.periods
+        ∙ names_known sessions s x.reservation may))) in
         let booked = with_rows a (with_book_of s g x.reservation) grouped in
         let two : IsInRules shelf booked = book_of_kept s g x.reservation grouped parts.1 one in
         let freed = with_rows a (without_holds s g) booked in
@@ -206,7 +211,6 @@ module _ (shelf : Shelf) where
         let sessions = and_parts _ (list_all is_session w.sessions) groups.0 in
         let counters = and_parts _ (list_all is_counter w.counters) sessions.0 in
         let buckets = and_parts _ (list_all is_bucket w.buckets) counters.0 in
-        let head = and_parts (is_account_number a) (is_head (head_columns_of w)) buckets.0 in
         each_kept (with_held_group a (shelf_names shelf)) (is_ruled_group (shelf_names shelf))
         (λ (x : SessionGroup).
         MayStand (shelf_names shelf) among x.session x.reservation)
@@ -218,7 +222,7 @@ module _ (shelf : Shelf) where
         (λ x d some so. rows_kept shelf d so a (with_counter_row x)
         (counter_kept shelf a (d.rows a) (so.rows a) x some)) w.counters _ counters.1
         (all_kept (with_counted a) is_bucket counted_kept w.buckets _ buckets.1
-        (account_kept shelf c in' a (head_columns_of w) head.0 head.1))))
+        (account_kept shelf c in' a (head_columns_of w) buckets.0))))
 
     -- the same with the head put last
     swept_kept : (among : List Session) (w : StoredRows) (c : TablesContent)
@@ -233,7 +237,6 @@ module _ (shelf : Shelf) where
         let sessions = and_parts _ (list_all is_session w.sessions) groups.0 in
         let counters = and_parts _ (list_all is_counter w.counters) sessions.0 in
         let buckets = and_parts _ (list_all is_bucket w.buckets) counters.0 in
-        let head = and_parts (is_account_number a) (is_head (head_columns_of w)) buckets.0 in
         account_kept shelf _ (each_kept (with_held_group a (shelf_names shelf))
         (is_ruled_group (shelf_names shelf))
         (λ (x : SessionGroup).
@@ -246,11 +249,11 @@ module _ (shelf : Shelf) where
         (λ x d some so. rows_kept shelf d so a (with_counter_row x)
         (counter_kept shelf a (d.rows a) (so.rows a) x some)) w.counters _ counters.1
         (all_kept (with_counted a) is_bucket counted_kept w.buckets c buckets.1 in'))))
-        a (head_columns_of w) head.0 head.1
+        a (head_columns_of w) buckets.0
 
     -- ---- charges, texts, vouchers
 
-    some_blocks : (m : ℕ) → (m == 0) ≡ false → 0 < m
+    some_blocks : (m : ℕ) → (m == 0) ≡ false → nat_lt 0 m ≡ true
     some_blocks m e = grind (arith, nat_tests, e)
 
     blocks_kept : (n m : ℕ) (c : TablesContent) → IsInRules shelf c →
@@ -387,8 +390,11 @@ module _ (shelf : Shelf) (from : ℕ) (b : Book) where
       is_group (with_book shelf from b) g x ≡ true
   more_group g x e =
       let parts = and_parts (is_small g && nat_le x.used 1_000_000_000_000_000_000)
-      (are_named shelf x.periods) e in
-      and_from _ _ parts.0 (more_named x.periods parts.1)
+      (are_periods shelf (flag_number (is_some x.periods))
+      (or_null (λ (p : PeriodNames). Text p.before) x.periods)
+      (or_null (λ (p : PeriodNames). Text p.after) x.periods)) e in
+      and_from _ _ parts.0 (periods_are (with_book shelf from b) x.periods
+      ∙ more_named x.periods (sym (periods_are shelf x.periods) ∙ parts.1))
 
   counts_more : count shelf ≤ count (with_book shelf from b)
   counts_more =

@@ -4,7 +4,7 @@ use Rattle.std.specs.Prelude.{◌&&◌, Bool, true, List, Option, Some, None, le
 use Rattle.std.specs.List.{list_all}
 use Rattle.units.specs.Words.{Moment}
 use Rattle.identifiers.specs.Words.{AccountName, VoucherCode}
-use Rattle.identifiers.specs.Texts.{is_account_number, is_reference, is_session_id}
+use Rattle.identifiers.specs.Texts.{is_reference, is_session_id}
 use Rattle.buckets.specs.declared.holds.HeldAmount.{HeldAmount}
 use Rattle.reserving.specs.Stored.{StoredRows}
 use Rattle.reserving.specs.declared.session.Reservation.{Reservation}
@@ -18,15 +18,16 @@ use Rattle.keepers.specs.declared.loaded.Redeemed.{Redeemed}
 use Rattle.voucher_rules.specs.Standing.{unspent}
 use Rattle.voucher_rules.specs.declared.terms.VoucherTerms.{VoucherTerms}
 use Rattle.sql_rows.specs.Values.{Kept}
-use Rattle.sql_rules.specs.Columns.{is_moment, is_small, is_some_money, is_in_bounds}
+use Rattle.sql_rules.specs.Columns.{is_moment, is_small, is_in_bounds}
 use Rattle.sql_rules.specs.Rules.{are_kept_texts}
-use Rattle.sql_rules.specs.Ruled.{is_bucket, is_charge, is_counter, is_head, is_session, is_voucher}
+use Rattle.sql_rules.specs.Ruled.{is_account, is_bucket, is_charge, is_counter, is_hold, is_session}
+use Rattle.sql_rules.specs.Ruled.{is_voucher}
 use Rattle.sql_keeper.specs.Content.{Names}
 use Rattle.sql_keeper.specs.Writes.{head_columns_of, voucher_row}
 use Rattle.sql_keeper.specs.declared.swept_rows.SweptAccount.{SweptAccount}
 
 abbrev pub is_ruled_hold : HeldAmount → Bool
-is_ruled_hold x = is_some_money x.amount
+is_ruled_hold x = is_hold x.amount
 
 -- a reservation goes by one of the books, and holds something of each of its buckets
 abbrev pub is_ruled_reservation : Names → Option Reservation → Bool
@@ -42,7 +43,7 @@ is_ruled_group names x =
 -- the rows of an account
 abbrev pub are_ruled_rows : Names → AccountName → StoredRows → Bool
 are_ruled_rows names a w =
-    is_account_number a && is_head (head_columns_of w) && list_all is_bucket w.buckets
+    is_account a (head_columns_of w) && list_all is_bucket w.buckets
     && list_all is_counter w.counters && list_all is_session w.sessions
     && list_all (is_ruled_group names) w.groups
 

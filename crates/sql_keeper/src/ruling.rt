@@ -1,6 +1,6 @@
 //! Whether the rows of a change are in the rules of their tables, so that an open finds them there.
 
-ghost use Rattle.std.specs.Prelude.{◌≡◌, length};
+ghost use Rattle.std.specs.Prelude.{◌≡◌, length, nat_le};
 ghost use Rattle.std.specs.List.{list_all};
 ghost use Rattle.identifiers.specs.Texts.{is_account_number, is_reference, is_session_id};
 ghost use Rattle.sql_keeper.specs.Content.{shelf_names};
@@ -11,9 +11,11 @@ ghost use Rattle.commands.specs.Keys.{key_of};
 ghost use Rattle.sql_keeper.specs.RuledRows.{is_ruled_hold, is_ruled_kept, is_ruled_key};
 ghost use Rattle.sql_keeper.specs.RuledRows.{is_ruled_redeemed, is_ruled_reservation};
 ghost use Rattle.sql_keeper.specs.Writes.{head_columns_of, voucher_row};
-ghost use Rattle.sql_rules.specs.Columns.{is_moment, is_small, is_in_bounds};
-ghost use Rattle.sql_rules.specs.Ruled.{is_bucket, is_charge, is_counter, is_head};
-ghost use Rattle.sql_rules.specs.Ruled.{is_none_or_within, is_session, is_voucher};
+ghost use Rattle.sql_rules.specs.Columns.{is_moment, is_small, is_in_bounds, is_optional_within};
+ghost use Rattle.sql_rules.specs.Ruled.{is_account, is_bucket, is_charge, is_counter, is_session};
+ghost use Rattle.sql_rules.specs.Ruled.{is_voucher};
+ghost use Rattle.sql_rows.specs.Values.{flag_number, nat, state_number};
+ghost use Rattle.sqlite.specs.Values.{or_null};
 
 use crate::swept_rows::SweptAccount;
 use buckets::{Bucket, HeldAmount};
@@ -21,7 +23,7 @@ use commands::{Content, KeyRef};
 use identifiers::{AccountNumber, Reference, SessionId, VoucherCode};
 use keepers::{Change, KeptAnswer, NamedRows, Redeemed};
 use ledger::ChargeRow;
-use reserving::{Counter, Reservation, Session, SessionGroup};
+use reserving::{Counter, Reservation, Session, SessionGroup, SessionState};
 use shelves::TariffShelf;
 use units::Moment;
 use voucher_rules::VoucherTerms;
@@ -47,7 +49,7 @@ fn is_within(number: u64, low: u64, high: u64) -> bool
 }
 
 fn is_none_or_within(number: Option<u32>, low: u64, high: u64) -> bool
-    ensures { result ≡ is_none_or_within low high number }
+    ensures { result ≡ is_optional_within low high (or_null nat number) }
 {
     match number {
         None => true,
@@ -79,12 +81,32 @@ fn is_reference(reference: &Reference) -> bool
     true
 }
 
+fn is_flag(flag: bool) -> bool
+    ensures { result ≡ nat_le (flag_number flag) 1 }
+{
+    // For the prover alone: whichever it is, its number is 0 or 1.
+    match flag {
+        true | false => true,
+    }
+}
+
+fn is_state(state: SessionState) -> bool
+    ensures { result ≡ is_in_bounds 1 3 (state_number state) }
+{
+    // For the prover alone: whichever it is, its number is one of three.
+    match state {
+        SessionState::Open | SessionState::Ended | SessionState::NeverOpened => true,
+    }
+}
+
 // ---- the rows of an account
 
-fn is_head(rows: &NamedRows) -> bool
-    ensures { result ≡ is_head (head_columns_of rows.now) }
+fn is_account(account: &AccountNumber, rows: &NamedRows) -> bool
+    ensures { result ≡ is_account account.now (head_columns_of rows.now) }
 {
-    is_moment(rows.as_of())
+    is_number(account)
+        && is_flag(rows.is_barred())
+        && is_moment(rows.as_of())
         && is_within(rows.next_bucket(), 1, 4_294_967_296)
         && is_within(rows.next_charge(), 1, 4_294_967_296)
 }
@@ -110,7 +132,10 @@ fn is_counter(counter: &Counter) -> bool
 fn is_session(session: &Session) -> bool
     ensures { result ≡ is_session session.now }
 {
-    is_name(&session.id) && is_small(session.last_number) && is_moment(session.touched)
+    is_name(&session.id)
+        && is_small(session.last_number)
+        && is_moment(session.touched)
+        && is_state(session.state)
 }
 
 fn is_hold(hold: &HeldAmount) -> bool
@@ -179,8 +204,7 @@ fn are_groups(books: &TariffShelf, groups: &[SessionGroup]) -> bool
 fn are_rows(books: &TariffShelf, account: &AccountNumber, rows: &NamedRows) -> bool
     ensures { result ≡ are_ruled_rows (shelf_names books.now) account.now rows.now }
 {
-    is_number(account)
-        && is_head(rows)
+    is_account(account, rows)
         && are_buckets(rows.buckets())
         && are_counters(rows.counters())
         && are_sessions(rows.sessions())

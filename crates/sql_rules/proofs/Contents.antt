@@ -9,7 +9,6 @@ use Rattle.std.specs.Ordering.{eq_by_cmp}
 use Rattle.std.proofs.lemmas.Bool.{and_parts}
 use Rattle.std.proofs.lemmas.Bool.Decides.{nat_tests}
 use Rattle.std.proofs.lemmas.Cmp.{tied_itself}
-use Rattle.identifiers.specs.Texts.{is_account_number}
 use Rattle.shelves.specs.Shelves.{Shelf, count}
 use Rattle.sqlite_value.specs.declared.value.Value.{Value}
 use Rattle.sqlite_value.specs.declared.value.Value.TheVariants.{Null, Int, Real, Text, Blob}
@@ -40,12 +39,12 @@ use Rattle.sql_rules.specs.Rules.{is_ruled_answer, is_ruled_book, is_ruled_bucke
 use Rattle.sql_rules.specs.Rules.{is_ruled_counter, is_ruled_covered, is_ruled_grant_book}
 use Rattle.sql_rules.specs.Rules.{is_ruled_group, is_ruled_hold, is_ruled_meta, is_ruled_session}
 use Rattle.sql_rules.specs.Rules.{is_ruled_voucher}
-use Rattle.sql_rules.specs.Ruled.{AreInRules, IsInRules, is_answer, is_book, is_bucket, is_charge}
-use Rattle.sql_rules.specs.Ruled.{is_counter, is_group, is_head, is_session, is_voucher}
+use Rattle.sql_rules.specs.Ruled.{AreInRules, IsInRules, is_account, is_answer, is_book, is_bucket}
+use Rattle.sql_rules.specs.Ruled.{is_charge, is_counter, is_group, is_session, is_voucher}
 use Rattle.sql_rules.specs.Tables.{AreRuled, IsRuledAt}
 use Rattle.sql_rules.proofs.Decoded.{account_told, answer_told, book_told, bucket_told, charge_told}
 use Rattle.sql_rules.proofs.Decoded.{counter_told, covered_told, grant_book_told, group_told}
-use Rattle.sql_rules.proofs.Decoded.{head_told, hold_told, meta_told, number_key, session_told}
+use Rattle.sql_rules.proofs.Decoded.{hold_told, meta_told, number_key, session_told}
 use Rattle.sql_rules.proofs.Decoded.{text_key, voucher_told}
 use Rattle.sql_rules.proofs.Lookups.{found_in}
 use Rattle.sql_rules.proofs.Written.{answer_of, group_of}
@@ -68,9 +67,6 @@ some_of (Some x) e = (x, refl)
 
 from_two : (n : ℕ) → nat_le 2 n ≡ true → nat_le 1 n ≡ true
 from_two n e = grind (arith, nat_tests, e)
-
-above_zero : (n : ℕ) → nat_lt 0 n ≡ true → 0 < n
-above_zero n e = grind (arith, nat_tests, e)
 
 -- ---- one row of what is kept once
 
@@ -164,12 +160,11 @@ module _ (shelf : Shelf) (trees : Trees) (fits : Fits book_schema trees)
   account_rows a = record {
     head = λ h e.
         let it = found_in accounts trees is_ruled_account (ruled 1 (omega arith)).rows head_in
-        (head_key a) h e in (
-          subst (λ t. is_account_number t ≡ true)
-              (text_key a (column it.0 1) (first_key (Text a) (column it.0 1) [] [] it.1))
-              (account_told it.0 it.2),
-          subst (λ x. is_head x ≡ true) it.3 (head_told it.0 it.2),
-        );
+        (head_key a) h e in
+        subst (λ x. is_account a x ≡ true) it.3
+        (subst (λ t. is_account t (head_in (drop 1 it.0)) ≡ true)
+        (text_key a (column it.0 1) (first_key (Text a) (column it.0 1) [] [] it.1))
+        (account_told it.0 it.2));
     buckets = λ n b e.
         let it = found_in buckets trees is_ruled_bucket (ruled 2 (omega arith)).rows bucket_in_row
         (bucket_key a n) b e in
@@ -222,7 +217,7 @@ module _ (shelf : Shelf) (trees : Trees) (fits : Fits book_schema trees)
         let it = found_in covered trees is_ruled_covered (ruled 13 (omega arith)).rows
         covered_in_row
         (charge_key a n) blocks e in
-        above_zero blocks (subst (λ y. nat_lt 0 y ≡ true) it.3 (covered_told it.0 it.2));
+        subst (λ y. nat_lt 0 y ≡ true) it.3 (covered_told it.0 it.2);
   }
 
   pub content_ruled : IsInRules shelf (tables_content trees)

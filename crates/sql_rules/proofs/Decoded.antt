@@ -2,7 +2,7 @@
 use Rattle.std.proofs.Common.{◌≡◌, ℕ, pos, negsuc, List, [], ◌∷◌, drop, Bool, true, false, ◌&&◌}
 use Rattle.std.proofs.Common.{Some, None, refl, sym, ◌∙◌, nat_le, nat_eq, nat_lt, is_eq}
 use Rattle.std.proofs.Common.{arith, subst}
-use Rattle.std.specs.Prelude.{if◌then◌else◌, ◌==◌}
+use Rattle.std.specs.Prelude.{Option, if◌then◌else◌, is_some, ◌==◌}
 use Rattle.std.specs.Cmp.{unsigned_Decides}
 use Rattle.std.specs.Cmp.Lexicographic.{bytes_decides}
 use Rattle.std.proofs.lemmas.Bool.{and_from, and_parts}
@@ -12,8 +12,12 @@ use Rattle.shelves.specs.Shelves.{Shelf, count}
 use Rattle.sqlite_value.specs.declared.value.Value.{Value}
 use Rattle.sqlite_value.specs.declared.value.Value.TheVariants.{Null, Int, Real, Text, Blob}
 use Rattle.sqlite_value.specs.Order.{Row, column, value_cmp}
+use Rattle.sqlite.specs.Values.{or_null}
+use Rattle.reserving.specs.declared.session.SessionState.{SessionState}
+use Rattle.reserving.specs.declared.session.SessionState.TheVariants.{Open, Ended, NeverOpened}
 use Rattle.sql_tables.proofs.Keys.{int_tie, text_tie}
-use Rattle.sql_rows.specs.Values.{nat, nat_in, optional_in, text_in, meta_in, head_in}
+use Rattle.sql_rows.specs.Values.{nat, nat_in, optional_in, text_in, meta_in, head_in, flag_in}
+use Rattle.sql_rows.specs.Values.{flag_number, state_in, state_number}
 use Rattle.sql_rows.specs.Values.{bucket_in_row}
 use Rattle.sql_rows.specs.Values.{counter_in_row, session_in_row, group_in_row, hold_in}
 use Rattle.sql_rows.specs.Values.{answer_in_row, voucher_in_row}
@@ -21,29 +25,24 @@ use Rattle.sql_rows.specs.Values.{charge_in_row, book_in_row, grant_book_in, cov
 use Rattle.sql_rows.specs.Values.{PeriodNames}
 use Rattle.sql_rules.specs.Columns.{is_in_bounds, is_optional_within, is_moment, is_some_money}
 use Rattle.sql_rules.specs.Columns.{is_money, is_next, is_numbering, is_small}
-use Rattle.sql_rules.specs.Rules.{are_periods, is_ruled_answer, is_ruled_book}
+use Rattle.sql_rules.specs.Rules.{are_periods, is_period_name, is_ruled_answer, is_ruled_book}
 use Rattle.sql_rules.specs.Rules.{is_ruled_grant_book, is_ruled_meta}
 use Rattle.sql_rules.specs.Rules.{is_ruled_account, is_ruled_bucket, is_ruled_counter}
 use Rattle.sql_rules.specs.Rules.{is_ruled_session, is_ruled_group, is_ruled_hold}
 use Rattle.sql_rules.specs.Rules.{is_ruled_charge, is_ruled_covered, is_ruled_voucher}
-use Rattle.sql_rules.specs.Ruled.{is_none_or_within, is_head, is_bucket, is_counter, is_session}
-use Rattle.sql_rules.specs.Ruled.{are_named, is_answer, is_book, is_group, is_charge, is_voucher}
+use Rattle.sql_rules.specs.Ruled.{is_account, is_answer, is_book, is_bucket, is_charge, is_counter}
+use Rattle.sql_rules.specs.Ruled.{is_group, is_session, is_voucher}
 
 -- ---- tests of tests
 
-last_three : (a b c d e : Bool) → (a && b && c && d && e) ≡ true → (c && d && e) ≡ true
-last_three true true c d e h = h
-last_three true false c d e h = absurd (cc h)
-last_three false b c d e h = absurd (cc h)
-
-first_three : (a b c d : Bool) → (a && b && c && d) ≡ true → (a && b && c) ≡ true
-first_three true true true d h = refl
-first_three true true false d h = absurd (cc h)
-first_three true false c d h = absurd (cc h)
-first_three false b c d h = absurd (cc h)
+pub second : (a b c d e f : Bool) → (b ≡ true → f ≡ true) → (a && b && c && d && e) ≡ true
+    → (a && f && c && d && e) ≡ true
+second true true c d e f to h = subst (λ x. (x && c && d && e) ≡ true) (sym (to refl)) h
+second true false c d e f to h = absurd (cc h)
+second false b c d e f to h = absurd (cc h)
 
 pub optional : (low high : ℕ) (v : Value) → is_optional_within low high v ≡ true →
-    is_none_or_within low high (optional_in v) ≡ true
+    is_optional_within low high (or_null nat (optional_in v)) ≡ true
 optional low high Null h = refl
 optional low high (Int n) h = h
 optional low high (Real x) h = refl
@@ -59,6 +58,28 @@ fourth true true false d e f to h = absurd (cc h)
 fourth true false c d e f to h = absurd (cc h)
 fourth false b c d e f to h = absurd (cc h)
 
+-- ---- what a record always has
+
+flag_small : (b : Bool) → nat_le (flag_number b) 1 ≡ true
+flag_small true = refl
+flag_small false = refl
+
+stated : (s : SessionState) → is_in_bounds 1 3 (state_number s) ≡ true
+stated Open = refl
+stated Ended = refl
+stated NeverOpened = refl
+
+-- the periods of a reservation have names in a book on the shelf
+abbrev pub are_named : Shelf → Option PeriodNames → Bool
+are_named shelf None = true
+are_named shelf (Some p) = is_period_name shelf p.before && is_period_name shelf p.after
+
+pub periods_are : (shelf : Shelf) (o : Option PeriodNames)
+    → are_periods shelf (flag_number (is_some o)) (or_null (λ p. Text p.before) o)
+    (or_null (λ p. Text p.after) o) ≡ are_named shelf o
+periods_are shelf None = refl
+periods_are shelf (Some p) = refl
+
 -- ---- the tables
 
 pub meta_told : (row : Row) → is_ruled_meta row ≡ true
@@ -67,13 +88,6 @@ meta_told [] h = absurd (cc h)
 meta_told (v ∷ cells) h =
     (and_parts (nat_eq 1 (nat_in (column cells 0))) (is_moment (nat_in (column cells 3))) h).1
 
-pub head_told : (row : Row) → is_ruled_account row ≡ true → is_head (head_in (drop 1 row)) ≡ true
-head_told [] h = absurd (cc h)
-head_told (v ∷ cells) h =
-    last_three (is_account_number (text_in (column cells 0))) (nat_le (nat_in (column cells 1)) 1)
-    (is_moment (nat_in (column cells 2))) (is_next (nat_in (column cells 3)))
-    (is_next (nat_in (column cells 4))) h
-
 pub bucket_told : (row : Row) → is_ruled_bucket row ≡ true
     → is_bucket (bucket_in_row (drop 1 row)) ≡ true
 bucket_told [] h = absurd (cc h)
@@ -81,7 +95,7 @@ bucket_told (v ∷ cells) h =
     fourth (is_numbering (nat_in (column cells 1))) (is_moment (nat_in (column cells 2)))
     (is_in_bounds 1 4_102_444_800 (nat_in (column cells 3)))
     (is_optional_within 0 4_294_967_295 (column cells 4)) (is_money (nat_in (column cells 5)))
-    (is_none_or_within 0 4_294_967_295 (optional_in (column cells 4)))
+    (is_optional_within 0 4_294_967_295 (or_null nat (optional_in (column cells 4))))
     (optional 0 4_294_967_295 (column cells 4)) h
 
 pub counter_told : (row : Row) → is_ruled_counter row ≡ true →
@@ -93,8 +107,10 @@ pub session_told : (row : Row) → is_ruled_session row ≡ true →
     is_session (session_in_row (drop 1 row)) ≡ true
 session_told [] h = absurd (cc h)
 session_told (v ∷ cells) h =
-    first_three (is_session_id (text_in (column cells 1))) (is_small (nat_in (column cells 2)))
-    (is_moment (nat_in (column cells 3))) (is_in_bounds 1 3 (nat_in (column cells 4))) h
+    let parts = and_parts (is_session_id (text_in (column cells 1))
+    && is_small (nat_in (column cells 2)) && is_moment (nat_in (column cells 3)))
+    (is_in_bounds 1 3 (nat_in (column cells 4))) h in
+    and_from _ _ parts.0 (stated (state_in (column cells 4)))
 
 pub hold_told : (row : Row) → is_ruled_hold row ≡ true → is_some_money (hold_in (drop 1 row)) ≡ true
 hold_told [] h = absurd (cc h)
@@ -133,8 +149,8 @@ group_told shelf [] h = refl
 group_told shelf (v ∷ cells) h =
     let rest = and_parts _ (are_periods shelf (nat_in (column cells 4)) (column cells 5)
     (column cells 6)) h in
-    and_from _ _ rest.0
-    (named shelf (nat_in (column cells 4)) (column cells 5) (column cells 6) rest.1)
+    and_from _ _ rest.0 (periods_are shelf (group_in_row cells).periods
+    ∙ named shelf (nat_in (column cells 4)) (column cells 5) (column cells 6) rest.1)
 
 pub grant_book_told : (shelf : Shelf) (row : Row) → is_ruled_grant_book shelf row ≡ true →
     is_in_bounds 1 (count shelf) (grant_book_in (drop 1 row)) ≡ true
@@ -144,13 +160,13 @@ grant_book_told shelf (v ∷ cells) h = h
 -- ---- with a part of the key
 
 pub account_told : (row : Row) → is_ruled_account row ≡ true →
-    is_account_number (text_in (column row 1)) ≡ true
-account_told row h =
-    first_five (is_account_number (text_in (column row 1))) _ _ _ _ h
-  where
-    first_five : (a b c d e : Bool) → (a && b && c && d && e) ≡ true → a ≡ true
-    first_five true b c d e h = refl
-    first_five false b c d e h = absurd (cc h)
+    is_account (text_in (column row 1)) (head_in (drop 1 row)) ≡ true
+account_told [] h = absurd (cc h)
+account_told (v ∷ cells) h =
+    second (is_account_number (text_in (column cells 0))) (nat_le (nat_in (column cells 1)) 1)
+    (is_moment (nat_in (column cells 2))) (is_next (nat_in (column cells 3)))
+    (is_next (nat_in (column cells 4))) (nat_le (flag_number (flag_in (column cells 1))) 1)
+    (λ low. flag_small (flag_in (column cells 1))) h
 
 pub answer_told : (row : Row) → is_ruled_answer row ≡ true
     → is_answer (text_in (column row 1)) (nat_in (column row 2)) (text_in (column row 3))
@@ -174,8 +190,8 @@ voucher_told (v ∷ cells) h =
     (is_some_money (nat_in (column cells 1)))
     (is_optional_within 1 3650 (column cells 2))
     (is_optional_within 0 4_294_967_295 (column cells 3))
-    (is_none_or_within 1 3650 (optional_in (column cells 2)))
-    (is_none_or_within 0 4_294_967_295 (optional_in (column cells 3)))
+    (is_optional_within 1 3650 (or_null nat (optional_in (column cells 2))))
+    (is_optional_within 0 4_294_967_295 (or_null nat (optional_in (column cells 3))))
     (optional 1 3650 (column cells 2)) (optional 0 4_294_967_295 (column cells 3)) h
 
 pub book_told : (row : Row) → is_ruled_book row ≡ true →

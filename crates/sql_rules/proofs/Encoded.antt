@@ -1,19 +1,21 @@
 -- A row whose content is in its rules is in its rules, where it is as the statements write it.
-use Rattle.std.proofs.Common.{◌≡◌, ◌<◌, ℕ, zero, suc, [], ◌∷◌, drop, Bool, true, false, ◌&&◌, ◌||◌}
-use Rattle.std.proofs.Common.{Some, None, refl, nat_eq, nat_le, nat_lt, arith}
-use Rattle.std.specs.Prelude.{if◌then◌else◌, ◌==◌}
+use Rattle.std.proofs.Common.{◌≡◌, ℕ, zero, suc, [], ◌∷◌, drop, Bool, true, false, ◌&&◌, ◌||◌}
+use Rattle.std.proofs.Common.{Some, None, refl, sym, ◌∙◌, nat_eq, nat_le, nat_lt, arith}
+use Rattle.std.specs.Prelude.{if◌then◌else◌, is_some, ◌==◌}
 use Rattle.std.proofs.lemmas.Bool.{and_from, and_parts}
 use Rattle.std.proofs.lemmas.Bool.Decides.{nat_tests}
-use Rattle.identifiers.specs.Texts.{is_account_number, is_voucher_code}
+use Rattle.identifiers.specs.Texts.{is_account_number, is_session_id, is_voucher_code}
 use Rattle.shelves.specs.Shelves.{Shelf, count}
 use Rattle.sqlite_sql.specs.Ops.{is_null}
 use Rattle.sqlite_value.specs.declared.value.Value.{Value}
 use Rattle.sqlite_value.specs.declared.value.Value.TheVariants.{Null, Int, Real, Text, Blob}
 use Rattle.sqlite_value.specs.Order.{Row, column}
+use Rattle.sqlite.specs.Values.{or_null}
 use Rattle.sqlite_schema.specs.declared.schema.Kind.TheVariants as kind
 use Rattle.sqlite_schema.specs.Rules.{is_of}
 use Rattle.sql_rows.specs.Plain.{is_plain_group, is_plain_head, is_plain_session}
-use Rattle.sql_rows.specs.Values.{nat_in, optional_in, text_in, head_in, bucket_in_row}
+use Rattle.sql_rows.specs.Values.{nat, nat_in, optional_in, text_in, head_in, bucket_in_row}
+use Rattle.sql_rows.specs.Values.{flag_in, flag_number, state_in, state_number, PeriodNames}
 use Rattle.sql_rows.specs.Values.{counter_in_row}
 use Rattle.sql_rows.specs.Values.{session_in_row, group_in_row, hold_in, answer_in_row}
 use Rattle.sql_rows.specs.Values.{voucher_in_row, charge_in_row}
@@ -25,17 +27,11 @@ use Rattle.sql_rules.specs.Rules.{is_ruled_account, is_ruled_bucket, is_ruled_co
 use Rattle.sql_rules.specs.Rules.{is_ruled_session, is_ruled_group, is_ruled_hold}
 use Rattle.sql_rules.specs.Rules.{is_ruled_charge, is_ruled_covered, is_ruled_grant_book}
 use Rattle.sql_rules.specs.Rules.{is_ruled_voucher}
-use Rattle.sql_rules.specs.Ruled.{is_none_or_within, is_head, is_bucket, is_counter, is_session}
-use Rattle.sql_rules.specs.Ruled.{are_named, is_answer, is_book, is_group, is_charge, is_voucher}
-use Rattle.sql_rules.proofs.Decoded.{fourth, third_fourth}
+use Rattle.sql_rules.specs.Ruled.{is_account, is_answer, is_book, is_bucket, is_charge, is_counter}
+use Rattle.sql_rules.specs.Ruled.{is_group, is_session, is_voucher}
+use Rattle.sql_rules.proofs.Decoded.{are_named, fourth, periods_are, second, third_fourth}
 
 -- ---- tests of tests
-
-all_five : (a b c d e : Bool) → a ≡ true → b ≡ true → (c && d && e) ≡ true
-    → (a && b && c && d && e) ≡ true
-all_five true true c d e h k rest = rest
-all_five true false c d e h k rest = absurd (cc k)
-all_five false b c d e h k rest = absurd (cc h)
 
 left_or : (b c : Bool) → (b || false) ≡ true → (b || c) ≡ true
 left_or true c h = refl
@@ -47,8 +43,9 @@ neither false false b c e f h = absurd (cc h)
 neither false true b c e f h = absurd (cc f)
 neither true q b c e f h = absurd (cc e)
 
-optional_back : (v : Value) → is_none_or_within 0 4_294_967_295 (optional_in v) ≡ true →
-    is_optional_within 0 4_294_967_295 v ≡ true
+optional_back : (v : Value)
+    → is_optional_within 0 4_294_967_295 (or_null nat (optional_in v)) ≡ true
+    → is_optional_within 0 4_294_967_295 v ≡ true
 optional_back Null h = refl
 optional_back (Int n) h = h
 optional_back (Real x) h = refl
@@ -56,7 +53,8 @@ optional_back (Text t) h = refl
 optional_back (Blob b) h = refl
 
 optional_typed : (low high : ℕ) (v : Value) → is_of kind.Integer v ≡ true
-    → is_none_or_within low high (optional_in v) ≡ true → is_optional_within low high v ≡ true
+    → is_optional_within low high (or_null nat (optional_in v)) ≡ true
+    → is_optional_within low high v ≡ true
 optional_typed low high Null is h = refl
 optional_typed low high (Int n) is h = h
 optional_typed low high (Real x) is h = absurd (cc is)
@@ -65,14 +63,15 @@ optional_typed low high (Blob b) is h = absurd (cc is)
 
 -- ---- the tables
 
-pub account_back : (row : Row) → is_account_number (text_in (column row 1)) ≡ true
-    → is_head (head_in (drop 1 row)) ≡ true → is_plain_head (drop 1 row) ≡ true
-    → is_ruled_account row ≡ true
-account_back [] name head plain = absurd (cc head)
-account_back (v ∷ cells) name head plain =
-    all_five (is_account_number (text_in (column cells 0))) (nat_le (nat_in (column cells 1)) 1)
+pub account_back : (row : Row)
+    → is_account (text_in (column row 1)) (head_in (drop 1 row)) ≡ true
+    → is_plain_head (drop 1 row) ≡ true → is_ruled_account row ≡ true
+account_back [] head plain = absurd (cc head)
+account_back (v ∷ cells) head plain =
+    second (is_account_number (text_in (column cells 0)))
+    (nat_le (flag_number (flag_in (column cells 1))) 1)
     (is_moment (nat_in (column cells 2))) (is_next (nat_in (column cells 3)))
-    (is_next (nat_in (column cells 4))) name plain head
+    (is_next (nat_in (column cells 4))) (nat_le (nat_in (column cells 1)) 1) (λ low. plain) head
 
 pub bucket_back : (row : Row) → is_bucket (bucket_in_row (drop 1 row)) ≡ true →
     is_ruled_bucket row ≡ true
@@ -80,7 +79,7 @@ bucket_back [] h = absurd (cc h)
 bucket_back (v ∷ cells) h =
     fourth (is_numbering (nat_in (column cells 1))) (is_moment (nat_in (column cells 2)))
     (is_in_bounds 1 4_102_444_800 (nat_in (column cells 3)))
-    (is_none_or_within 0 4_294_967_295 (optional_in (column cells 4)))
+    (is_optional_within 0 4_294_967_295 (or_null nat (optional_in (column cells 4))))
     (is_money (nat_in (column cells 5)))
     (is_optional_within 0 4_294_967_295 (column cells 4)) (optional_back (column cells 4)) h
 
@@ -92,7 +91,11 @@ counter_back (v ∷ cells) h = h
 pub session_back : (row : Row) → is_session (session_in_row (drop 1 row)) ≡ true
     → is_plain_session (drop 1 row) ≡ true → is_ruled_session row ≡ true
 session_back [] h plain = absurd (cc plain)
-session_back (v ∷ cells) h plain = and_from _ _ h plain
+session_back (v ∷ cells) h plain =
+    let parts = and_parts (is_session_id (text_in (column cells 1))
+    && is_small (nat_in (column cells 2)) && is_moment (nat_in (column cells 3)))
+    (is_in_bounds 1 3 (state_number (state_in (column cells 4)))) h in
+    and_from _ _ parts.0 plain
 
 periods_back : (shelf : Shelf) (n : ℕ) (before after : Value)
     → ((nat_eq 0 n && is_null before && is_null after) || nat_eq 1 n) ≡ true
@@ -114,9 +117,12 @@ group_back shelf [] h plain = refl
 group_back shelf (v ∷ cells) h plain =
     let parts = and_parts (is_small (nat_in (column cells 2))
     && nat_le (nat_in (column cells 3)) 1_000_000_000_000_000_000)
-    (are_named shelf (group_in_row cells).periods) h in
+    (are_periods shelf (flag_number (is_some (group_in_row cells).periods))
+    (or_null (λ (p : PeriodNames). Text p.before) (group_in_row cells).periods)
+    (or_null (λ (p : PeriodNames). Text p.after) (group_in_row cells).periods)) h in
     and_from _ _ parts.0
-    (periods_back shelf (nat_in (column cells 4)) (column cells 5) (column cells 6) plain parts.1)
+    (periods_back shelf (nat_in (column cells 4)) (column cells 5) (column cells 6) plain
+    (sym (periods_are shelf (group_in_row cells).periods) ∙ parts.1))
 
 pub hold_back : (row : Row) → is_some_money (hold_in (drop 1 row)) ≡ true →
     is_ruled_hold row ≡ true
@@ -137,8 +143,8 @@ voucher_back [] is h = absurd (cc h)
 voucher_back (v ∷ cells) is h =
     third_fourth (is_voucher_code (text_in (column cells 0)))
     (is_some_money (nat_in (column cells 1)))
-    (is_none_or_within 1 3650 (optional_in (column cells 2)))
-    (is_none_or_within 0 4_294_967_295 (optional_in (column cells 3)))
+    (is_optional_within 1 3650 (or_null nat (optional_in (column cells 2))))
+    (is_optional_within 0 4_294_967_295 (or_null nat (optional_in (column cells 3))))
     (is_optional_within 1 3650 (column cells 2))
     (is_optional_within 0 4_294_967_295 (column cells 3))
     (optional_typed 1 3650 (column cells 2) is) (optional_back (column cells 3)) h
@@ -159,9 +165,7 @@ pub grant_book_back : (shelf : Shelf) (row : Row)
 grant_book_back shelf [] h = absurd (cc h)
 grant_book_back shelf (v ∷ cells) h = h
 
-some_above : (n : ℕ) → 0 < n → nat_lt 0 n ≡ true
-some_above n h = grind (arith, nat_tests, h)
-
-pub covered_back : (row : Row) → 0 < covered_in_row (drop 1 row) → is_ruled_covered row ≡ true
-covered_back [] h = absurd (omega (arith, h))
-covered_back (v ∷ cells) h = some_above (nat_in (column cells 2)) h
+pub covered_back : (row : Row) → nat_lt 0 (covered_in_row (drop 1 row)) ≡ true →
+    is_ruled_covered row ≡ true
+covered_back [] h = absurd (cc h)
+covered_back (v ∷ cells) h = h

@@ -1,9 +1,9 @@
 -- What is put into content that is in its rules, or removed, leaves it so.
-use Rattle.std.proofs.Common.{◌≡◌, ◌≤◌, ◌<◌, ◌+◌, ℕ, List, Bool, true, false, ◌&&◌, Some, None}
-use Rattle.std.proofs.Common.{Option, refl, subst, arith, eqb-true, nat_eq}
+use Rattle.std.proofs.Common.{◌≡◌, ◌≤◌, ◌+◌, ℕ, List, Bool, true, false, ◌&&◌, Some, None}
+use Rattle.std.proofs.Common.{Option, refl, subst, arith, eqb-true, nat_eq, nat_lt}
 use Rattle.std.specs.Prelude.{if◌then◌else◌, is_some}
 use Rattle.std.proofs.lemmas.Bool.{and_parts}
-use Rattle.identifiers.specs.Texts.{is_account_number, same_name}
+use Rattle.identifiers.specs.Texts.{same_name}
 use Rattle.shelves.specs.Shelves.{Shelf, count}
 use Rattle.buckets.specs.Row.{BucketRow}
 use Rattle.reserving.specs.declared.session.Session.{Session}
@@ -21,8 +21,8 @@ use Rattle.sql_rows.specs.Content.{with_rows, with_session_row, with_voucher_row
 use Rattle.sql_rows.specs.Content.{without_covered, without_grant_book, without_holds}
 use Rattle.sql_rows.specs.Values.{CoveredRow, BookRow, Group, Kept, Meta, VoucherRow}
 use Rattle.sql_rules.specs.Columns.{is_moment, is_numbering, is_some_money, is_in_bounds}
-use Rattle.sql_rules.specs.Ruled.{AreInRules, IsInRules, is_answer, is_book, is_bucket, is_charge}
-use Rattle.sql_rules.specs.Ruled.{is_counter, is_group, is_head, is_session, is_voucher}
+use Rattle.sql_rules.specs.Ruled.{AreInRules, IsInRules, is_account, is_answer, is_book, is_bucket}
+use Rattle.sql_rules.specs.Ruled.{is_charge, is_counter, is_group, is_session, is_voucher}
 
 -- ---- one row among those that are there
 
@@ -53,10 +53,9 @@ unmarked P m false old before h = before h
 -- ---- the rows of an account
 
 module _ (shelf : Shelf) (a : List ℕ) (r : TableRows) (in' : AreInRules shelf a r) where
-  pub head_kept : (h : HeadColumns) → is_account_number a ≡ true → is_head h ≡ true
-      → AreInRules shelf a (with_head h r)
-  head_kept h name rule = record {
-    head = λ g e. let is : h ≡ g = cc e in (name, subst (λ x. is_head x ≡ true) is rule);
+  pub head_kept : (h : HeadColumns) → is_account a h ≡ true → AreInRules shelf a (with_head h r)
+  head_kept h rule = record {
+    head = λ g e. let is : h ≡ g = cc e in subst (λ x. is_account a x ≡ true) is rule;
     buckets = in'.buckets;
     counters = in'.counters;
     sessions = in'.sessions;
@@ -263,7 +262,7 @@ module _ (shelf : Shelf) (a : List ℕ) (r : TableRows) (in' : AreInRules shelf 
       (in'.allowances m))
 
   covered_put : (f : ℕ → Option ℕ) →
-      ((n y : ℕ) → f n ≡ Some y → 0 < y)
+      ((n y : ℕ) → f n ≡ Some y → nat_lt 0 y ≡ true)
       → AreInRules shelf a (record r { covered = f })
   covered_put f is = record {
     head = in'.head;
@@ -279,14 +278,16 @@ module _ (shelf : Shelf) (a : List ℕ) (r : TableRows) (in' : AreInRules shelf 
     covered = is;
   }
 
-  pub covered_kept : (x : CoveredRow) → 0 < x.blocks → AreInRules shelf a (with_covered x r)
+  pub covered_kept : (x : CoveredRow) → nat_lt 0 x.blocks ≡ true
+      → AreInRules shelf a (with_covered x r)
   covered_kept x some =
-      covered_put _ (λ n. chosen (λ y. 0 < y) (nat_eq x.number n) x.blocks (r.covered n) (λ e. some)
-      (in'.covered n))
+      covered_put _ (λ n. chosen (λ y. nat_lt 0 y ≡ true) (nat_eq x.number n) x.blocks
+      (r.covered n) (λ e. some) (in'.covered n))
 
   pub covered_gone : (n : ℕ) → AreInRules shelf a (without_covered n r)
   covered_gone n =
-      covered_put _ (λ m. left_out (λ y. 0 < y) (nat_eq n m) (r.covered m) (in'.covered m))
+      covered_put _ (λ m. left_out (λ y. nat_lt 0 y ≡ true) (nat_eq n m) (r.covered m)
+      (in'.covered m))
 
 -- ---- the content
 
@@ -312,12 +313,12 @@ module _ (shelf : Shelf) (c : TablesContent) (in' : IsInRules shelf c) where
     books = in'.books;
   }
 
-  pub account_kept : (a : List ℕ) (h : HeadColumns) → is_account_number a ≡ true → is_head h ≡ true
+  pub account_kept : (a : List ℕ) (h : HeadColumns) → is_account a h ≡ true
       → IsInRules shelf (with_account a h c)
-  account_kept a h name rule = record {
+  account_kept a h rule = record {
     once = in'.once;
     meta = in'.meta;
-    rows = rows_at a (with_head h) (head_kept shelf a (c.rows a) (in'.rows a) h name rule);
+    rows = rows_at a (with_head h) (head_kept shelf a (c.rows a) (in'.rows a) h rule);
     vouchers = in'.vouchers;
     books = in'.books;
   }

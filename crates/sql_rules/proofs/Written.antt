@@ -317,9 +317,7 @@ module _ (shelf : Shelf) (trees : Trees) (fits : Fits book_schema trees) where
       row_ruled (suc zero) low r has =
           account_back r
           ((in'.rows (text_in (column r 1))).head (head_in (drop 1 r))
-          (told 1 low head_in r _ has (account_of r has))).0
-          ((in'.rows (text_in (column r 1))).head (head_in (drop 1 r))
-          (told 1 low head_in r _ has (account_of r has))).1
+          (told 1 low head_in r _ has (account_of r has)))
           (plain.heads (key_of (1 ∷ []) r) (drop 1 r) (stands 1 low r has))
       row_ruled (suc (suc zero)) low r has =
           bucket_back r ((in'.rows (text_in (column r 1))).buckets (nat_in (column r 2))
