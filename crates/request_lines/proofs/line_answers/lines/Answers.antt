@@ -41,21 +41,22 @@ returns-in_err-input g c =
 
 pub returns-in_err-opening : goal.returns-in_err-opening
 returns-in_err-opening g c =
-    let p = err_from_is_err_and c.from_residual-in_err-opening.result c.from_residual-in_err-opening.ensures.1 in
+    let result = c.from_residual-in_err-opening.result in
+    let p = err_from_is_err_and result c.from_residual-in_err-opening.ensures.1 in
     let is = p.1 ∙ ap Err p.2 in
     record {
       answers = none_answered c.args.shelf.now c.args.opening
           (g.R.Read.remaining c.args.reader.now) (g.W.Write.contents c.args.writer.now)
-          (g.K.Keeper.seen c.args.keeper.now) c.from_residual-in_err-opening.result _ is;
+          (g.K.Keeper.seen c.args.keeper.now) result _ is;
       told = search rules;
-      begun = on_err c.from_residual-in_err-opening.result (none_begun (g.W.Write.contents c.args.writer.now)
+      begun = on_err result (none_begun (g.W.Write.contents c.args.writer.now)
           (g.R.Read.remaining c.args.reader.now));
       unread = search rules;
       unwritten = search rules;
-      fault = λ fault told. absurd (not_written c.from_residual-in_err-opening.result _ fault is told);
+      fault = λ fault told. absurd (not_written result _ fault is told);
       honesty = search rules;
       stands = search rules;
-      asked = λ fault told. absurd (not_written c.from_residual-in_err-opening.result _ fault is told);
+      asked = λ fault told. absurd (not_written result _ fault is told);
       left = λ clean honest t left. inl left;
     }
 
@@ -121,8 +122,8 @@ returns g c =
         cause_of_both = λ k. c.run_opened-answers.ensures.cause
             (ended-both fault written result StoreFailed is k);
       };
-      told = ended-told w0 w1 c.in_ok-input.input given fault written result r is c.in_ok-input.ensures
-          c.run_opened-answers.ensures.whole whole;
+      told = ended-told w0 w1 c.in_ok-input.input given fault written result r is
+          c.in_ok-input.ensures c.run_opened-answers.ensures.whole whole;
       begun = on_err result (begun_in w0 w1 c.in_ok-input.input given r c.in_ok-input.ensures
           (whole_or_begun written w0 w1
           (answer_texts (map told_fault c.in_ok-input.input.lines.items) given) whole part));
