@@ -1,7 +1,7 @@
 -- Content that is in its rules: each row of it, as the statements write it, is in those of its
 -- table.
 -- Source: profile.
-use Rattle.std.specs.Prelude.{◌≡◌, ◌≤◌, ℕ, [], ◌∷◌, Bool, true, List, Some, IsTrue}
+use Rattle.std.specs.Prelude.{◌≡◌, ◌≤◌, ℕ, [], ◌∷◌, Bool, true, List, Some, None, IsTrue}
 use Rattle.identifiers.specs.Words.{AccountName, VoucherCode}
 use Rattle.buckets.specs.Words.{BucketAmount, BucketNumber}
 use Rattle.ledger.specs.Words.{ChargeNumber}
@@ -20,10 +20,10 @@ use Rattle.sql_rows.specs.Values.{book_values, counter_cells, covered_cells, gra
 use Rattle.sql_rows.specs.Values.{group_cells, head_values, hold_values, meta_values, money_cells}
 use Rattle.sql_rows.specs.Values.{number_cells, priced_cells, session_cells, voucher_values}
 use Rattle.sql_rules.specs.Rules.{is_ruled_account, is_ruled_allowance, is_ruled_answer}
-use Rattle.sql_rules.specs.Rules.{is_ruled_book, is_ruled_bucket, is_ruled_charge}
+use Rattle.sql_rules.specs.Rules.{is_ruled_book, is_ruled_book_of, is_ruled_bucket, is_ruled_charge}
 use Rattle.sql_rules.specs.Rules.{is_ruled_counter, is_ruled_covered, is_ruled_grant_book}
 use Rattle.sql_rules.specs.Rules.{is_ruled_group, is_ruled_hold, is_ruled_meta, is_ruled_session}
-use Rattle.sql_rules.specs.Rules.{is_ruled_voucher}
+use Rattle.sql_rules.specs.Rules.{is_ruled_use, is_ruled_voucher}
 
 -- ---- one row; no rule looks at its rowid
 
@@ -49,12 +49,21 @@ is_session x = is_ruled_session (behind_account (session_cells x))
 abbrev pub is_group : Shelf → ℕ → Group → Bool
 is_group shelf g x = is_ruled_group shelf (behind_account (Null ∷ group_cells g x))
 
+-- without its periods
+abbrev pub is_use : ℕ → ℕ → Bool
+is_use g used =
+    is_ruled_use (behind_account (Null ∷ group_cells g (record { used = used; periods = None })))
+
 -- under any key
 abbrev pub is_hold : BucketAmount → Bool
 is_hold amount = is_ruled_hold (Null ∷ hold_values [] [] 0 0 amount)
 
 abbrev pub is_grant_book : Shelf → ℕ → Bool
 is_grant_book shelf n = is_ruled_grant_book shelf (Null ∷ grant_book_values [] [] 0 n)
+
+-- of so many books
+abbrev pub is_book_of : ℕ → ℕ → Bool
+is_book_of books n = is_ruled_book_of books (Null ∷ grant_book_values [] [] 0 n)
 
 abbrev pub is_answer : AccountName → KeyKind → KeyName → KeyNumber → Kept → Bool
 is_answer a kind name number k = is_ruled_answer (Null ∷ answer_values a kind name number k)

@@ -64,17 +64,25 @@ are_periods shelf reserved before after =
     (nat_eq 0 reserved && is_null before && is_null after)
     || (nat_eq 1 reserved && is_period shelf before && is_period shelf after)
 
+-- a group's own columns, and the units that were used
+abbrev pub is_ruled_use : Row → Bool
+is_ruled_use row =
+    is_small (number_at row 3) && nat_le (number_at row 4) 1_000_000_000_000_000_000
+
 abbrev pub is_ruled_group : Shelf → Row → Bool
 is_ruled_group shelf row =
-    is_small (number_at row 3) && nat_le (number_at row 4) 1_000_000_000_000_000_000
-    && are_periods shelf (number_at row 5) (column row 6) (column row 7)
+    is_ruled_use row && are_periods shelf (number_at row 5) (column row 6) (column row 7)
 
 abbrev pub is_ruled_hold : Row → Bool
 is_ruled_hold row = is_some_money (number_at row 5)
 
--- a reservation's book is on the shelf
+-- a reservation's book is one of so many
+abbrev pub is_ruled_book_of : ℕ → Row → Bool
+is_ruled_book_of books row = is_in_bounds 1 books (number_at row 4)
+
+-- it is on the shelf
 abbrev pub is_ruled_grant_book : Shelf → Row → Bool
-is_ruled_grant_book shelf row = is_in_bounds 1 (count shelf) (number_at row 4)
+is_ruled_grant_book shelf row = is_ruled_book_of (count shelf) row
 
 -- ---- kept answers
 
