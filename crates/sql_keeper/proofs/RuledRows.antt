@@ -8,7 +8,6 @@ use Rattle.std.specs.List.{list_all, list_any}
 use Rattle.std.proofs.lemmas.Bool.{and_from, and_parts}
 use Rattle.std.proofs.lemmas.Bool.Decides.{nat_tests}
 use Rattle.std.proofs.lemmas.List.{length-append, length-map}
-use Rattle.identifiers.specs.Texts.{is_session_id}
 use Rattle.tariffs.specs.Books.{Book}
 use Rattle.voucher_rules.specs.declared.terms.VoucherTerms.{VoucherTerms}
 use Rattle.voucher_rules.specs.Standing.{unspent}
@@ -74,6 +73,14 @@ use Rattle.sql_keeper.specs.Writes.{with_stored, with_texts}
 use Rattle.sql_keeper.proofs.Swept.{MayBePut}
 
 -- ---- a list of rows
+
+pub or_false : (b : Bool) → (b || false) ≡ b
+or_false true = refl
+or_false false = refl
+
+pub and_true : (b : Bool) → (b && true) ≡ b
+and_true true = refl
+and_true false = refl
 
 pub names_count : (shelf : Shelf) → length (shelf_names shelf) ≡ count shelf
 names_count shelf =
@@ -286,17 +293,13 @@ module _ (shelf : Shelf) where
     texts_kept (Request s n) t c key texts in' =
         rows_kept shelf c in' a (with_answer request_kind s n t)
         (answer_kept shelf a (c.rows a) (in'.rows a) request_kind s n t
-        (and_from (is_answer_key request_kind s n) (are_kept_texts a t.content t.answer)
-        (request_key s n key) texts))
-      where
-        request_key : (s : List ℕ) (n : ℕ) → (is_session_id s && is_small n) ≡ true →
-            is_answer_key 1 s n ≡ true
-        request_key s n e = ap (λ b. b || false) e
+        (and_from (is_answer_key request_kind s n) (are_kept_texts a t.content t.answer) key
+        texts))
     texts_kept (Reference x) t c key texts in' =
         rows_kept shelf c in' a (with_answer reference_kind x 0 t)
         (answer_kept shelf a (c.rows a) (in'.rows a) reference_kind x 0 t
-        (and_from (is_answer_key reference_kind x 0) (are_kept_texts a t.content t.answer)
-        (ap (λ b. b && true) key) texts))
+        (and_from (is_answer_key reference_kind x 0) (are_kept_texts a t.content t.answer) key
+        texts))
 
     kept_kept : (kept : Option KeptAnswer) (texts : Option Kept) (c : TablesContent)
         → is_ruled_kept kept ≡ true → are_ruled_texts a texts ≡ true → IsInRules shelf c

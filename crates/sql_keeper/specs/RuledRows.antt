@@ -1,10 +1,9 @@
 -- Rows of a change that are in the rules of their tables.
 -- Source: profile.
-use Rattle.std.specs.Prelude.{◌&&◌, Bool, true, List, Option, Some, None, length, nat_le}
+use Rattle.std.specs.Prelude.{◌&&◌, Bool, true, List, Option, Some, None, length}
 use Rattle.std.specs.List.{list_all}
 use Rattle.units.specs.Words.{Moment}
 use Rattle.identifiers.specs.Words.{AccountName, VoucherCode}
-use Rattle.identifiers.specs.Texts.{is_reference, is_session_id}
 use Rattle.buckets.specs.declared.holds.HeldAmount.{HeldAmount}
 use Rattle.reserving.specs.Stored.{StoredRows}
 use Rattle.reserving.specs.declared.session.Reservation.{Reservation}
@@ -17,11 +16,11 @@ use Rattle.keepers.specs.declared.loaded.Change.{Change}
 use Rattle.keepers.specs.declared.loaded.Redeemed.{Redeemed}
 use Rattle.voucher_rules.specs.Standing.{unspent}
 use Rattle.voucher_rules.specs.declared.terms.VoucherTerms.{VoucherTerms}
-use Rattle.sql_rows.specs.Values.{Kept}
-use Rattle.sql_rules.specs.Columns.{is_moment, is_small, is_in_bounds}
-use Rattle.sql_rules.specs.Rules.{are_kept_texts}
-use Rattle.sql_rules.specs.Ruled.{is_account, is_bucket, is_charge, is_counter, is_hold, is_session}
-use Rattle.sql_rules.specs.Ruled.{is_voucher}
+use Rattle.sql_rows.specs.Values.{Kept, reference_kind, request_kind}
+use Rattle.sql_rules.specs.Columns.{is_moment}
+use Rattle.sql_rules.specs.Rules.{are_kept_texts, is_answer_key}
+use Rattle.sql_rules.specs.Ruled.{is_account, is_book_of, is_bucket, is_charge, is_counter, is_hold}
+use Rattle.sql_rules.specs.Ruled.{is_session, is_use, is_voucher}
 use Rattle.sql_keeper.specs.Content.{Names}
 use Rattle.sql_keeper.specs.Writes.{head_columns_of, voucher_row}
 use Rattle.sql_keeper.specs.declared.swept_rows.SweptAccount.{SweptAccount}
@@ -33,12 +32,10 @@ is_ruled_hold x = is_hold x.amount
 abbrev pub is_ruled_reservation : Names → Option Reservation → Bool
 is_ruled_reservation names None = true
 is_ruled_reservation names (Some x) =
-    is_in_bounds 1 (length names) x.terms.book && list_all is_ruled_hold x.holds
+    is_book_of (length names) x.terms.book && list_all is_ruled_hold x.holds
 
 abbrev pub is_ruled_group : Names → SessionGroup → Bool
-is_ruled_group names x =
-    is_small x.group && nat_le x.used 1_000_000_000_000_000_000
-    && is_ruled_reservation names x.reservation
+is_ruled_group names x = is_use x.group x.used && is_ruled_reservation names x.reservation
 
 -- the rows of an account
 abbrev pub are_ruled_rows : Names → AccountName → StoredRows → Bool
@@ -54,8 +51,8 @@ is_ruled_redeemed (Some r) = is_voucher r.code (voucher_row r.voucher)
 
 -- a key of what is kept
 abbrev pub is_ruled_key : Key → Bool
-is_ruled_key (Request s n) = is_session_id s && is_small n
-is_ruled_key (Reference x) = is_reference x
+is_ruled_key (Request s n) = is_answer_key request_kind s n
+is_ruled_key (Reference x) = is_answer_key reference_kind x 0
 
 abbrev pub is_ruled_kept : Option KeptAnswer → Bool
 is_ruled_kept None = true
