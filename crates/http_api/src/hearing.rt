@@ -1,13 +1,13 @@
 //! A request taken off a stream, with what it asks.
 
-ghost use Rattle.std.specs.Prelude.{◌≡◌, ◌≤◌, ◌*◌, ℕ, List, Option, length, IfOk, IsErrOf, IfSome};
+ghost use Rattle.std.specs.Prelude.{◌≡◌, ℕ, List, Option, IfOk, IsErrOf, IfSome};
 ghost use Rattle.http_messages.specs.Requests.{Next, Tells, seen};
 ghost use Rattle.http_messages.specs.Asking.{IsAsked};
 ghost use Rattle.http_messages.specs.Table.{table, asked_of};
 ghost use Rattle.http_api.specs.Hearing.{IsOfHead, Hears, HearsNext};
 
 use http_messages::{
-    HeaderSpan, HttpAsked, HttpRefusal, HttpRequest, Route, Router, Taken, ask, next_request,
+    Buffers, HttpAsked, HttpRefusal, HttpRequest, Route, Router, Taken, ask, next_request,
 };
 use std::alloc::Global;
 use std::io::BufRead;
@@ -30,17 +30,16 @@ pub(crate) fn hear<R: BufRead>(
     alloc: Global,
     router: &Router<Route>,
     reader: &mut R,
-    room: &mut [HeaderSpan],
+    buffers: &mut Buffers,
     scratch: &mut Scratch,
 ) -> Result<Option<Heard>, StreamFault>
-    requires router { router.now ≡ table }
-    requires room { 8192 ≤ 3 * length room.old }
+    requires { router.now ≡ table }
     ensures heard { IfOk result (λ heard.
         IfSome (R.remaining reader.old) (λ stream. Hears stream heard (R.remaining reader.new))) }
     ensures fault { IsErrOf result StreamFault.Write → ⊥ }
 {
-    let taken = next_request(alloc, reader, room)?;
-    Ok(heard_of(alloc, router, taken, scratch))
+    let taken = next_request(alloc, reader, buffers)?;
+    Ok(heard_of(alloc, router, taken, buffers, scratch))
 }
 
 /// What a request that was taken asks. A refusal ends the connection.
@@ -48,6 +47,7 @@ fn heard_of(
     alloc: Global,
     router: &Router<Route>,
     taken: Taken,
+    buffers: &mut Buffers,
     scratch: &mut Scratch,
 ) -> Option<Heard>
     requires { router.now ≡ table }
@@ -55,7 +55,11 @@ fn heard_of(
         HearsNext next result left }
 {
     match taken {
-        Taken::Request(request) => Some(heard_request(alloc, router, &request, scratch)),
+        Taken::Request(request) => {
+            let heard = heard_request(alloc, router, &request, scratch);
+            buffers.keep(request);
+            Some(heard)
+        }
         Taken::Refused(status) => Some(Heard {
             asked: HttpAsked::Refused(HttpRefusal::of_head(status)),
             closes: true,

@@ -1,6 +1,6 @@
 //! The requests of a connection, one after another.
 
-ghost use Rattle.std.specs.Prelude.{◌≡◌, ◌≤◌, ◌<◌, ◌+◌, ◌*◌, length};
+ghost use Rattle.std.specs.Prelude.{◌≡◌, ◌<◌, ◌+◌};
 ghost use Rattle.http_messages.specs.Table.{table};
 ghost use Rattle.http_api.specs.Connections.{left_after, ServesConnection};
 
@@ -8,7 +8,7 @@ use crate::answering::answer_request;
 use crate::clock::Clock;
 use crate::fault::ServeFault;
 use crate::hearing::{Heard, hear};
-use http_messages::{EMPTY_HEADER_SPAN, HeaderSpan, MAX_FIELDS, Route, Router, known_router};
+use http_messages::{Buffers, Route, Router, known_router};
 use keepers::ChargeSource;
 use shelves::TariffShelf;
 use std::alloc::Global;
@@ -51,7 +51,7 @@ pub fn serve<R: Read, W: Write, K: ChargeSource, C: Clock>(
     let Ok(router) = known_router(alloc) else {
         return Err(ServeFault::Memory);
     };
-    let Ok(mut room) = Vec::from_elem(alloc, EMPTY_HEADER_SPAN, MAX_FIELDS) else {
+    let Ok(mut buffers) = Buffers::empty(alloc) else {
         return Err(ServeFault::Memory);
     };
     let Ok(mut buffered) = BufReader::new(alloc, reader) else {
@@ -62,7 +62,7 @@ pub fn serve<R: Read, W: Write, K: ChargeSource, C: Clock>(
         alloc,
         &router,
         &mut buffered,
-        room.as_mut_slice(),
+        &mut buffers,
         &mut scratch,
         writer,
         keeper,
@@ -94,22 +94,21 @@ fn serve_requests<R: BufRead, W: Write, K: ChargeSource, C: Clock>(
     alloc: Global,
     router: &Router<Route>,
     reader: &mut R,
-    room: &mut [HeaderSpan],
+    buffers: &mut Buffers,
     scratch: &mut Scratch,
     writer: &mut W,
     keeper: &mut K,
     shelf: &TariffShelf,
     clock: &mut C,
 ) -> Result<Served, ServeFault>
-    requires router { router.now ≡ table }
-    requires room { 8192 ≤ 3 * length room.old }
+    requires { router.now ≡ table }
     ensures { ServesConnection C.gives shelf.now (R.remaining reader.old) clock.old clock.new
         (W.contents writer.old) (W.contents writer.new) (K.seen keeper.old) (K.seen keeper.new)
         result }
 {
     let mut left = MAX_REQUESTS;
     for served in 0..MAX_REQUESTS {
-        let Some(heard) = hear(alloc, router, reader, room, scratch)? else {
+        let Some(heard) = hear(alloc, router, reader, buffers, scratch)? else {
             return Ok(Served { requests: served });
         };
         let Heard { asked, closes } = heard;

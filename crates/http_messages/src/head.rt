@@ -1,6 +1,7 @@
 //! What a head says.
 
 ghost use Rattle.std.specs.Prelude.{◌≡◌, ◌≤◌, ◌*◌, length, IfOk, IfSome, IfNone};
+ghost use Rattle.std.specs.Prelude.{string_bytes};
 ghost use Rattle.http.specs.Token.{IsToken};
 ghost use Rattle.httparse.specs.Grammar.{RequestHead};
 ghost use Rattle.httparse.specs.Spans.{IsRequestAt, IsRequestWithin};
@@ -62,7 +63,21 @@ fn method_of(alloc: Global, bytes: &[u8]) -> Result<Option<Method>, AllocError>
     }
 }
 
-/// What a head part says as a whole; none where it is no head (RFC 9112 sections 3 and 5).
+/// A text, in the memory of another.
+///
+/// # Errors
+/// A growth was refused.
+fn written_over(memory: String, text: &str) -> Result<String, AllocError>
+    ensures { IfOk result (λ written. string_bytes written ≡ text.now) }
+{
+    let mut written = memory;
+    written.clear();
+    written.push_str(text)?;
+    Ok(written)
+}
+
+/// What a head part says as a whole; none where it is no head (RFC 9112 sections 3 and 5). Its
+/// target is put into `memory`.
 ///
 /// # Errors
 /// A growth was refused.
@@ -70,6 +85,7 @@ pub(crate) fn read_head(
     alloc: Global,
     part: &[u8],
     room: &mut [HeaderSpan],
+    memory: String,
 ) -> Result<Option<HttpHead>, AllocError>
     requires room { length part.now ≤ 3 * length room.old }
     ensures { IfOk result (IsHeadIn part.now) }
@@ -80,7 +96,7 @@ pub(crate) fn read_head(
     let Ok(target) = str::from_utf8(spans.path.of(part)) else {
         return Ok(None);
     };
-    let target = String::from_str(alloc, target)?;
+    let target = written_over(memory, target)?;
     let Some(method) = method_of(alloc, spans.method.of(part))? else {
         return Ok(None);
     };

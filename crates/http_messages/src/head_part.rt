@@ -3,7 +3,6 @@
 ghost use Rattle.std.specs.Prelude.{IfOk, IsErrOf, IfSome};
 ghost use Rattle.http_messages.specs.Parts.{first_part, IsHeadPart, IsShort};
 
-use std::alloc::Global;
 use std::io::BufRead;
 use texts::{StreamFault, take_piece};
 
@@ -21,20 +20,19 @@ pub enum HeadPart {
     Ended,
 }
 
-/// How many bytes a head part mostly has at most: a longer one grows.
-const USUAL_HEAD_PART: usize = 512;
-
-/// Takes the next head part off a stream (RFC 9112 section 2.1; its greatest length: profile).
+/// Takes the next head part off a stream (RFC 9112 section 2.1; its greatest length: profile), into
+/// the memory of these bytes, which are dropped.
 ///
 /// # Errors
 /// `Memory` where a growth was refused, `Read` where the reader failed.
-pub fn next_head_part<R: BufRead>(alloc: Global, reader: &mut R) -> Result<HeadPart, StreamFault>
+pub fn next_head_part<R: BufRead>(reader: &mut R, room: Vec<u8>) -> Result<HeadPart, StreamFault>
     ensures part { IfOk result (λ part. IfSome (R.remaining reader.old)
         (λ stream. IsHeadPart (first_part stream) part (R.remaining reader.new))) }
     ensures short { IfOk result IsShort }
     ensures fault { IsErrOf result StreamFault.Write → ⊥ }
 {
-    let mut part = Vec::with_capacity(alloc, USUAL_HEAD_PART)?;
+    let mut part = room;
+    part.clear();
     for _turn in 0..MAX_HEAD_PART {
         let left = MAX_HEAD_PART - part.len();
         if left == 0 {

@@ -1,20 +1,17 @@
 //! A request with its body, taken off a stream.
 
-ghost use Rattle.std.specs.Prelude.{◌≤◌, ◌*◌, length, IfOk, IsErrOf, IfSome};
+ghost use Rattle.std.specs.Prelude.{◌≤◌, length, IfOk, IsErrOf, IfSome};
 ghost use Rattle.httparse.specs.Grammar.{RequestHead};
 ghost use Rattle.http_messages.specs.Parts.{Part, whole, first_part, IsHeadPart, IsShort};
 ghost use Rattle.http_messages.specs.Requests.{TellsNext, IsHeadOf, Tells, after_head, SaysStatus};
 
+use crate::buffers::Buffers;
 use crate::head::{HttpHead, read_head};
 use crate::head_part::{HeadPart, next_head_part};
 use http::{Method, StatusCode};
-use httparse::spans::HeaderSpan;
 use std::alloc::Global;
 use std::io::BufRead;
 use texts::{StreamFault, next_bytes};
-
-/// How many fields a head part has room for: each takes at least 3 bytes.
-pub const MAX_FIELDS: usize = 2731;
 
 /// A request of HTTP that was read whole: what its head part says of it, and its body.
 #[derive(Debug, Drop)]
@@ -40,24 +37,23 @@ pub enum Taken {
     Ended,
 }
 
-/// Takes the next request off a stream: its head part, and the body that the head speaks of. `room`
-/// is for the places of the head's fields.
+/// Takes the next request off a stream, into the memory of `buffers`: its head part, and the body
+/// that the head speaks of.
 ///
 /// # Errors
 /// `Memory` where a growth was refused, `Read` where the reader failed.
 pub fn next_request<R: BufRead>(
     alloc: Global,
     reader: &mut R,
-    room: &mut [HeaderSpan],
+    buffers: &mut Buffers,
 ) -> Result<Taken, StreamFault>
-    requires room { 8192 ≤ 3 * length room.old }
     ensures next { IfOk result (λ taken. IfSome (R.remaining reader.old)
         (λ stream. TellsNext (first_part stream) taken (R.remaining reader.new))) }
     ensures status { IfOk result SaysStatus }
     ensures fault { IsErrOf result StreamFault.Write → ⊥ }
 {
-    let part = next_head_part(alloc, reader)?;
-    after_part(alloc, reader, part, room)
+    let part = next_head_part(reader, buffers.lend_part(alloc))?;
+    after_part(alloc, reader, part, buffers)
 }
 
 /// The request that begins with what a stream begins with.
@@ -65,17 +61,20 @@ fn after_part<R: BufRead>(
     alloc: Global,
     reader: &mut R,
     part: HeadPart,
-    room: &mut [HeaderSpan],
+    buffers: &mut Buffers,
 ) -> Result<Taken, StreamFault>
     requires short { IsShort part }
-    requires room { 8192 ≤ 3 * length room.old }
     ensures next { IfOk result (λ taken. (begun : Part) → IsHeadPart begun part
         (R.remaining reader.old) → TellsNext begun taken (R.remaining reader.new)) }
     ensures status { IfOk result SaysStatus }
     ensures fault { IsErrOf result StreamFault.Write → ⊥ }
 {
     match part {
-        HeadPart::Whole(part) => after_bytes(alloc, reader, part.as_slice(), room),
+        HeadPart::Whole(part) => {
+            let taken = after_bytes(alloc, reader, part.as_slice(), buffers);
+            buffers.keep_part(part);
+            taken
+        }
         HeadPart::TooLong => Ok(Taken::Refused(StatusCode::REQUEST_HEADER_FIELDS_TOO_LARGE)),
         HeadPart::Ended => Ok(Taken::Ended),
     }
@@ -86,16 +85,16 @@ fn after_bytes<R: BufRead>(
     alloc: Global,
     reader: &mut R,
     part: &[u8],
-    room: &mut [HeaderSpan],
+    buffers: &mut Buffers,
 ) -> Result<Taken, StreamFault>
     requires short { length part.now ≤ 8192 }
-    requires room { 8192 ≤ 3 * length room.old }
     ensures next { IfOk result (λ taken. IfSome (R.remaining reader.old)
         (λ rest. TellsNext (whole part.now rest) taken (R.remaining reader.new))) }
     ensures status { IfOk result SaysStatus }
     ensures fault { IsErrOf result StreamFault.Write → ⊥ }
 {
-    let head = read_head(alloc, part, room)?;
+    let target = buffers.lend_target(alloc);
+    let head = read_head(alloc, part, buffers.fields(), target)?;
     match head {
         None => Ok(Taken::Refused(StatusCode::BAD_REQUEST)),
         Some(head) => with_body(alloc, reader, head),

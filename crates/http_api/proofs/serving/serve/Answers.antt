@@ -23,8 +23,8 @@ returns-in_default g c =
     none_served g.C.Clock.gives c.args.shelf.now (g.R.Read.remaining c.args.reader.now)
     c.args.clock.now (g.W.Write.contents c.args.writer.now) (g.K.Keeper.seen c.args.keeper.now)
 
-pub returns-in_default-from_elem : goal.returns-in_default-from_elem
-returns-in_default-from_elem g c =
+pub returns-in_default-empty : goal.returns-in_default-empty
+returns-in_default-empty g c =
     none_served g.C.Clock.gives c.args.shelf.now (g.R.Read.remaining c.args.reader.now)
     c.args.clock.now (g.W.Write.contents c.args.writer.now) (g.K.Keeper.seen c.args.keeper.now)
 

@@ -11,6 +11,6 @@ returns-in-Ended-clause-next g c = λ begun h. next_ended c.args.part begun
 
 pub returns-in-Whole-clause-next : goal.returns-in-Whole-clause-next
 returns-in-Whole-clause-next g c =
-    next_whole c.after_bytes.result c.args.part c.in-Whole.part c.as_slice.result.now
-    (g.R.Read.remaining c.args.reader.now) (g.R.Read.remaining c.after_bytes.new.reader)
-    c.in-Whole.is c.as_slice.ensures.value c.after_bytes.ensures.next
+    next_whole c.after_bytes-taken.result c.args.part c.in-Whole.part c.as_slice.result.now
+    (g.R.Read.remaining c.args.reader.now) (g.R.Read.remaining c.after_bytes-taken.new.reader)
+    c.in-Whole.is c.as_slice.ensures.value c.after_bytes-taken.ensures.next
