@@ -19,17 +19,29 @@ use crate::doing::do_said;
 use crate::telling::{tell_fault, tell_start, tell_unread};
 use operations::Status;
 use operator::{ProgramWords, program_words};
+use std::alloc::{AllocError, Global};
 use std::fs::Files;
 use std::io::{BufReader, Read, Write};
 use std::process::ExitCode;
 use std::{env, io};
 
+/// The C library gives free memory back to the machine beyond twice the largest block that was
+/// freed. So that it keeps what the text of a long book takes at each command, a block of so many
+/// bytes is taken and freed at first; nothing of it is touched.
+const KEPT_BYTES: usize = 1 << 24;
+
 fn main(rt: HostRuntime) -> ExitCode {
+    keep_freed(rt.alloc());
     let status = match run_own_words(&rt) {
         Ok(status) => status,
         Err(error) => tell_start(&mut rt.stderr(), error.kind()),
     };
     ExitCode::from(status.number())
+}
+
+/// Has the C library keep memory that is freed. Where it refuses the block, nothing changes.
+fn keep_freed(alloc: Global) {
+    let _block: Result<Vec<u8>, AllocError> = Vec::with_capacity(alloc, KEPT_BYTES);
 }
 
 /// Runs the words that the program is started with, over its standard streams.
