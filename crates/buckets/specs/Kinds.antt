@@ -1,7 +1,7 @@
 -- What buckets count, and what is to be held or charged in each unit.
 -- Source: TS 32.296, account balance management function (monetary and non-monetary units).
 use Rattle.std.specs.Prelude.{◌-◌, Bool, true, false, ◌≡◌, Option, is_some}
-use Rattle.units.specs.Words.{Micros, BlockCount, GroupId}
+use Rattle.units.specs.Words.{Micros, BlockCount, GroupId, most_money, most_blocks}
 use Rattle.buckets.specs.Words.{BucketAmount}
 use Rattle.buckets.specs.declared.kind.BucketKind.{BucketKind}
 use Rattle.buckets.specs.declared.kind.BucketKind.TheVariants.{Money, Blocks}
@@ -16,8 +16,16 @@ is_alike Blocks Blocks = true
 
 -- the most that is credited at once: 10^15 micro-units, 10^9 blocks
 abbrev pub most_of : BucketKind → BucketAmount
-most_of Money = 1_000_000_000_000_000
-most_of Blocks = 1_000_000_000
+most_of Money = most_money
+most_of Blocks = most_blocks
+
+-- what a bucket of either kind may have
+abbrev pub most_in_bucket : BucketAmount
+most_in_bucket = 1_000_000_000_000_000
+
+-- what all allowances of an account may have: 2^32 of them, each of the most blocks
+abbrev pub most_blocks_in_all : BlockCount
+most_blocks_in_all = 4_294_967_296_000_000_000
 
 -- blocks are of one rating group
 abbrev pub IsScopeOf : BucketKind → Option GroupId → Type 0

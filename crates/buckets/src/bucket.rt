@@ -1,7 +1,7 @@
 //! A bucket of money or of blocks.
 
 ghost use Rattle.std.specs.Prelude.{◌≡◌, ◌+◌, ◌-◌, ◌≤◌, ◌<◌, ◌==◌, ◌&&◌, if◌then◌else◌};
-ghost use Rattle.buckets.specs.Kinds.{is_alike, most_of, IsScopeOf};
+ghost use Rattle.buckets.specs.Kinds.{is_alike, most_of, IsScopeOf, most_in_bucket};
 ghost use Rattle.buckets.specs.Row.{is_eligible, eligible_amount, with_hold, with_charge};
 ghost use Rattle.buckets.specs.Row.{with_charge_of_hold, with_release, with_end, new_row};
 ghost use Rattle.buckets.specs.Row.{IsBalanced};
@@ -113,7 +113,7 @@ impl Bucket {
     /// The amount that it was made with, in its unit.
     pub fn credited(&self) -> u64
         ensures amount { result ≡ self.now.credited }
-        ensures most { result ≤ 1_000_000_000_000_000 }
+        ensures most { result ≤ most_in_bucket }
     {
         self.credited
     }
@@ -128,7 +128,7 @@ impl Bucket {
     /// What is neither reserved nor charged, before its end.
     pub fn available(&self) -> u64
         ensures amount { result ≡ self.now.available }
-        ensures most { result ≤ 1_000_000_000_000_000 }
+        ensures most { result ≤ most_in_bucket }
     {
         self.available
     }
@@ -136,7 +136,7 @@ impl Bucket {
     /// What reservations of live sessions hold.
     pub fn reserved(&self) -> u64
         ensures amount { result ≡ self.now.reserved }
-        ensures most { result ≤ 1_000_000_000_000_000 }
+        ensures most { result ≤ most_in_bucket }
     {
         self.reserved
     }
@@ -144,7 +144,7 @@ impl Bucket {
     /// What was charged.
     pub fn charged(&self) -> u64
         ensures amount { result ≡ self.now.charged }
-        ensures most { result ≤ 1_000_000_000_000_000 }
+        ensures most { result ≤ most_in_bucket }
     {
         self.charged
     }
@@ -153,7 +153,7 @@ impl Bucket {
     /// that.
     pub fn expired(&self) -> u64
         ensures amount { result ≡ self.now.expired }
-        ensures most { result ≤ 1_000_000_000_000_000 }
+        ensures most { result ≤ most_in_bucket }
     {
         self.expired
     }
@@ -194,7 +194,7 @@ impl Bucket {
     /// What it has available for the rating group at the moment: nothing where it isn't eligible.
     pub fn eligible_amount(&self, group: u32, at: Moment) -> u64
         ensures amount { result ≡ eligible_amount group at self.now }
-        ensures most { result ≤ 1_000_000_000_000_000 }
+        ensures most { result ≤ most_in_bucket }
     {
         if self.is_eligible(group, at) {
             self.available

@@ -3,7 +3,8 @@
 ghost use Rattle.std.specs.Prelude.{◌≡◌, ◌+◌, ◌-◌, ◌≤◌, ◌<◌, ◌^◌, ◌==◌, ◌&&◌, not, []};
 ghost use Rattle.std.specs.Prelude.{OnOk, OnErr, IfOk, map, length, filter};
 ghost use Rattle.std.specs.Prelude.{Some};
-ghost use Rattle.buckets.specs.Kinds.{due, most_of, IsScopeOf};
+ghost use Rattle.units.specs.Words.{most_blocks};
+ghost use Rattle.buckets.specs.Kinds.{due, most_of, IsScopeOf, most_blocks_in_all};
 ghost use Rattle.buckets.specs.Row.{BucketRow, with_end, new_row};
 ghost use Rattle.buckets.specs.Spend.{funds, allowance, IsBelow, IsSound};
 ghost use Rattle.buckets.specs.Holding.{IsWithin, charged_rows, released_rows};
@@ -145,7 +146,7 @@ impl Purse {
         blocks: Blocks,
     ) -> Result<(), AllocError>
         requires below { IsBelow number self.old }
-        requires most { blocks.0 ≤ 1_000_000_000 }
+        requires most { blocks.0 ≤ most_blocks }
         ensures { Adds (new_row BucketKind.Blocks number from until (Some group) blocks.0) self.old
             self.new result }
     {
@@ -198,7 +199,7 @@ impl Purse {
     pub fn held_blocks(&self, holds: &Holds) -> Blocks
         requires { IsWithin holds.now self.now }
         ensures value { result.0 ≡ held_sum BucketKind.Blocks holds.now self.now }
-        ensures most { result.0 ≤ 4_294_967_296_000_000_000 }
+        ensures most { result.0 ≤ most_blocks_in_all }
     {
         Blocks(along::held_sum_of(&self.buckets, BucketKind::Blocks, holds.as_slice()) as u64)
     }

@@ -2,6 +2,7 @@
 
 ghost use Rattle.std.specs.Prelude.{◌≡◌, ◌↔◌, ◌≤◌, ◌<◌, ◌^◌, ◌+◌, ◌*◌, ◌-◌, Some, IsSome};
 ghost use Rattle.std.specs.Prelude.{IfSome};
+ghost use Rattle.units.specs.Words.{latest_moment};
 ghost use Rattle.calendar.specs.Week.{IsWeek};
 ghost use Rattle.calendar.specs.Timetable.{timetable_of, IsTimetable, period_at, IsEntryAt};
 ghost use Rattle.calendar.specs.Timetable.{IsChange, IsWindow, switch_within};
@@ -76,7 +77,7 @@ impl Calendar {
     /// moment of a command has that many after it.
     pub fn next_switch(&self, moment: Moment, seconds: u32) -> Option<Moment>
         requires seconds { seconds ≤ 43_200 }
-        requires in_range { moment + seconds ≤ 4_102_488_000 }
+        requires in_range { moment + seconds ≤ latest_moment }
         ensures { result ≡ switch_within self.now moment seconds }
     {
         self.next_switch_steps(moment, seconds, &mut Steps::new())
@@ -91,7 +92,7 @@ impl Calendar {
         steps: &mut Steps,
     ) -> Option<Moment>
         requires seconds { seconds ≤ 43_200 }
-        requires in_range { moment + seconds ≤ 4_102_488_000 }
+        requires in_range { moment + seconds ≤ latest_moment }
         requires steps { steps.old ≤ 1_000_000_000 }
         ensures value { result ≡ switch_within self.now moment seconds }
         ensures steps { steps.new ≤ steps.old + 260 }
@@ -146,7 +147,7 @@ impl Calendar {
 
     /// A validity from a moment on, cut at the first change after its switch.
     fn validity_after(&self, start: u64, validity: u32, switch: u64) -> u32
-        requires start { start ≤ 4_102_488_000 }
+        requires start { start ≤ latest_moment }
         requires later { start < switch }
         requires within { switch < start + validity }
         ensures { result ≡ cut_after self.now start validity (Some switch) }

@@ -5,6 +5,7 @@ ghost use Rattle.std.specs.Prelude.{ℤ, length, nat_le, pos, ◌+ℤ◌, ◌*�
 ghost use Rattle.jiff.specs.Words.{epoch_day, IsWithin};
 ghost use Rattle.jiff.specs.Types.{Date};
 ghost use Rattle.std.specs.List.{prefix_len};
+ghost use Rattle.units.specs.Words.{latest_moment};
 ghost use Rattle.calendar.specs.Clock.{IsZone, IsLead, AreApart, minutes_ahead, lead};
 ghost use Rattle.calendar.specs.Clock.{lead_after, next_after, next_change, clock, day};
 ghost use Rattle.calendar.specs.Months.{month};
@@ -178,7 +179,7 @@ impl Zone {
 
     /// The civil day at a moment, in days since 1969-12-31.
     pub(crate) fn day_at(&self, moment: u64) -> u32
-        requires { moment ≤ 4_102_488_000 }
+        requires { moment ≤ latest_moment }
         ensures value { result ≡ day self.now moment }
         ensures bound { result ≤ 50_000 }
         ensures zone { IsZone self.now }
@@ -188,7 +189,7 @@ impl Zone {
 
     /// The civil date at a moment.
     fn date_at(&self, moment: u64) -> Date
-        requires { moment ≤ 4_102_488_000 }
+        requires { moment ≤ latest_moment }
         ensures day { epoch_day result +ℤ pos 1 ≡ pos (day self.now moment) }
         ensures bound { day self.now moment ≤ 50_000 }
     {
@@ -200,7 +201,7 @@ impl Zone {
 
     /// The civil month at a moment, in months since January 1969.
     pub(crate) fn month_at(&self, moment: u64) -> u32
-        requires { moment ≤ 4_102_488_000 }
+        requires { moment ≤ latest_moment }
         ensures value { result ≡ month self.now moment }
         ensures date { (d : Date) → epoch_day d +ℤ pos 1 ≡ pos (day self.now moment) →
             pos (result + 1 + 12 * 1969) ≡ pos 12 *ℤ d.year +ℤ pos d.month }
@@ -233,7 +234,7 @@ impl Zone {
 
     /// Where the day so many days after that of a moment ends.
     pub(crate) fn day_end(&self, moment: u64, days: u32) -> Option<Moment>
-        requires { moment ≤ 4_102_488_000 }
+        requires { moment ≤ latest_moment }
         ensures { result ≡ day_end self.now moment days }
     {
         let shown = (u64::from(self.day_at(moment)) + u64::from(days) + 1) * 86_400;

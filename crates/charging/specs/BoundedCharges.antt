@@ -2,7 +2,7 @@
 -- bits hold.
 -- Source: profile.
 use Rattle.std.specs.Prelude.{◌*◌, ◌<◌, ◌≤◌, ◌^◌, Bool, List, filter, length, sum_by}
-use Rattle.units.specs.Words.{most_counted}
+use Rattle.units.specs.Words.{most_counted, greatest_number, greatest_price}
 use Rattle.identifiers.specs.Words.{AccountName}
 use Rattle.shelves.specs.Shelves.{Shelf, IsShelf}
 use Rattle.ledger.specs.declared.charge.ChargeRow.{ChargeRow}
@@ -16,7 +16,7 @@ use Rattle.charging.specs.Served.{AreTables, history}
 -- what isn't are parts of the price
 pub record IsBounded (c : ChargeRow) : Type 0 where
   pub blocks : c.blocks.0 ≤ most_counted
-  pub rated : c.rated.0 ≤ c.blocks.0 * 1_000_000_000
+  pub rated : c.rated.0 ≤ c.blocks.0 * greatest_price
   pub collected : c.collected.0 ≤ c.rated.0
   pub uncollected : c.uncollected.0 ≤ c.rated.0
 
@@ -29,7 +29,7 @@ pub record FitTogether (charges : List ChargeRow) : Type 0 where
 -- so of those of each month, or of any others among them
 pub record AreBounded (charges : List ChargeRow) : Type 0 where
   pub each : EachIn IsBounded charges
-  pub few : length charges ≤ 4_294_967_295
+  pub few : length charges ≤ greatest_number
   pub sums : (p : ChargeRow → Bool) → FitTogether (filter p charges)
 
 -- so are the charges of each account whose tables a keeper holds

@@ -1,6 +1,7 @@
 //! Allowances: blocks of one rating group that an account uses before money.
 
 ghost use Rattle.std.specs.Prelude.{◌≡◌, ◌≤◌, ◌↔◌, IsSome, IfSome, unwrap_or};
+ghost use Rattle.units.specs.Words.{no_end, most_blocks};
 
 use crate::command::{CreditEnd, CreditStart};
 use identifiers::{AccountNumber, Reference};
@@ -17,12 +18,13 @@ pub struct AllowanceBlocks {
 
 impl Model for AllowanceBlocks {
     ghost use Rattle.std.specs.Prelude.{ℕ, ◌≤◌};
+    ghost use Rattle.units.specs.Words.{most_blocks};
 
     ghost Value = { ℕ };
 
     ghost view = { λ b. b.number };
 
-    ghost invariant = { λ b. (1 ≤ b.number) × (b.number ≤ 1_000_000_000) };
+    ghost invariant = { λ b. (1 ≤ b.number) × (b.number ≤ most_blocks) };
 
     ghost inverse = { λ n. record { number = n } };
 }
@@ -30,7 +32,7 @@ impl Model for AllowanceBlocks {
 impl AllowanceBlocks {
     /// So many blocks; None at 0 and above 1,000,000,000.
     pub fn new(blocks: Blocks) -> Option<AllowanceBlocks>
-        ensures in_range { IsSome result ↔ ((1 ≤ blocks.0) × (blocks.0 ≤ 1_000_000_000)) }
+        ensures in_range { IsSome result ↔ ((1 ≤ blocks.0) × (blocks.0 ≤ most_blocks)) }
         ensures value { IfSome result (λ b. b ≡ blocks.0) }
     {
         let number = blocks.0;
@@ -44,7 +46,7 @@ impl AllowanceBlocks {
     /// The blocks.
     pub fn blocks(self) -> Blocks
         ensures value { result.0 ≡ self }
-        ensures in_range { (1 ≤ result.0) × (result.0 ≤ 1_000_000_000) }
+        ensures in_range { (1 ≤ result.0) × (result.0 ≤ most_blocks) }
     {
         Blocks(self.number)
     }
@@ -96,7 +98,7 @@ impl Allowance {
 
     /// Until when it can be used.
     pub fn end(&self) -> Moment
-        ensures { result ≡ unwrap_or self.now.until 4_102_444_800 }
+        ensures { result ≡ unwrap_or self.now.until no_end }
     {
         match self.until {
             None => Moment::no_end(),

@@ -1,6 +1,7 @@
 //! Commands, and what is kept of them.
 
 ghost use Rattle.std.specs.Prelude.{◌≡◌, ◌↔◌, ◌≤◌, IsSome, IfSome, IfOk, IsTrue, unwrap_or};
+ghost use Rattle.units.specs.Words.{no_end, latest_command};
 ghost use Rattle.commands.specs.Kept.{is_kept};
 ghost use Rattle.commands.specs.Keys.{account_of, key_of, lent_key};
 
@@ -24,12 +25,13 @@ pub struct CreditStart {
 
 impl Model for CreditStart {
     ghost use Rattle.std.specs.Prelude.{ℕ, ◌≤◌};
+    ghost use Rattle.units.specs.Words.{latest_command};
 
     ghost Value = { ℕ };
 
     ghost view = { λ s. s.moment };
 
-    ghost invariant = { λ s. s.moment ≤ 4_102_444_799 };
+    ghost invariant = { λ s. s.moment ≤ latest_command };
 
     ghost inverse = { λ n. record { moment = n } };
 }
@@ -37,7 +39,7 @@ impl Model for CreditStart {
 impl CreditStart {
     /// The start at this moment; None from 4,102,444,800 on.
     pub fn new(moment: Moment) -> Option<CreditStart>
-        ensures in_range { IsSome result ↔ (moment ≤ 4_102_444_799) }
+        ensures in_range { IsSome result ↔ (moment ≤ latest_command) }
         ensures value { IfSome result (λ s. s ≡ moment) }
     {
         if moment < Moment::no_end() {
@@ -50,7 +52,7 @@ impl CreditStart {
     /// The moment.
     pub fn moment(self) -> Moment
         ensures value { result ≡ self }
-        ensures in_range { result ≤ 4_102_444_799 }
+        ensures in_range { result ≤ latest_command }
     {
         self.moment
     }
@@ -67,12 +69,13 @@ pub struct CreditEnd {
 
 impl Model for CreditEnd {
     ghost use Rattle.std.specs.Prelude.{ℕ, ◌≤◌};
+    ghost use Rattle.units.specs.Words.{no_end};
 
     ghost Value = { ℕ };
 
     ghost view = { λ e. e.moment };
 
-    ghost invariant = { λ e. (1 ≤ e.moment) × (e.moment ≤ 4_102_444_800) };
+    ghost invariant = { λ e. (1 ≤ e.moment) × (e.moment ≤ no_end) };
 
     ghost inverse = { λ n. record { moment = n } };
 }
@@ -80,7 +83,7 @@ impl Model for CreditEnd {
 impl CreditEnd {
     /// The end at this moment; None at 0 and above 4,102,444,800.
     pub fn new(moment: Moment) -> Option<CreditEnd>
-        ensures in_range { IsSome result ↔ ((1 ≤ moment) × (moment ≤ 4_102_444_800)) }
+        ensures in_range { IsSome result ↔ ((1 ≤ moment) × (moment ≤ no_end)) }
         ensures value { IfSome result (λ e. e ≡ moment) }
     {
         if Moment::first() < moment && moment <= Moment::no_end() {
@@ -93,7 +96,7 @@ impl CreditEnd {
     /// The moment.
     pub fn moment(self) -> Moment
         ensures value { result ≡ self }
-        ensures in_range { (1 ≤ result) × (result ≤ 4_102_444_800) }
+        ensures in_range { (1 ≤ result) × (result ≤ no_end) }
     {
         self.moment
     }
@@ -150,7 +153,7 @@ impl Credit {
 
     /// Until when it can be used.
     pub fn end(&self) -> Moment
-        ensures { result ≡ unwrap_or self.now.until 4_102_444_800 }
+        ensures { result ≡ unwrap_or self.now.until no_end }
     {
         match self.until {
             None => Moment::no_end(),

@@ -3,6 +3,7 @@
 use Rattle.std.specs.Prelude.{Bool, true, false, ◌==◌, ◌||◌, nat_lt, if◌then◌else◌, []}
 use Rattle.std.specs.Prelude.{◌∷◌, Option, Some, None, option_map, unwrap_or}
 use Rattle.units.specs.Words.{Moment, UnitCount, GroupId, CcRequestNumber, no_end, greatest_number}
+use Rattle.units.specs.Words.{most_blocks}
 use Rattle.identifiers.specs.Words.{SessionName}
 use Rattle.commands.specs.declared.avp.Avp.{Avp}
 use Rattle.commands.specs.declared.avp.Avp.TheVariants.{SessionId, RequestedUnit, CurrencyCode}
@@ -45,7 +46,7 @@ event_units tariff requested = unwrap_or (units_of requested) tariff.slice
 abbrev pub wrong_event : Option GroupTariff → Requested → Option Avp
 wrong_event None requested = None
 wrong_event (Some tariff) requested =
-    if asks_other tariff.unit (Some requested) || nat_lt 1000000000
+    if asks_other tariff.unit (Some requested) || nat_lt most_blocks
     (started 0 (event_units tariff requested) tariff.block) then Some RequestedUnit else None
 
 abbrev pub event_fault : Book → Event → Option Avp

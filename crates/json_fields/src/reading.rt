@@ -1,6 +1,7 @@
 //! Members of a JSON object, each with its kind and range.
 
 ghost use Rattle.std.specs.Prelude.{◌≡◌, ◌≤◌, ◌↔◌, List, [], Result, IfOk, IfSome, IsTrue};
+ghost use Rattle.units.specs.Words.{latest_moment};
 ghost use Rattle.serde_json.specs.Data.{Data};
 ghost use Rattle.json_fields.specs.Gives.{Gives, Says, or_fault, read_each, IsReadBy};
 ghost use Rattle.json_fields.specs.Fields.{json_of, document_at, member_at, whole_in, number_at};
@@ -127,7 +128,7 @@ pub fn optional_moment(
     low: u64,
     high: u64,
 ) -> Result<Option<Moment>, WireFault>
-    requires { high ≤ 4_102_488_000 }
+    requires { high ≤ latest_moment }
     ensures reads { Says (λ m. m) result (optional_in name.now fault low high (view parent.now)) }
     ensures within { IfOk result (λ o. IfSome o (λ m. (low ≤ m) × (m ≤ high))) }
 {
@@ -136,7 +137,7 @@ pub fn optional_moment(
 }
 
 fn moment(seconds: Option<u64>) -> Option<Moment>
-    requires { IfSome seconds (λ n. n ≤ 4_102_488_000) }
+    requires { IfSome seconds (λ n. n ≤ latest_moment) }
     ensures { result ≡ seconds }
 {
     match seconds {

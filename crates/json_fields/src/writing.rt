@@ -1,6 +1,7 @@
 //! Members written as tokens.
 
 ghost use Rattle.std.specs.Prelude.{◌≡◌, ◌≤◌, [], IfSome, OnOk, option_map, string_bytes};
+ghost use Rattle.units.specs.Words.{latest_moment};
 ghost use Rattle.serde_json.specs.Data.{Data, string};
 ghost use Rattle.serde_json.specs.Written.{compact_text};
 ghost use Rattle.json_fields.specs.Spelling.{whole, value_data, money_data};
@@ -33,7 +34,7 @@ pub fn put_perhaps(out: &mut Writer, name: &str, n: Option<u64>) -> Result<(), A
 /// Writes a member that is a moment, where there is one.
 pub fn put_moment(out: &mut Writer, name: &str, moment: Option<Moment>) -> Result<(), AllocError>
     ensures adds { Adds result out.old out.new (perhaps_tokens name.now (option_map whole moment)) }
-    ensures rule { OnOk result (IfSome moment (λ m. m ≤ 4_102_488_000)) }
+    ensures rule { OnOk result (IfSome moment (λ m. m ≤ latest_moment)) }
 {
     let Some(moment) = moment else {
         return Ok(());

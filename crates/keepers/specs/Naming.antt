@@ -1,6 +1,7 @@
 -- The rows of an account that a change names, and what a change keeps of them.
 -- Source: profile.
 use Rattle.std.specs.Prelude.{◌≤◌}
+use Rattle.units.specs.Words.{end_of_numbers}
 use Rattle.buckets.specs.Row.{IsBalanced}
 use Rattle.ledger.specs.Lists.{EachIn}
 use Rattle.reserving.specs.Rows.{AreApart}
@@ -32,5 +33,5 @@ pub record AreRowsApart (w : StoredRows) : Type 0 where
 pub record IsNamed (w : StoredRows) : Type 0 where
   pub apart : AreRowsApart w
   pub balanced : EachIn IsBalanced w.buckets
-  pub next_bucket : w.next_bucket ≤ 4294967296
-  pub next_charge : w.next_charge ≤ 4294967296
+  pub next_bucket : w.next_bucket ≤ end_of_numbers
+  pub next_charge : w.next_charge ≤ end_of_numbers

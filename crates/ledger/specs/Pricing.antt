@@ -5,7 +5,7 @@ use Rattle.std.specs.Prelude.{◌-◌, ◌==◌, Bool, if◌then◌else◌, List
 use Rattle.std.specs.Prelude.{find, min, sum_by, unwrap_or}
 use Rattle.std.specs.Option.{option_eq}
 use Rattle.units.specs.Words.{Moment, Seconds, Micros, UnitCount, BlockCount, Place, GroupId}
-use Rattle.units.specs.Words.{CycleNumber}
+use Rattle.units.specs.Words.{CycleNumber, latest_moment}
 use Rattle.calendar.specs.Clock.{ZoneRule}
 use Rattle.calendar.specs.Timetable.{Timetable, period_at, switch_within, validity_from, cycle_of}
 use Rattle.calendar.specs.declared.week.Period.{Period}
@@ -53,7 +53,7 @@ validity_of s t = (book_at s t).validity
 -- the book's validity; moments reach 43,200 seconds past the last one of commands, so that no
 -- command's is cut
 abbrev pub reach : Book → Moment → Seconds
-reach b t = min b.validity (4_102_488_000 - t)
+reach b t = min b.validity (latest_moment - t)
 
 -- the tariff switch within the validity (Tariff-Time-Change)
 abbrev pub switch_by : Book → Moment → Option Moment

@@ -2,6 +2,7 @@
 
 ghost use Rattle.std.specs.Prelude.{◌≡◌, ◌≤◌, Err, IfErr, IfOk, IfSome, OnOk, OnErr};
 ghost use Rattle.std.specs.Io.KnownBytes.{Appends};
+ghost use Rattle.units.specs.Words.{greatest_price, most_granted};
 ghost use Rattle.operations.specs.Printed.{IsEnded};
 ghost use Rattle.operations.specs.Written.{WritesBeginning};
 ghost use Rattle.tariffs.specs.OnceBook.{once_book};
@@ -120,9 +121,9 @@ fn answer_lines<I: Read, O: Write>(
 /// The shelf on which the book of one price is alone: `price` micro-units a block of `block`
 /// seconds.
 fn once_shelf(alloc: Global, price: u64, block: u64) -> Result<TariffShelf, AllocError>
-    requires price { price ≤ 1_000_000_000 }
+    requires price { price ≤ greatest_price }
     requires some_block { 1 ≤ block }
-    requires block { block ≤ 1_000_000_000_000_000 }
+    requires block { block ≤ most_granted }
     ensures { IfOk result (λ s. s ≡ one_book (once_book price block)) }
 {
     let book = once_book(alloc, price, block)?;

@@ -3,6 +3,7 @@
 -- `Program`.
 -- Source: profile.
 use Rattle.std.specs.Prelude.{◌≤◌, List, None, Result, Ok, codes}
+use Rattle.units.specs.Words.{most_money, most_blocks}
 use Rattle.commands.specs.declared.allowance.Allowance.{Allowance}
 use Rattle.commands.specs.declared.command.Command.{Command}
 use Rattle.commands.specs.declared.command.Command.TheVariants as command
@@ -32,7 +33,7 @@ office_name name.Allow = codes "allow"
 unfoldable pub credit_said : List Row → Result Credit ValueFault
 credit_said rows = do
   account ← account_of rows
-  amount ← number_at 1 1_000_000_000_000_000 (codes "AMOUNT") rows
+  amount ← number_at 1 most_money (codes "AMOUNT") rows
   reference ← reference_of rows
   until ← until_of rows
   scope ← scope_of rows
@@ -49,7 +50,7 @@ credit_said rows = do
 unfoldable pub allowance_said : List Row → Result Allowance ValueFault
 allowance_said rows = do
   account ← account_of rows
-  blocks ← number_at 1 1_000_000_000 (codes "BLOCKS") rows
+  blocks ← number_at 1 most_blocks (codes "BLOCKS") rows
   reference ← reference_of rows
   until ← until_of rows
   group ← group_of rows
@@ -74,7 +75,7 @@ office_command_said name.Allow rows = allowance_said rows >>= λ a. Ok (office.A
 abbrev pub IsOfficeCommandInRange : OfficeCommand → Type 0
 IsOfficeCommandInRange (office.Credit credit) = 1 ≤ credit.amount
 IsOfficeCommandInRange (office.Allow allowance) =
-    (1 ≤ allowance.blocks) × (allowance.blocks ≤ 1_000_000_000)
+    (1 ≤ allowance.blocks) × (allowance.blocks ≤ most_blocks)
 IsOfficeCommandInRange _ = Unit {0}
 
 -- ---- what is carried out

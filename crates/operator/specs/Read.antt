@@ -2,7 +2,7 @@
 -- Source: profile.
 use Rattle.std.specs.Prelude.{◌≡◌, ◌≢◌, ℕ, ◌≤◌, List, [], map, Option, IfSome, Ok, Err}
 use Rattle.std.specs.Borrow.{Bor}
-use Rattle.units.specs.Words.{Moment}
+use Rattle.units.specs.Words.{Moment, latest_command, greatest_price, most_granted}
 use Rattle.clap.specs.Values.{kind_of}
 use Rattle.clap.specs.Words.{IsAmong, Kinds, Text, fault_of, subcommand_of}
 use Rattle.operator.specs.Office.{IsOfficeCommandInRange}
@@ -57,14 +57,14 @@ IsRefused kinds Memory = Unit {0}
 
 -- the moment of a command, where it is said
 abbrev pub IsAtInRange : Option Moment → Type 0
-IsAtInRange at = IfSome at (λ t. t ≤ 4_102_444_799)
+IsAtInRange at = IfSome at (λ t. t ≤ latest_command)
 
 -- 1 micro-unit or more, a price up to 10^9 micro-units a block, and 1 to 10^15 seconds a block
 pub record IsOnceInRange (once : OnceWords) : Type 0 where
   pub some_credit : 1 ≤ once.credit
-  pub price : once.price ≤ 1_000_000_000
+  pub price : once.price ≤ greatest_price
   pub some_block : 1 ≤ once.block
-  pub block : once.block ≤ 1_000_000_000_000_000
+  pub block : once.block ≤ most_granted
 
 pub record IsServeInRange (serve : ServeWords) : Type 0 where
   pub port : (1 ≤ serve.port) × (serve.port ≤ 65_535)
@@ -73,7 +73,7 @@ pub record IsServeInRange (serve : ServeWords) : Type 0 where
 
 -- a book holds from a moment of a command on
 abbrev pub IsBookInRange : BookWords → Type 0
-IsBookInRange book = book.from ≤ 4_102_444_799
+IsBookInRange book = book.from ≤ latest_command
 
 abbrev pub IsImportInRange : ImportWords → Type 0
 IsImportInRange import = IsAtInRange import.at

@@ -1,6 +1,7 @@
 -- What the words of a command say, by what `clap` finds for its operands and options.
 -- Source: profile.
 use Rattle.std.specs.Prelude.{List, Option, Some, None, Result, Ok, Err, codes}
+use Rattle.units.specs.Words.{most_money, greatest_price, most_granted}
 use Rattle.clap.specs.Words.{Row, Text}
 use Rattle.texts.specs.Steps.{◌>>=◌, or_fault}
 use Rattle.operator.specs.Office.{office_command_said}
@@ -26,9 +27,9 @@ use Rattle.operator.specs.declared.program.CommandName.TheVariants as name
 
 unfoldable pub once_said : List Row → Result OnceWords ValueFault
 once_said rows = do
-  credit ← number_at 1 1_000_000_000_000_000 (codes "credit") rows
-  price ← number_at 0 1_000_000_000 (codes "price") rows
-  block ← number_at 1 1_000_000_000_000_000 (codes "block") rows
+  credit ← number_at 1 most_money (codes "credit") rows
+  price ← number_at 0 greatest_price (codes "price") rows
+  block ← number_at 1 most_granted (codes "block") rows
   Ok (record { credit = credit; price = price; block = block })
 
 unfoldable pub init_said : List Row → Result InitWords ValueFault

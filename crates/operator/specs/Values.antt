@@ -3,7 +3,7 @@
 -- Source: profile.
 use Rattle.std.specs.Prelude.{ℕ, ◌&&◌, nat_le, Bool, List, [], Option, Some, None, Result, Ok, Err}
 use Rattle.std.specs.Prelude.{codes, unwrap_or}
-use Rattle.units.specs.Words.{Moment, GroupId, no_end, greatest_number}
+use Rattle.units.specs.Words.{Moment, GroupId, no_end, greatest_number, latest_command}
 use Rattle.identifiers.specs.Texts.{is_account_number, is_reference, same_name}
 use Rattle.texts.specs.Months.{month_of}
 use Rattle.texts.specs.Numbers.{number_of}
@@ -38,7 +38,7 @@ optional_in low high (Some text) = do
 
 -- the moment of a command, where it is said
 abbrev pub at_of : List Row → Result (Option Moment) ValueFault
-at_of rows = optional_in 0 4_102_444_799 (first_of (codes "at") rows)
+at_of rows = optional_in 0 latest_command (first_of (codes "at") rows)
 
 -- until when a credit can be used, where it is said
 abbrev pub until_of : List Row → Result (Option Moment) ValueFault
@@ -54,7 +54,7 @@ group_of rows = number_at 0 greatest_number (codes "scope") rows
 
 -- the moment from which a book holds
 abbrev pub from_of : List Row → Result Moment ValueFault
-from_of rows = number_at 0 4_102_444_799 (codes "from") rows
+from_of rows = number_at 0 latest_command (codes "from") rows
 
 unfoldable pub path_at : Text → List Row → Result Text ValueFault
 path_at id rows = do

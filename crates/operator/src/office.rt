@@ -1,6 +1,7 @@
 //! An operator's commands: their names, and what the words of each say.
 
 ghost use Rattle.std.specs.Prelude.{◌≡◌, ◌≤◌, IfOk};
+ghost use Rattle.units.specs.Words.{most_blocks};
 ghost use Rattle.clap.specs.Words.{found_of, rows_of};
 ghost use Rattle.texts.specs.Steps.{GivesUnless};
 ghost use Rattle.operator.specs.Office.{allowance_said, command_of, credit_said};
@@ -120,7 +121,7 @@ fn credit(alloc: Global, matches: &ArgMatches<'_>) -> Result<Credit, ValueFault>
 fn allowance(alloc: Global, matches: &ArgMatches<'_>) -> Result<Allowance, ValueFault>
     ensures value { GivesUnless Memory (λ a. a) result
         (allowance_said (rows_of (found_of matches.now))) }
-    ensures in_range { IfOk result (λ a. (1 ≤ a.blocks) × (a.blocks ≤ 1_000_000_000)) }
+    ensures in_range { IfOk result (λ a. (1 ≤ a.blocks) × (a.blocks ≤ most_blocks)) }
 {
     let account = account(alloc, matches)?;
     let blocks = blocks(matches)?;

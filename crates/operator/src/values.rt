@@ -1,6 +1,7 @@
 //! The values of operands and options.
 
 ghost use Rattle.std.specs.Prelude.{◌≡◌, ◌≤◌, IfOk, IfSome, codes, option_map};
+ghost use Rattle.units.specs.Words.{latest_command, most_money, most_blocks};
 ghost use Rattle.clap.specs.Words.{found_of, first_of, rows_of};
 ghost use Rattle.texts.specs.Steps.{GivesUnless, Says};
 ghost use Rattle.operator.specs.Values.{account_of, at_of, database_of, from_of, group_of};
@@ -81,8 +82,8 @@ fn optional_at(
 /// An amount of money, 1 to 10^15 micro-units.
 pub(crate) fn amount_at(matches: &ArgMatches<'_>, id: &str) -> Result<Money, ValueFault>
     ensures value { Says (λ m. m) result
-        (number_at 1 1_000_000_000_000_000 id.now (rows_of (found_of matches.now))) }
-    ensures in_range { IfOk result (λ m. (1 ≤ m) × (m ≤ 1_000_000_000_000_000)) }
+        (number_at 1 most_money id.now (rows_of (found_of matches.now))) }
+    ensures in_range { IfOk result (λ m. (1 ≤ m) × (m ≤ most_money)) }
 {
     let micros = number_at(matches, 1, 1_000_000_000_000_000, id)?;
     Money::new(micros).ok_or(ValueFault::Invalid)
@@ -91,8 +92,8 @@ pub(crate) fn amount_at(matches: &ArgMatches<'_>, id: &str) -> Result<Money, Val
 /// The blocks of an allowance, 1 to 10^9.
 pub(crate) fn blocks(matches: &ArgMatches<'_>) -> Result<AllowanceBlocks, ValueFault>
     ensures value { Says (λ b. b) result
-        (number_at 1 1_000_000_000 (codes "BLOCKS") (rows_of (found_of matches.now))) }
-    ensures in_range { IfOk result (λ b. (1 ≤ b) × (b ≤ 1_000_000_000)) }
+        (number_at 1 most_blocks (codes "BLOCKS") (rows_of (found_of matches.now))) }
+    ensures in_range { IfOk result (λ b. (1 ≤ b) × (b ≤ most_blocks)) }
 {
     let number = number_at(matches, 1, 1_000_000_000, "BLOCKS")?;
     AllowanceBlocks::new(Blocks(number)).ok_or(ValueFault::Invalid)
@@ -101,7 +102,7 @@ pub(crate) fn blocks(matches: &ArgMatches<'_>) -> Result<AllowanceBlocks, ValueF
 /// The moment of `--from`.
 pub(crate) fn first_moment(matches: &ArgMatches<'_>) -> Result<Moment, ValueFault>
     ensures value { Says (λ t. t) result (from_of (rows_of (found_of matches.now))) }
-    ensures in_range { IfOk result (λ t. t ≤ 4_102_444_799) }
+    ensures in_range { IfOk result (λ t. t ≤ latest_command) }
 {
     let seconds = number_at(matches, 0, 4_102_444_799, "from")?;
     Moment::of_command(seconds).ok_or(ValueFault::Invalid)
@@ -110,7 +111,7 @@ pub(crate) fn first_moment(matches: &ArgMatches<'_>) -> Result<Moment, ValueFaul
 /// The moment of `--at`, where it is there.
 pub(crate) fn at(matches: &ArgMatches<'_>) -> Result<Option<Moment>, ValueFault>
     ensures value { Says (λ t. t) result (at_of (rows_of (found_of matches.now))) }
-    ensures in_range { IfOk result (λ o. IfSome o (λ t. t ≤ 4_102_444_799)) }
+    ensures in_range { IfOk result (λ o. IfSome o (λ t. t ≤ latest_command)) }
 {
     match optional_at(matches, 0, 4_102_444_799, "at")? {
         None => Ok(None),

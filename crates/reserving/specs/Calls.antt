@@ -5,10 +5,11 @@
 use Rattle.std.specs.Prelude.{◌≡◌, ◌≤◌, ◌<◌, ◌==◌, ◌↔◌, Bool, true, false, nat_lt, is_some}
 use Rattle.std.specs.Prelude.{List, [], Option, None, Result, Err, OnOk, OnErr, IsOk, IfOk}
 use Rattle.std.specs.Prelude.{IfSome, IfNone, IsErrOf}
-use Rattle.units.specs.Words.{Moment, BlockCount, UnitCount, GroupId}
+use Rattle.units.specs.Words.{Moment, BlockCount, UnitCount, GroupId, greatest_number}
 use Rattle.identifiers.specs.Words.{SessionName}
 use Rattle.units.specs.declared.blocks.UsedPart.{UsedPart}
 use Rattle.buckets.specs.Words.{BucketNumber, BucketAmount}
+use Rattle.buckets.specs.Kinds.{most_blocks_in_all}
 use Rattle.buckets.specs.declared.kind.BucketKind.{BucketKind}
 use Rattle.buckets.specs.Spend.{funds, allowance}
 use Rattle.shelves.specs.Shelves.{Shelf}
@@ -58,7 +59,7 @@ pub record TellsAllowance (group : GroupId) (t : Moment) (a : AccountRows) (give
       given ≡ allowance group t (buckets_at (validity_of a.shelf) t ledger)
   pub left : (ledger : Ledger) (left : LeftRows) → IsWith ledger left t a →
       given ≡ allowance group t (buckets_at (validity_of a.shelf) t ledger)
-  pub most : given ≤ 4_294_967_296_000_000_000
+  pub most : given ≤ most_blocks_in_all
 
 -- whether a session is live
 pub record TellsLive (session : SessionName) (t : Moment) (a : AccountRows) (live : Bool)
@@ -124,7 +125,7 @@ pub record Credits (kind : BucketKind) (from until : Moment) (scope : Option Gro
       IsRowsOf (credited t kind from until scope amount ledger) after)
   pub left : OnOk result ((ledger : Ledger) (left : LeftRows) → IsWith ledger left t before →
       IsWith (credited t kind from until scope amount ledger) left t after)
-  pub limit : IsErrOf result Limit ↔ (4294967295 < before.next_bucket)
+  pub limit : IsErrOf result Limit ↔ (greatest_number < before.next_bucket)
   pub err : OnErr result (after ≡ before)
 
 -- ---- settlements
@@ -191,7 +192,7 @@ pub record Debits (session : SessionName) (group : GroupId) (units : UnitCount) 
       ≡ debited_account session group units (rest_price_in group units t before).blocks
       (due_of (rest_price_in group units t before)) (advanced t before)))
   pub uncovered : IfOk result (λ s. s ≡ None → after ≡ before)
-  pub number : IfOk result (λ s. IfSome s (λ given. before.next_charge ≤ 4_294_967_295))
+  pub number : IfOk result (λ s. IfSome s (λ given. before.next_charge ≤ greatest_number))
   pub as_of : IfOk result (λ s. IfSome s (λ given. after.as_of ≡ t))
   pub new : IfOk result (λ s. (x : SessionName) → session_in x before.sessions ≡ None →
       session_in x after.sessions ≡ None)

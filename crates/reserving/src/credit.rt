@@ -3,6 +3,7 @@
 ghost use Rattle.std.specs.Prelude.{◌≡◌, ◌≤◌, ◌<◌, OnOk, OnErr, IfOk, IsErrOf, ◌↔◌};
 ghost use Rattle.reserving.specs.Rows.{IsAccount};
 ghost use Rattle.std.specs.Prelude.{Some};
+ghost use Rattle.units.specs.Words.{greatest_number, most_blocks};
 ghost use Rattle.reserving.specs.Calls.{Credits};
 ghost use Rattle.buckets.specs.Kinds.{most_of, IsScopeOf};
 ghost use Rattle.reserving.specs.Changes.{credited_account};
@@ -50,7 +51,7 @@ impl<'b> Account<'b> {
         moment: Moment,
     ) -> Result<u32, AccountFault>
         requires moment { self.old.as_of ≤ moment }
-        requires most { blocks.0 ≤ 1_000_000_000 }
+        requires most { blocks.0 ≤ most_blocks }
         ensures { Credits BucketKind.Blocks from until (Some group) blocks.0 moment self.old
             self.new result }
     {
@@ -72,9 +73,10 @@ impl<'b> Account<'b> {
         ensures rows { OnOk result
             (self.new ≡ credited_account kind from until scope amount self.old) }
         ensures account { OnOk result (IsAccount self.old) }
-        ensures in_range { OnOk result (self.old.next_bucket ≤ 4294967295) }
+        ensures in_range { OnOk result (self.old.next_bucket ≤ greatest_number) }
         ensures number { IfOk result (λ n. n ≡ self.old.next_bucket) }
-        ensures limit { IsErrOf result AccountFault.Limit ↔ (4294967295 < self.old.next_bucket) }
+        ensures limit { IsErrOf result AccountFault.Limit
+            ↔ (greatest_number < self.old.next_bucket) }
         ensures err { OnErr result (self.new ≡ self.old) }
     {
         let Ok(number) = u32::try_from(self.rows.next_bucket) else {

@@ -1,7 +1,7 @@
 //! What is available to a rating group at a moment.
 
 ghost use Rattle.std.specs.Prelude.{◌≡◌, ◌≤◌, ◌<◌, ◌^◌, true, if◌then◌else◌};
-ghost use Rattle.buckets.specs.Kinds.{most_of, is_alike};
+ghost use Rattle.buckets.specs.Kinds.{most_of, is_alike, most_in_bucket};
 ghost use Rattle.buckets.specs.Share.{sum_in};
 ghost use Rattle.buckets.specs.Spend.{Each, IsSound, funds};
 ghost use Rattle.buckets.specs.Row.{eligible_amount, is_eligible};
@@ -12,6 +12,7 @@ ghost use Rattle.std.specs.Prelude.{◌*◌, ◌+◌};
 ghost use Rattle.reserving.specs.Rows.{AreAscending, IsAccount};
 ghost use Rattle.reserving.specs.Changes.{advanced};
 ghost use Rattle.std.specs.List.{list_any};
+ghost use Rattle.units.specs.Words.{end_of_numbers};
 ghost use Rattle.reserving.specs.Calls.{Tells, TellsAllowance};
 ghost use Rattle.reserving.specs.Lapsed.{held_for, is_eligible_in, lapsed_for, lapsed_funds};
 ghost use Rattle.ledger.specs.Pricing.{validity_of};
@@ -52,7 +53,7 @@ impl<'b> Account<'b> {
         requires { self.now.as_of ≤ moment }
         ensures rows { result
             ≡ sum_in kind (eligible_amount group moment) (advanced moment self.now).buckets }
-        ensures most { result ≤ 4_294_967_296 * most_of kind }
+        ensures most { result ≤ end_of_numbers * most_of kind }
         ensures account { IsAccount self.now }
     {
         let buckets = self.rows.purse.buckets();
@@ -92,7 +93,7 @@ fn free_funds(buckets: &[Bucket], kind: BucketKind, group: u32, at: Moment) -> u
 fn free_of(bucket: &Bucket, kind: BucketKind, group: u32, at: Moment) -> u128
     ensures value { result
         ≡ if is_alike bucket.now.kind kind then eligible_amount group at bucket.now else 0 }
-    ensures most { result ≤ 1_000_000_000_000_000 }
+    ensures most { result ≤ most_in_bucket }
 {
     bucket.eligible_in(kind, group, at) as u128
 }

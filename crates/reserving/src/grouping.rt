@@ -2,6 +2,7 @@
 
 ghost use Rattle.std.specs.Prelude.{◌≡◌, ℕ, ◌+◌, ◌≤◌, ◌^◌, ◌<◌, true, is_some, OnOk, OnErr};
 ghost use Rattle.std.specs.Prelude.{position, map, option_map, length, vec_len, vec_capacity};
+ghost use Rattle.buckets.specs.Kinds.{most_blocks_in_all};
 ghost use Rattle.buckets.specs.Holding.{IsWithin, held_sum};
 ghost use Rattle.reserving.specs.Sessions.{is_of, group_in, is_counter, counter_in, holds_in};
 ghost use Rattle.reserving.specs.Sessions.{group_before, counter_before};
@@ -83,7 +84,7 @@ pub(crate) fn held_blocks_of(
     requires within { IsWithin (reserved_in session.now group groups.now) purse.now }
     ensures value { result.0
         ≡ held_sum BucketKind.Blocks (reserved_in session.now group groups.now) purse.now }
-    ensures most { result.0 ≤ 4_294_967_296_000_000_000 }
+    ensures most { result.0 ≤ most_blocks_in_all }
 {
     let Some(place) = place_of(groups, session, group) else {
         return Blocks(0);
@@ -96,7 +97,7 @@ fn held_blocks_in(row: &SessionGroup, purse: &Purse) -> Blocks
     requires { IsWithin (holds_in row.now.reservation) purse.now }
     ensures value { result.0
         ≡ held_sum BucketKind.Blocks (holds_in row.now.reservation) purse.now }
-    ensures most { result.0 ≤ 4_294_967_296_000_000_000 }
+    ensures most { result.0 ≤ most_blocks_in_all }
 {
     match &row.reservation {
         Some(reservation) => purse.held_blocks(&reservation.holds),

@@ -2,6 +2,7 @@
 
 ghost use Rattle.std.specs.Prelude.{◌≡◌, ◌+◌, ◌≤◌, ◌<◌, ◌^◌, Some, None, IfSome, IfNone};
 ghost use Rattle.std.specs.Prelude.{option_map, if◌then◌else◌};
+ghost use Rattle.units.specs.Words.{latest_moment};
 ghost use Rattle.units.specs.declared.blocks.TariffChangeUsage.TheVariants.{UnitBeforeTariffChange};
 ghost use Rattle.units.specs.declared.blocks.TariffChangeUsage.TheVariants.{UnitAfterTariffChange};
 ghost use Rattle.units.specs.declared.blocks.TariffChangeUsage.TheVariants.{UnitIndeterminate};
@@ -66,7 +67,7 @@ pub(crate) fn window_at(book: &TariffBook, moment: Moment) -> GrantWindow
 
 /// A switch as a moment.
 fn switch_moment(switch: Option<u64>) -> Option<Moment>
-    requires { IfSome switch (λ s. s ≤ 4_102_488_000) }
+    requires { IfSome switch (λ s. s ≤ latest_moment) }
     ensures { result ≡ switch }
 {
     match switch {
@@ -78,7 +79,7 @@ fn switch_moment(switch: Option<u64>) -> Option<Moment>
 /// The seconds of the book's validity after a moment, as far as there are moments.
 fn reach(book: &TariffBook, moment: Moment) -> u32
     ensures value { result ≡ reach book.now moment }
-    ensures within { moment + result ≤ 4_102_488_000 }
+    ensures within { moment + result ≤ latest_moment }
 {
     let left = LAST_MOMENT - moment.seconds();
     let validity = book.validity();

@@ -59,7 +59,7 @@ impl<'b> Account<'b> {
     ghost use Rattle.reserving.specs.Placed.{AreOfShelf};
     ghost use Rattle.reserving.specs.Left.{LeftRows, IsWith};
     ghost use Rattle.reserving.specs.Calls.{IsLive, Settles};
-    ghost use Rattle.buckets.specs.Kinds.{due};
+    ghost use Rattle.buckets.specs.Kinds.{due, most_blocks_in_all};
     ghost use Rattle.buckets.specs.Holding.{uncollected, held_sum};
     ghost use Rattle.reserving.specs.Changes.{coverable_in};
     ghost use Rattle.units.specs.declared.blocks.UsedPart.{UsedPart};
@@ -270,7 +270,7 @@ impl<'b> Account<'b> {
         ensures value { result.0
             ≡ held_sum BucketKind.Blocks (reserved_in session.now group self.now.groups)
             self.now.buckets }
-        ensures most { result.0 ≤ 4_294_967_296_000_000_000 }
+        ensures most { result.0 ≤ most_blocks_in_all }
     {
         grouping::held_blocks_of(&self.rows.groups, &self.rows.purse, session, group)
     }

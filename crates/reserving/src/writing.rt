@@ -2,6 +2,7 @@
 
 ghost use Rattle.std.specs.Prelude.{◌≡◌, ◌==◌, ◌+◌, ◌*◌, ◌≤◌, ◌<◌, ◌&&◌, true, OnOk, OnErr};
 ghost use Rattle.std.specs.Prelude.{length, vec_len, vec_capacity, option_copied};
+ghost use Rattle.buckets.specs.Kinds.{most_in_bucket};
 ghost use Rattle.buckets.specs.Spend.{Each};
 ghost use Rattle.buckets.specs.Holding.{held_in};
 ghost use Rattle.reserving.specs.Sessions.{held_by, is_session, is_of, is_counter};
@@ -193,10 +194,10 @@ impl KeptRows {
 /// What the row under a group's key holds of a bucket.
 fn held_under(rows: &[SessionGroup], group: &SessionGroup, bucket: &Bucket) -> u128
     requires order { AreAscending group_before rows.now }
-    requires within { held_by (λ s. true) rows.now bucket.now ≤ 1_000_000_000_000_000 }
+    requires within { held_by (λ s. true) rows.now bucket.now ≤ most_in_bucket }
     ensures value { result
         ≡ held_in (reserved_in group.now.session group.now.group rows.now) bucket.now }
-    ensures most { result ≤ 1_000_000_000_000_000 }
+    ensures most { result ≤ most_in_bucket }
 {
     match group_row(rows, &group.session, group.group) {
         Some(row) => held_of(bucket, row),
@@ -207,9 +208,9 @@ fn held_under(rows: &[SessionGroup], group: &SessionGroup, bucket: &Bucket) -> u
 /// What the rows that are written over hold of a bucket.
 fn held_before(named: &[SessionGroup], rows: &[SessionGroup], bucket: &Bucket) -> u128
     requires order { AreAscending group_before rows.now }
-    requires within { held_by (λ s. true) rows.now bucket.now ≤ 1_000_000_000_000_000 }
+    requires within { held_by (λ s. true) rows.now bucket.now ≤ most_in_bucket }
     ensures value { result ≡ held_before named.now rows.now bucket.now }
-    ensures most { result ≤ length named.now * 1_000_000_000_000_000 }
+    ensures most { result ≤ length named.now * most_in_bucket }
 {
     let mut total = 0;
     for group in named {
@@ -223,7 +224,7 @@ fn held_before(named: &[SessionGroup], rows: &[SessionGroup], bucket: &Bucket) -
 fn goes_on(named: &[SessionGroup], rows: &[SessionGroup], reserved: u64, new: &Bucket) -> bool
     requires order { AreAscending group_before rows.now }
     requires held { held_by (λ s. true) rows.now new.now ≡ reserved }
-    requires most { reserved ≤ 1_000_000_000_000_000 }
+    requires most { reserved ≤ most_in_bucket }
     ensures { result
         ≡ ((held_by (λ s. true) named.now new.now + reserved)
         == (new.now.reserved + held_before named.now rows.now new.now)) }

@@ -1,6 +1,7 @@
 //! The moment of a command: that of the words, or the machine's.
 
 ghost use Rattle.std.specs.Prelude.{◌<◌, Ok, None, IfSome};
+ghost use Rattle.units.specs.Words.{no_end};
 ghost use Rattle.service.specs.Over.{GivesMoment};
 ghost use Rattle.service.specs.declared.fault.DatabaseFault.TheVariants.{Clock};
 
@@ -10,7 +11,7 @@ use units::Moment;
 
 /// The machine's moment; None where its clock doesn't answer, or gives none of a command.
 pub fn machine_moment(rt: &HostRuntime) -> Option<Moment>
-    ensures { IfSome result (λ t. t < 4_102_444_800) }
+    ensures { IfSome result (λ t. t < no_end) }
 {
     let now = SystemTime::now(rt).ok()?;
     let since = now.duration_since(UNIX_EPOCH).ok()?;

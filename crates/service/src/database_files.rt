@@ -17,12 +17,10 @@ use std::io::ErrorKind;
 /// The file and the log of a database, which held what `S` says.
 pub type DatabaseFiles<S> = FileStore<FileFrom<S>>;
 
-/// How many pages that were read are kept, 32 MiB of memory. A database of 100,000 rows has some
-/// 5,400.
-const PAGES: usize = 8192;
-
-/// How many pages may change in a transaction before some are written to the log.
-const CHANGED_PAGES: usize = 2000;
+/// How many pages that were read are kept, and how many may change in a transaction before some are
+/// written to the log: 8 MB of memory each. The memory of those that are kept is taken as a
+/// database is opened, so more of them make each opening slower.
+const PAGES: usize = 2000;
 
 /// After how many pages the log is written back into the file. A longer log makes the mean command
 /// faster; the one that writes it back and a start, which reads it, become slower.
@@ -64,7 +62,7 @@ fn options(rt: &HostRuntime) -> Result<Options, Error>
         .hash_one(&0u8);
     Ok(Options {
         cache_pages: PAGES,
-        spill_pages: CHANGED_PAGES,
+        spill_pages: PAGES,
         checkpoint_frames: CHECKPOINT_FRAMES,
         seed,
     })

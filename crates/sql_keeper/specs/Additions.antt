@@ -1,7 +1,7 @@
 -- A voucher that is added, committed whole or not at all.
 -- Source: profile.
 use Rattle.std.specs.Prelude.{◌≡◌, ◌≤◌, Bool, IsTrue, Some, is_some}
-use Rattle.units.specs.Words.{Moment}
+use Rattle.units.specs.Words.{Moment, latest_moment}
 use Rattle.identifiers.specs.Words.{VoucherCode}
 use Rattle.shelves.specs.Words.{BookText}
 use Rattle.shelves.specs.Shelves.{Shelf}
@@ -44,7 +44,7 @@ pub record BecomesAdded (text : BookText) (code : VoucherCode) (terms : VoucherT
       → IsInRules shelf (tables_content old) → IsInRules shelf (tables_content new)
   pub plain : ArePlain old → ArePlain new
   pub meta : (tables_content new).meta ≡ Some (meta_at text t)
-  pub last : t ≤ 4_102_488_000
+  pub last : t ≤ latest_moment
   pub books : (tables_content new).books ≡ (tables_content old).books
   pub catalog : new catalog_tree ≡ old catalog_tree
   pub stored : AreStored new

@@ -2,7 +2,7 @@
 -- Source: profile.
 use Rattle.std.specs.Prelude.{◌≡◌, ◌≤◌, ◌<◌, ℕ, suc, ◌++◌, List, [], ◌∷◌, Some, None, length}
 use Rattle.std.specs.Prelude.{Result, ◌⊎◌, ◌+◌, Ok, Err, IfErr, IsErrOf, IsTrue, OnErr, OnOk, min}
-use Rattle.units.specs.Words.{Moment, GroupId, BookNumber, no_end}
+use Rattle.units.specs.Words.{Moment, GroupId, BookNumber, no_end, latest_moment}
 use Rattle.identifiers.specs.Words.{SessionName, AccountName}
 use Rattle.shelves.specs.Words.{BookText}
 use Rattle.sqlite_trees.specs.declared.store.Store.{Ghosts}
@@ -76,7 +76,7 @@ pub record MayFollow (text more : BookText) (n : BookNumber) (from : Moment) (tr
   pub book : Book
   pub read : IsBookOf more book
   pub number : n ≡ suc (count shelf)
-  pub range : from ≤ 4_102_488_000
+  pub range : from ≤ latest_moment
   pub behind : IsShelf (with_book shelf from book)
 
 -- the tables with the book, which may follow the keeper's books and begins before the end of all

@@ -1,6 +1,7 @@
 -- A change, committed whole or not at all.
 -- Source: profile.
 use Rattle.std.specs.Prelude.{◌≡◌, ◌≤◌, Some, IsTrue, OnOk, OnErr, Result, is_some}
+use Rattle.units.specs.Words.{latest_moment}
 use Rattle.identifiers.specs.Words.{AccountName}
 use Rattle.shelves.specs.Words.{BookText}
 use Rattle.shelves.specs.Shelves.{Shelf}
@@ -51,7 +52,7 @@ pub record Becomes (names : Names) (text : BookText) (change : Change) (old new 
       → IsInRules shelf (tables_content new)
   pub plain : ArePlain old → ArePlain new
   pub meta : (tables_content new).meta ≡ Some (meta_with text change)
-  pub last : change.moment ≤ 4_102_488_000
+  pub last : change.moment ≤ latest_moment
   pub books : (tables_content new).books ≡ (tables_content old).books
   pub catalog : new catalog_tree ≡ old catalog_tree
   pub stored : AreStored new

@@ -2,7 +2,7 @@
 -- Source: profile.
 use Rattle.std.specs.Prelude.{◌≡◌, ◌≤◌, Some}
 use Rattle.std.specs.Str.{IsUtf8}
-use Rattle.units.specs.Words.{Moment}
+use Rattle.units.specs.Words.{Moment, latest_moment}
 use Rattle.shelves.specs.Words.{BookText}
 use Rattle.sqlite_trees.specs.Tree.{Trees}
 use Rattle.sqlite_trees.specs.Objects.{catalog_tree}
@@ -23,7 +23,7 @@ pub record IsKept (trees : Trees) (text : BookText) : Type 0 where
   pub is : (tables_content trees).meta ≡ Some row
   pub version : row.version ≡ latest
   pub book : row.book ≡ text
-  pub last : row.last ≤ 4_102_488_000
+  pub last : row.last ≤ latest_moment
 
 -- the tables of a book as they are found again: the database lists ours, no rowid comes twice
 -- there, and it keeps their version with the text, which is one of characters and a book's; the

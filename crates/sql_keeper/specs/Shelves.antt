@@ -5,7 +5,7 @@ use Rattle.std.specs.Prelude.{◌≡◌, ◌<◌, ◌≤◌, ◌⊎◌, ◌&&◌
 use Rattle.std.specs.Prelude.{[], ◌∷◌, Option, Some, None, option_map}
 use Rattle.std.specs.List.{find, list_all}
 use Rattle.std.specs.Str.{IsUtf8}
-use Rattle.units.specs.Words.{BookNumber}
+use Rattle.units.specs.Words.{BookNumber, latest_moment}
 use Rattle.shelves.specs.Words.{BookText}
 use Rattle.tariffs.specs.Books.{Book}
 use Rattle.shelves.specs.Shelves.{Shelf, IsShelf, count, one_book, with_book}
@@ -19,7 +19,7 @@ use Rattle.sql_keeper.specs.Books.{IsBookOf}
 -- moments
 pub record IsDatedOf (x : BookRow) (d : DatedBook) : Type 0 where
   pub starts : x.starts ≡ d.from
-  pub range : x.starts ≤ 4_102_488_000
+  pub range : x.starts ≤ latest_moment
   pub utf8 : IsUtf8 x.content
   pub book : IsBookOf x.content d.book
 

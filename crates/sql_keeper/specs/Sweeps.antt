@@ -4,7 +4,7 @@
 use Rattle.std.specs.Prelude.{◌≡◌, ◌≤◌, true, List, Option, Some, None, Result, map, nat_le}
 use Rattle.std.specs.Prelude.{if◌then◌else◌, IsTrue, OnErr, OnOk, is_some}
 use Rattle.std.specs.List.{list_all}
-use Rattle.units.specs.Words.{Moment}
+use Rattle.units.specs.Words.{Moment, latest_moment}
 use Rattle.identifiers.specs.Texts.{same_name}
 use Rattle.identifiers.specs.Words.{AccountName}
 use Rattle.shelves.specs.Words.{BookText}
@@ -169,7 +169,7 @@ pub record BecomesSwept (names : Names) (text : BookText) (shelf : Shelf) (t : M
       → IsInRules own (tables_content old) → IsInRules own (tables_content new)
   pub plain : ArePlain old → ArePlain new
   pub meta : (tables_content new).meta ≡ Some (meta_at text t)
-  pub last : t ≤ 4_102_488_000
+  pub last : t ≤ latest_moment
   pub books : (tables_content new).books ≡ (tables_content old).books
   pub catalog : new catalog_tree ≡ old catalog_tree
   pub stored : AreStored new

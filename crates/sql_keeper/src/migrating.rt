@@ -3,6 +3,7 @@
 
 ghost use Rattle.std.specs.Prelude.{◌≡◌, ◌<◌, ◌≤◌, ◌^◌, ◌⊎◌, false, map, nat_lt, Some, IfErr};
 ghost use Rattle.std.specs.Prelude.{IfOk, OnOk};
+ghost use Rattle.units.specs.Words.{latest_moment};
 ghost use Rattle.sql_tables.specs.Opens.{IsNoVersion, IsVersion};
 ghost use Rattle.sql_tables.specs.declared.fault.OpenFault.TheVariants.{Foreign, Rules, Version};
 ghost use Rattle.sql_rows.specs.Content.{tables_content, with_meta};
@@ -132,7 +133,7 @@ pub(crate) fn is_of_version(meta: &MetaColumns, version: u32) -> Result<(), Open
     ensures version { OnOk result (meta.now.version ≡ version) }
     ensures told { IfErr result (λ fault. (fault ≡ Version) × (¬ (meta.now.version ≡ version))) }
     ensures number { meta.now.version < 2 ^ 32 }
-    ensures last { meta.now.last ≤ 4_102_488_000 }
+    ensures last { meta.now.last ≤ latest_moment }
 {
     let _moment = meta.last.seconds();
     is_version(meta.version, version)

@@ -3,6 +3,7 @@
 ghost use Rattle.std.specs.Prelude.{◌≡◌, ◌≤◌, ◌<◌, ◌^◌, ◌⊎◌, false, map, IsTrue, Some, IfErr};
 ghost use Rattle.std.specs.Prelude.{IfOk, OnOk};
 ghost use Rattle.std.specs.String.{string_bytes};
+ghost use Rattle.units.specs.Words.{latest_moment};
 ghost use Rattle.sql_tables.specs.Opens.{IsNoVersion};
 ghost use Rattle.sql_tables.specs.declared.fault.OpenFault.TheVariants.{Foreign, Rules};
 ghost use Rattle.sql_tables.specs.declared.fault.OpenFault.TheVariants.{Version};
@@ -170,7 +171,7 @@ fn is_of_latest(meta: &MetaColumns) -> Result<(), OpenFault>
     ensures version { OnOk result (meta.now.version ≡ latest) }
     ensures told { IfErr result (λ fault. (fault ≡ Version) × (¬ (meta.now.version ≡ latest))) }
     ensures number { meta.now.version < 2 ^ 32 }
-    ensures last { meta.now.last ≤ 4_102_488_000 }
+    ensures last { meta.now.last ≤ latest_moment }
 {
     let _moment = meta.last.seconds();
     is_version(meta.version, LATEST)

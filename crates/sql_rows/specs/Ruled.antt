@@ -3,7 +3,7 @@
 -- Source: profile.
 use Rattle.std.specs.Prelude.{◌≡◌, ◌<◌, ◌≤◌, ◌^◌, IsTrue, Option, Some, None}
 use Rattle.std.specs.Str.{IsUtf8}
-use Rattle.units.specs.Words.{GroupId, BookNumber}
+use Rattle.units.specs.Words.{GroupId, BookNumber, latest_moment}
 use Rattle.identifiers.specs.Words.{SessionName, AccountName}
 use Rattle.identifiers.specs.Texts.{is_account_number, is_session_id}
 use Rattle.sql_rows.specs.Content.{TablesContent}
@@ -15,7 +15,7 @@ use Rattle.sql_rows.specs.Values.{BookRow, Meta}
 pub record IsRuledMeta (m : Meta) : Type 0 where
   pub version : m.version < 2 ^ 32
   pub book : IsUtf8 m.book
-  pub last : m.last ≤ 4_102_488_000
+  pub last : m.last ≤ latest_moment
 
 -- a row is there, and it is out of the rules
 abbrev pub IsRefusedMeta : Option Meta → Type 0
@@ -26,7 +26,7 @@ IsRefusedMeta (Some m) = ¬ IsRuledMeta m
 -- text one of characters
 pub record IsRuledBook (x : BookAt) : Type 0 where
   pub number : x.number < 2 ^ 32
-  pub starts : x.row.starts ≤ 4_102_488_000
+  pub starts : x.row.starts ≤ latest_moment
   pub content : IsUtf8 x.row.content
 
 -- each book that is there is in the rules

@@ -1,6 +1,7 @@
 //! Columns read as moments, flags and names.
 
 ghost use Rattle.std.specs.Prelude.{◌≡◌, ◌≤◌, ℕ, List, IfOk, IsTrue, MatchResult};
+ghost use Rattle.units.specs.Words.{latest_moment};
 ghost use Rattle.identifiers.specs.Texts.{is_account_number, is_session_id};
 ghost use Rattle.sqlite.specs.Values.{or_null};
 ghost use Rattle.sqlite_value.specs.Order.{column};
@@ -17,7 +18,7 @@ use units::Moment;
 /// The moment in a column.
 pub(crate) fn moment_at(row: &Row, at: usize) -> Result<Moment, ReadFault>
     ensures { MatchResult result (λ m. column row.now at ≡ nat m)
-        (λ e. e ≡ ReadFault.Rules → (n : ℕ) → n ≤ 4_102_488_000 → ¬ (column row.now at ≡ nat n)) }
+        (λ e. e ≡ ReadFault.Rules → (n : ℕ) → n ≤ latest_moment → ¬ (column row.now at ≡ nat n)) }
 {
     let seconds = number_at(row, at)?;
     Moment::new(seconds).ok_or(ReadFault::Rules)

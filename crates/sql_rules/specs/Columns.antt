@@ -1,6 +1,7 @@
 -- What a column may hold.
 -- Source: profile.
 use Rattle.std.specs.Prelude.{ℕ, ◌&&◌, ◌||◌, Bool, List, nat_le, nat_lt}
+use Rattle.units.specs.Words.{no_end, greatest_number, end_of_numbers, most_money}
 use Rattle.sqlite_sql.specs.Ops.{is_null}
 use Rattle.sqlite_value.specs.declared.value.Value.{Value}
 use Rattle.sqlite_value.specs.Order.{Row, column}
@@ -26,24 +27,24 @@ is_optional_within low high v = is_null v || is_in_bounds low high (nat_in v)
 
 -- a number of 32 bits, as of a rating group
 abbrev pub is_small : ℕ → Bool
-is_small n = nat_le n 4_294_967_295
+is_small n = nat_le n greatest_number
 
 -- a number of 32 bits, from 1 on, as of a bucket or a charge
 abbrev pub is_numbering : ℕ → Bool
-is_numbering n = is_in_bounds 1 4_294_967_295 n
+is_numbering n = is_in_bounds 1 greatest_number n
 
 -- the next such number, which may be one more than the last
 abbrev pub is_next : ℕ → Bool
-is_next n = is_in_bounds 1 4_294_967_296 n
+is_next n = is_in_bounds 1 end_of_numbers n
 
 -- a moment of commands: before 2100-01-01
 abbrev pub is_moment : ℕ → Bool
-is_moment n = nat_lt n 4_102_444_800
+is_moment n = nat_lt n no_end
 
 -- an amount of money, in micro-units
 abbrev pub is_money : ℕ → Bool
-is_money n = nat_le n 1_000_000_000_000_000
+is_money n = nat_le n most_money
 
 -- an amount of money above 0
 abbrev pub is_some_money : ℕ → Bool
-is_some_money n = is_in_bounds 1 1_000_000_000_000_000 n
+is_some_money n = is_in_bounds 1 most_money n

@@ -5,6 +5,7 @@
 use Rattle.std.specs.Prelude.{ℕ, ◌&&◌, ◌||◌, Bool, true, List, [], ◌∷◌, is_some, nat_eq, nat_le}
 use Rattle.std.specs.Prelude.{nat_lt, slice_index_or}
 use Rattle.std.specs.List.{list_any}
+use Rattle.units.specs.Words.{no_end, latest_command, greatest_number, most_used, most_counted}
 use Rattle.identifiers.specs.Texts.{is_account_number, is_reference, is_session_id}
 use Rattle.identifiers.specs.Texts.{is_voucher_code}
 use Rattle.tariffs.specs.Names.{period_named}
@@ -32,13 +33,13 @@ is_ruled_account row =
 abbrev pub is_ruled_bucket : Row → Bool
 is_ruled_bucket row =
     is_numbering (number_at row 2) && is_moment (number_at row 3)
-    && is_in_bounds 1 4_102_444_800 (number_at row 4)
-    && is_optional_within 0 4_294_967_295 (column row 5) && is_money (number_at row 6)
+    && is_in_bounds 1 no_end (number_at row 4)
+    && is_optional_within 0 greatest_number (column row 5) && is_money (number_at row 6)
 
 abbrev pub is_ruled_counter : Row → Bool
 is_ruled_counter row =
     is_small (number_at row 2) && is_small (number_at row 3)
-    && nat_le (number_at row 4) 4_000_000_000_000_000_000
+    && nat_le (number_at row 4) most_counted
 
 -- open, ended, or never opened
 abbrev pub is_ruled_session : Row → Bool
@@ -67,7 +68,7 @@ are_periods shelf reserved before after =
 -- a group's own columns, and the units that were used
 abbrev pub is_ruled_use : Row → Bool
 is_ruled_use row =
-    is_small (number_at row 3) && nat_le (number_at row 4) 1_000_000_000_000_000_000
+    is_small (number_at row 3) && nat_le (number_at row 4) most_used
 
 abbrev pub is_ruled_group : Shelf → Row → Bool
 is_ruled_group shelf row =
@@ -107,7 +108,7 @@ abbrev pub is_ruled_voucher : Row → Bool
 is_ruled_voucher row =
     is_voucher_code (text_at row 1) && is_some_money (number_at row 2)
     && is_optional_within 1 3650 (column row 3)
-    && is_optional_within 0 4_294_967_295 (column row 4)
+    && is_optional_within 0 greatest_number (column row 4)
 
 abbrev pub is_ruled_charge : Row → Bool
 is_ruled_charge row =
@@ -117,7 +118,7 @@ is_ruled_charge row =
 -- a book after the first; its text is read by who opens the database
 abbrev pub is_ruled_book : Row → Bool
 is_ruled_book row =
-    is_in_bounds 2 16 (number_at row 1) && is_in_bounds 1 4_102_444_799 (number_at row 2)
+    is_in_bounds 2 16 (number_at row 1) && is_in_bounds 1 latest_command (number_at row 2)
 
 abbrev pub is_ruled_allowance : Row → Bool
 is_ruled_allowance row = is_numbering (number_at row 2)

@@ -2,7 +2,7 @@
 //! what was collected and covered to date.
 
 ghost use Rattle.std.specs.Prelude.{◌≡◌, ◌≤◌, ◌++◌, if◌then◌else◌, string_bytes, OnOk, IfOk};
-ghost use Rattle.buckets.specs.Kinds.{is_alike};
+ghost use Rattle.buckets.specs.Kinds.{is_alike, most_in_bucket};
 ghost use Rattle.buckets.specs.Share.{sum_in};
 ghost use Rattle.buckets.specs.declared.kind.BucketKind.TheVariants.{Blocks};
 ghost use Rattle.statements.specs.Lines.{allowance_heading, amount_names};
@@ -21,7 +21,7 @@ const AMOUNT_NAMES: &str =
 /// What was charged to a bucket, in this unit: nothing where it counts another.
 fn charged_in(kind: BucketKind, bucket: &Bucket) -> u64
     ensures value { result ≡ if is_alike bucket.now.kind kind then bucket.now.charged else 0 }
-    ensures most { result ≤ 1_000_000_000_000_000 }
+    ensures most { result ≤ most_in_bucket }
 {
     if bucket.counts(kind) {
         bucket.charged()

@@ -3,7 +3,7 @@
 use Rattle.std.specs.Prelude.{ℕ, ◌/◌, ◌==◌, ◌&&◌, not, List, [], Option, Some, None, Result, Ok}
 use Rattle.std.specs.Prelude.{Err, nat_le, if◌then◌else◌, codes}
 use Rattle.std.specs.List.{list_any}
-use Rattle.units.specs.Words.{UnitCount, greatest_number}
+use Rattle.units.specs.Words.{UnitCount, greatest_number, most_seconds, most_granted}
 use Rattle.toml.specs.Data.{Data, Members}
 use Rattle.calendar.specs.declared.cycle.Cycle.{Cycle}
 use Rattle.calendar.specs.declared.cycle.Cycle.TheVariants as cycles
@@ -41,14 +41,14 @@ unit_of t = do
 
 -- the most units of a grant: CC-Time has 32 bits
 abbrev pub most_units : UnitKind → UnitCount
-most_units Time = 4_294_967_295
-most_units TotalOctets = 1_000_000_000_000_000
-most_units ServiceSpecific = 1_000_000_000_000_000
+most_units Time = most_seconds
+most_units TotalOctets = most_granted
+most_units ServiceSpecific = most_granted
 
 -- `max_grant`: not below the slice, and less than 10^9 whole blocks
 unfoldable pub max_grant_of : UnitKind → ℕ → ℕ → Members → Result ℕ BookFault
 max_grant_of unit block slice t = do
-  most ← number_in (codes "max_grant") 1 1_000_000_000_000_000 t
+  most ← number_in (codes "max_grant") 1 most_granted t
   where_holds
       (nat_le most (most_units unit) && nat_le slice most && nat_le (most / block) 999_999_999)
       OutOfRange most
@@ -85,8 +85,8 @@ group_of names before d = do
   t ← table_at d
   id ← id_of before t
   unit ← unit_of t
-  block ← number_in (codes "block") 1 1_000_000_000_000_000 t
-  slice ← number_in (codes "slice") 1 1_000_000_000_000_000 t
+  block ← number_in (codes "block") 1 most_granted t
+  slice ← number_in (codes "slice") 1 most_granted t
   max_grant ← max_grant_of unit block slice t
   cycle ← cycle_of t
   final_action ← final_action_of t

@@ -4,7 +4,7 @@ use Rattle.std.specs.Prelude.{ℕ, ◌+◌, ◌-◌, ◌==◌, Bool, true, false
 use Rattle.std.specs.Prelude.{replicate, slice_get, slice_index_or, slice_set, Option, Some, None}
 use Rattle.std.specs.Prelude.{Result, Ok, nat_lt, unwrap_or, option_and_then, codes}
 use Rattle.std.specs.List.{list_all}
-use Rattle.units.specs.Words.{Place, most_counted}
+use Rattle.units.specs.Words.{Place, most_counted, greatest_price}
 use Rattle.toml.specs.Data.{Data, Members}
 use Rattle.calendar.specs.declared.week.Period.{Period}
 use Rattle.tariffs.specs.declared.fault.BookFault.{BookFault}
@@ -34,7 +34,7 @@ unfoldable pub tier_of : Bool → Place → Data → Result Tier BookFault
 tier_of last above d = do
   t ← table_at d
   upto ← bound_of last above t
-  price ← number_in (codes "price") 0 1_000_000_000 t
+  price ← number_in (codes "price") 0 greatest_price t
   Ok (record { upto = upto; price = price })
 
 -- the next of so many tiers, after those before it

@@ -3,7 +3,7 @@ use Rattle.std.specs.Prelude.{◌≡◌, ◌≤◌, ◌<◌, Bool, true, false, 
 use Rattle.std.specs.Prelude.{[], ◌∷◌, length, map, if◌then◌else◌, Option, Some, None, Vec}
 use Rattle.std.specs.List.{AllByRecursion}
 use Rattle.std.specs.declared.alloc.Global.{Global}
-use Rattle.units.specs.Words.{Micros, Place, most_counted}
+use Rattle.units.specs.Words.{Micros, Place, most_counted, greatest_price}
 use Rattle.tariffs.specs.declared.tiers.Tier.{Tier}
 
 -- a tier prices the places up to its bound, and without a bound every place
@@ -20,7 +20,7 @@ block_price (tier ∷ tiers) place =
 
 -- no price is above 10^9 micro-units
 abbrev pub ArePriced : List Tier → Type 0
-ArePriced tiers = AllByRecursion (λ tier. tier.price ≤ 1_000_000_000) tiers
+ArePriced tiers = AllByRecursion (λ tier. tier.price ≤ greatest_price) tiers
 
 -- the last tier has no bound
 abbrev pub IsOpen : List Tier → Type 0

@@ -2,6 +2,7 @@
 use Rattle.std.specs.Prelude.{◌≡◌, ◌≢◌, ◌≤◌, ◌/◌, List, [], AllPairs, slice_index_or}
 use Rattle.std.specs.List.{AllByRecursion}
 use Rattle.units.specs.Words.{UnitCount, GroupId, PeriodNumber, greatest_number}
+use Rattle.units.specs.Words.{most_seconds, most_granted}
 use Rattle.calendar.specs.declared.cycle.Cycle.{Cycle}
 use Rattle.units.specs.declared.blocks.UnitKind.{UnitKind}
 use Rattle.units.specs.declared.blocks.UnitKind.TheVariants.{Time}
@@ -26,11 +27,11 @@ pub record GroupTariff : Type 0 where
 pub record IsTariff (t : GroupTariff) : Type 0 where
   pub group : t.group ≤ greatest_number
   pub some_block : 1 ≤ t.block
-  pub block : t.block ≤ 1_000_000_000_000_000
+  pub block : t.block ≤ most_granted
   pub some_slice : 1 ≤ t.slice
   pub slice : t.slice ≤ t.max_grant
-  pub max_grant : t.max_grant ≤ 1_000_000_000_000_000
-  pub seconds : t.unit ≡ Time → t.max_grant ≤ 4_294_967_295
+  pub max_grant : t.max_grant ≤ most_granted
+  pub seconds : t.unit ≡ Time → t.max_grant ≤ most_seconds
   pub few_blocks : t.max_grant / t.block ≤ 999_999_999
   pub tiers : AllByRecursion AreTiers t.prices
 

@@ -2,6 +2,7 @@
 //! of the week.
 
 ghost use Rattle.std.specs.Prelude.{◌≡◌, ◌≤◌, IfOk, string_bytes};
+ghost use Rattle.units.specs.Words.{greatest_price, most_granted};
 ghost use Rattle.tariffs.specs.OnceBook.{once_book, once_document};
 
 use crate::book::TariffBook;
@@ -12,9 +13,9 @@ use std::alloc::{AllocError, Global};
 /// `block` seconds in every minute of the week. Its document is a book's, so its error is want of
 /// memory.
 pub fn once_book(alloc: Global, price: u64, block: u64) -> Result<TariffBook, AllocError>
-    requires price { price ≤ 1_000_000_000 }
+    requires price { price ≤ greatest_price }
     requires some_block { 1 ≤ block }
-    requires block { block ≤ 1_000_000_000_000_000 }
+    requires block { block ≤ most_granted }
     ensures { IfOk result (λ b. b ≡ once_book price block) }
 {
     let text = once_document(alloc, price, block)?;

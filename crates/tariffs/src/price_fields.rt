@@ -2,6 +2,7 @@
 
 ghost use Rattle.std.specs.Prelude.{◌≡◌, ◌<◌, ◌≤◌, ◌+◌, ◌==◌, [], length, replicate, IfOk};
 ghost use Rattle.std.specs.List.{AllByRecursion, list_all};
+ghost use Rattle.units.specs.Words.{greatest_price};
 ghost use Rattle.toml.specs.View.{view, table_view, items_view};
 ghost use Rattle.tariffs.specs.Faults.{Gives};
 ghost use Rattle.tariffs.specs.Fields.{each, collected};
@@ -48,7 +49,7 @@ fn bound(last: bool, above: u64, table: &Table) -> Result<Option<u64>, BookFault
 fn tier(last: bool, above: u64, value: &Value) -> Result<Tier, BookFault>
     ensures value { Gives (λ t. t) result (tier_of last above (view value.now)) }
     ensures bounded { IfOk result (λ t. IsBoundAfter last above t.upto) }
-    ensures priced { IfOk result (λ t. t.price ≤ 1_000_000_000) }
+    ensures priced { IfOk result (λ t. t.price ≤ greatest_price) }
 {
     let table = book_fields::entry_table(value)?;
     let upto = bound(last, above, table)?;

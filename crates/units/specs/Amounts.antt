@@ -1,6 +1,7 @@
 -- Amounts of money, as a request writes them (Unit-Value, RFC 8506 section 8.8).
 use Rattle.std.specs.Prelude.{◌≡◌, ◌⊎◌, ◌^◌, ℕ, ℤ, pos, negsuc, ◌+ℤ◌, ◌*ℤ◌, ◌≤ℤ◌, ◌<ℤ◌}
 use Rattle.std.specs.Prelude.{unsigned_abs, Result, IfOk, IsErrOf}
+use Rattle.units.specs.Words.{most_money}
 use Rattle.units.specs.declared.money.UnitFault.{UnitFault}
 use Rattle.units.specs.declared.money.UnitFault.TheVariants.{Exponent, OutOfRange}
 
@@ -21,4 +22,4 @@ pub record ReadsMoney (digits power : ℤ) (result : Result ℕ UnitFault) : Typ
   pub exponent_told : (IsExponent power → ⊥) → IsErrOf result Exponent
   pub out_of_range : IsErrOf result OutOfRange →
       (micros_of digits power <ℤ pos 0) ⊎
-      (pos 1_000_000_000_000_000 <ℤ micros_of digits power)
+      (pos most_money <ℤ micros_of digits power)

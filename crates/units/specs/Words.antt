@@ -66,13 +66,45 @@ CurrencyNumber = ℕ
 abbrev pub no_end : Moment
 no_end = 4_102_444_800
 
+-- of a command, and of what begins
+abbrev pub latest_command : Moment
+latest_command = 4_102_444_799
+
+-- of all: a civil day or a validity time may end so much after `no_end`
+abbrev pub latest_moment : Moment
+latest_moment = 4_102_488_000
+
 -- of a rating group, a bucket, a charge or a request
 abbrev pub greatest_number : ℕ
 greatest_number = 4_294_967_295
 
+-- the number after it: once it is the next, all are given
+abbrev pub end_of_numbers : ℕ
+end_of_numbers = 4_294_967_296
+
+-- of CC-Time and Validity-Time: both are of 32 bits (RFC 8506 sections 8.21 and 8.33)
+abbrev pub most_seconds : Seconds
+most_seconds = 4_294_967_295
+
+-- of a credit, a voucher, a refund
+abbrev pub most_money : Micros
+most_money = 1_000_000_000_000_000
+
+-- of a block
+abbrev pub greatest_price : Micros
+greatest_price = 1_000_000_000
+
 -- what a session may use of a rating group
 abbrev pub most_used : UnitCount
 most_used = 1_000_000_000_000_000_000
+
+-- of a block, a slice or a grant, as a tariff has them
+abbrev pub most_granted : UnitCount
+most_granted = 1_000_000_000_000_000
+
+-- of an allowance, and what one use or one event may start
+abbrev pub most_blocks : BlockCount
+most_blocks = 1_000_000_000
 
 -- what a counter may count
 abbrev pub most_counted : BlockCount

@@ -1,6 +1,7 @@
 //! Moments.
 
 ghost use Rattle.std.specs.Prelude.{◌≡◌, ℕ, ◌≤◌, ◌<◌, ◌↔◌, IsSome, IfSome};
+ghost use Rattle.units.specs.Words.{no_end, latest_moment};
 
 use std::marker::Model;
 
@@ -18,7 +19,7 @@ impl Model for Moment {
 
     ghost view = { λ m. m.seconds };
 
-    ghost invariant = { λ m. m.seconds ≤ 4_102_488_000 };
+    ghost invariant = { λ m. m.seconds ≤ latest_moment };
 
     ghost inverse = { λ n. record { seconds = n } };
 }
@@ -26,7 +27,7 @@ impl Model for Moment {
 impl Moment {
     /// The moment this many seconds after the beginning of 1970; None above 4,102,488,000.
     pub fn new(seconds: u64) -> Option<Moment>
-        ensures in_range { IsSome result ↔ (seconds ≤ 4_102_488_000) }
+        ensures in_range { IsSome result ↔ (seconds ≤ latest_moment) }
         ensures value { IfSome result (λ m. m ≡ seconds) }
     {
         if seconds <= 4_102_488_000 {
@@ -38,7 +39,7 @@ impl Moment {
 
     /// The moment of a command: 0 to 4,102,444,799 seconds; None above.
     pub fn of_command(seconds: u64) -> Option<Moment>
-        ensures in_range { IsSome result ↔ (seconds < 4_102_444_800) }
+        ensures in_range { IsSome result ↔ (seconds < no_end) }
         ensures value { IfSome result (λ m. m ≡ seconds) }
     {
         if seconds < 4_102_444_800 {
@@ -57,7 +58,7 @@ impl Moment {
 
     /// The end of what has no end.
     pub fn no_end() -> Moment
-        ensures { result ≡ 4_102_444_800 }
+        ensures { result ≡ no_end }
     {
         Moment {
             seconds: 4_102_444_800,
@@ -67,7 +68,7 @@ impl Moment {
     /// Its seconds since 1970.
     pub fn seconds(self) -> u64
         ensures value { result ≡ self }
-        ensures in_range { result ≤ 4_102_488_000 }
+        ensures in_range { result ≤ latest_moment }
     {
         self.seconds
     }

@@ -1,6 +1,7 @@
 //! Amounts of money.
 
 ghost use Rattle.std.specs.Prelude.{◌≡◌, ℕ, ◌≤◌, ◌↔◌, IsSome, IfSome};
+ghost use Rattle.units.specs.Words.{most_money};
 ghost use Rattle.units.specs.Amounts.{ReadsMoney};
 
 use std::marker::Model;
@@ -33,7 +34,7 @@ impl Model for Money {
 
     ghost view = { λ m. m.micros };
 
-    ghost invariant = { λ m. m.micros ≤ 1_000_000_000_000_000 };
+    ghost invariant = { λ m. m.micros ≤ most_money };
 
     ghost inverse = { λ n. record { micros = n } };
 }
@@ -41,7 +42,7 @@ impl Model for Money {
 impl Money {
     /// The amount of this many micro-units; None above 10^15.
     pub fn new(micros: u64) -> Option<Money>
-        ensures in_range { IsSome result ↔ (micros ≤ 1_000_000_000_000_000) }
+        ensures in_range { IsSome result ↔ (micros ≤ most_money) }
         ensures value { IfSome result (λ m. m ≡ micros) }
     {
         if micros <= 1_000_000_000_000_000 {
@@ -77,7 +78,7 @@ impl Money {
     /// Its micro-units.
     pub fn micros(self) -> u64
         ensures value { result ≡ self }
-        ensures in_range { result ≤ 1_000_000_000_000_000 }
+        ensures in_range { result ≤ most_money }
     {
         self.micros
     }

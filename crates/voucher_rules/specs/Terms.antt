@@ -1,7 +1,7 @@
 -- What a voucher says beside its code.
 -- Source: profile.
 use Rattle.std.specs.Prelude.{◌&&◌, Bool, true, Option, Some, None, nat_le}
-use Rattle.units.specs.Words.{DayCount, Micros, GroupId}
+use Rattle.units.specs.Words.{DayCount, Micros, GroupId, most_money}
 
 -- micro-units of the book's currency; the days that the bucket lasts, none without an end; the
 -- rating group that it pays for, none for all
@@ -17,4 +17,4 @@ are_days (Some days) = nat_le 1 days && nat_le days 3650
 
 -- 1 to 10^15 micro-units, and such days; any rating group is a scope
 abbrev pub are_terms : Micros → Option DayCount → Bool
-are_terms amount days = nat_le 1 amount && nat_le amount 1_000_000_000_000_000 && are_days days
+are_terms amount days = nat_le 1 amount && nat_le amount most_money && are_days days

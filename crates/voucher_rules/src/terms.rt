@@ -1,6 +1,7 @@
 //! What a voucher says beside its code.
 
 ghost use Rattle.std.specs.Prelude.{◌≡◌, ◌≤◌, IfSome, None, Some, if◌then◌else◌};
+ghost use Rattle.units.specs.Words.{no_end, most_money};
 ghost use Rattle.voucher_rules.specs.Terms.{are_days, are_terms};
 ghost use Rattle.voucher_rules.specs.Redeeming.{bucket_end, moment_in_time};
 
@@ -71,7 +72,7 @@ impl VoucherTerms {
     /// The amount of the bucket.
     pub fn amount(self) -> Money
         ensures value { result ≡ self.amount }
-        ensures in_range { (1 ≤ result) × (result ≤ 1_000_000_000_000_000) }
+        ensures in_range { (1 ≤ result) × (result ≤ most_money) }
     {
         // For the prover alone: looking at the value makes known here what its type keeps.
         let _in_range = self.amount.micros();
@@ -98,7 +99,7 @@ impl VoucherTerms {
     /// where that day ends past the last moment of commands, so also at 4,102,444,800.
     pub fn bucket_end<C: CivilDays>(self, moment: Moment, calendar: &C) -> Option<Moment>
         ensures value { result ≡ bucket_end (C.day_end calendar.now) self moment }
-        ensures in_range { IfSome result (λ end. end ≤ 4_102_444_800) }
+        ensures in_range { IfSome result (λ end. end ≤ no_end) }
     {
         match self.days {
             None => Some(Moment::no_end()),

@@ -1,6 +1,7 @@
 //! Fields of a voucher's record.
 
 ghost use Rattle.std.specs.Prelude.{◌≡◌, ◌≤◌, ◌==◌, ◌&&◌, IfOk, IfSome};
+ghost use Rattle.units.specs.Words.{greatest_number, most_money};
 ghost use Rattle.csv.specs.Records.{fields_of};
 ghost use Rattle.texts.specs.Steps.{Says, GivesUnless, where_holds};
 ghost use Rattle.identifiers.specs.Texts.{is_voucher_code};
@@ -96,8 +97,8 @@ fn code(alloc: Global, field: &[u8]) -> Result<VoucherCode, FaultKind>
 }
 
 fn amount(field: &[u8]) -> Result<Money, FaultKind>
-    ensures value { Says (λ m. m) result (number_in Amount 1 1_000_000_000_000_000 field.now) }
-    ensures in_range { IfOk result (λ m. (1 ≤ m) × (m ≤ 1_000_000_000_000_000)) }
+    ensures value { Says (λ m. m) result (number_in Amount 1 most_money field.now) }
+    ensures in_range { IfOk result (λ m. (1 ≤ m) × (m ≤ most_money)) }
 {
     let micros = number_in(FaultKind::Amount, 1, 1_000_000_000_000_000, field)?;
     Money::new(micros).ok_or(FaultKind::Amount)
@@ -114,7 +115,7 @@ fn days(field: &[u8]) -> Result<Option<u32>, FaultKind>
 }
 
 fn scope(field: &[u8]) -> Result<Option<u32>, FaultKind>
-    ensures { Says (λ g. g) result (optional_in Scope 0 4_294_967_295 field.now) }
+    ensures { Says (λ g. g) result (optional_in Scope 0 greatest_number field.now) }
 {
     match optional_in(FaultKind::Scope, 0, 4_294_967_295, field)? {
         None => Ok(None),
@@ -125,7 +126,7 @@ fn scope(field: &[u8]) -> Result<Option<u32>, FaultKind>
 /// The terms of an amount and of days in their ranges.
 #[tactic(auto, using(crate::proofs::FieldLemmas::terms_in_range))]
 fn terms_of(amount: Money, days: Option<u32>, scope: Option<u32>) -> VoucherTerms
-    requires amount { (1 ≤ amount) × (amount ≤ 1_000_000_000_000_000) }
+    requires amount { (1 ≤ amount) × (amount ≤ most_money) }
     requires days { IfSome days (λ n. (1 ≤ n) × (n ≤ 3650)) }
     ensures value { result ≡ record { amount = amount; days = days; scope = scope } }
     ensures in_range { AreInRange result }

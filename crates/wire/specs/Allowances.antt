@@ -1,7 +1,7 @@
 -- The body of an allowance, and an allowance as it is kept.
 -- Source: profile.
 use Rattle.std.specs.Prelude.{◌≡◌, ℕ, ◌≤◌, List, true, option_map, IfSome, Result, Ok}
-use Rattle.units.specs.Words.{no_end, greatest_number}
+use Rattle.units.specs.Words.{no_end, greatest_number, latest_command, most_blocks}
 use Rattle.identifiers.specs.Words.{AccountName}
 use Rattle.serde_json.specs.Data.{Data, string, object, no_members, member}
 use Rattle.serde_json.specs.Written.{compact_text}
@@ -19,8 +19,8 @@ use Rattle.wire.specs.Credits.{reference_at}
 -- command on, until one or "no end", of one rating group
 unfoldable pub allowance_at : AccountName → Data → Result Allowance WireFault
 allowance_at account d = do
-  blocks ← number_at avp.Blocks 1 1_000_000_000 d
-  from ← optional_at avp.From 0 4_102_444_799 d
+  blocks ← number_at avp.Blocks 1 most_blocks d
+  from ← optional_at avp.From 0 latest_command d
   until ← optional_at avp.Until 1 no_end d
   scope ← number_at avp.Scope 0 greatest_number d
   reference ← reference_at d
@@ -55,8 +55,8 @@ allowance_text a = compact_text (allowance_data a)
 -- the ranges of an allowance's body
 pub record IsAllowance (a : Allowance) : Type 0 where
   pub some : 1 ≤ a.blocks
-  pub blocks : a.blocks ≤ 1_000_000_000
-  pub from : IfSome a.from (λ m. m ≤ 4_102_444_799)
+  pub blocks : a.blocks ≤ most_blocks
+  pub from : IfSome a.from (λ m. m ≤ latest_command)
   pub until : IfSome a.until (λ m. (1 ≤ m) × (m ≤ no_end))
   pub scope : a.scope ≤ greatest_number
   pub reference : is_reference a.reference ≡ true

@@ -1,6 +1,6 @@
 -- The body of a credit, and a credit as it is kept.
 use Rattle.std.specs.Prelude.{◌≡◌, ℕ, ◌≤◌, List, true, option_map, IfSome, Result, Ok}
-use Rattle.units.specs.Words.{no_end, greatest_number}
+use Rattle.units.specs.Words.{no_end, greatest_number, latest_command, most_money}
 use Rattle.identifiers.specs.Words.{AccountName, ReferenceName}
 use Rattle.serde_json.specs.Data.{Data, string, object, no_members, member}
 use Rattle.serde_json.specs.Written.{compact_text}
@@ -23,8 +23,8 @@ reference_at d = do
 -- a command on, until one or "no end"
 unfoldable pub credit_at : AccountName → Data → Result Credit WireFault
 credit_at account d = do
-  amount ← number_at avp.Amount 1 1_000_000_000_000_000 d
-  from ← optional_at avp.From 0 4_102_444_799 d
+  amount ← number_at avp.Amount 1 most_money d
+  from ← optional_at avp.From 0 latest_command d
   until ← optional_at avp.Until 1 no_end d
   scope ← optional_at avp.Scope 0 greatest_number d
   reference ← reference_at d
@@ -59,8 +59,8 @@ credit_text c = compact_text (credit_data c)
 -- the ranges of a credit's body
 pub record IsCredit (c : Credit) : Type 0 where
   pub some : 1 ≤ c.amount
-  pub amount : c.amount ≤ 1_000_000_000_000_000
-  pub from : IfSome c.from (λ m. m ≤ 4_102_444_799)
+  pub amount : c.amount ≤ most_money
+  pub from : IfSome c.from (λ m. m ≤ latest_command)
   pub until : IfSome c.until (λ m. (1 ≤ m) × (m ≤ no_end))
   pub scope : IfSome c.scope (λ g. g ≤ greatest_number)
   pub reference : is_reference c.reference ≡ true

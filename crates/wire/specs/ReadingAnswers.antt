@@ -2,7 +2,7 @@
 use Rattle.std.specs.Prelude.{◌≡◌, ℕ, ◌==◌, List, [], Bool, true, false, Option, Some}
 use Rattle.std.specs.Prelude.{None, Result, Ok, Err, MatchResult, ◌⊎◌, nat_eq, if◌then◌else◌}
 use Rattle.std.specs.Cmp.Lexicographic.{pointwise}
-use Rattle.units.specs.Words.{Moment, Seconds, greatest_number}
+use Rattle.units.specs.Words.{Moment, Seconds, greatest_number, latest_moment, most_seconds}
 use Rattle.serde_json.specs.Data.{Data, Items}
 use Rattle.serde_json.specs.Find.{get}
 use Rattle.identifiers.specs.Texts.{is_redirect_address}
@@ -75,7 +75,7 @@ quantity_in g = do
 
 -- when the price of a grant changes, where it does
 abbrev pub switch_at : Data → Result (Option Moment) WireFault
-switch_at g = optional_in tariff_time_change NotRequest 0 4102488000 g
+switch_at g = optional_in tariff_time_change NotRequest 0 latest_moment g
 
 unfoldable pub session_grant_in : Measured → Seconds → Data → Data → Result ServiceOutcome WireFault
 session_grant_in quantity validity d g = do
@@ -92,7 +92,7 @@ granted_when d g quantity (Some validity) = session_grant_in quantity validity d
 unfoldable pub granted_in : Data → Data → Result ServiceOutcome WireFault
 granted_in d g = do
   quantity ← quantity_in g
-  validity ← optional_in validity_time NotRequest 0 4294967295 d
+  validity ← optional_in validity_time NotRequest 0 most_seconds d
   granted_when d g quantity validity
 
 -- ---- services

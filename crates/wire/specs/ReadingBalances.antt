@@ -1,6 +1,6 @@
 -- Reading a balance that was written.
 use Rattle.std.specs.Prelude.{ℕ, List, [], Bool, Option, Some, None, Result, Ok}
-use Rattle.units.specs.Words.{Moment, GroupId, greatest_number}
+use Rattle.units.specs.Words.{Moment, GroupId, greatest_number, latest_moment}
 use Rattle.identifiers.specs.Words.{AccountName}
 use Rattle.serde_json.specs.Data.{Data, Items}
 use Rattle.serde_json.specs.Find.{get, as_array, as_bool}
@@ -25,7 +25,7 @@ abbrev pub amount_in : List ℕ → Data → Result ℕ WireFault
 amount_in name d = number_in name 0 18446744073709551615 d
 
 abbrev pub moment_in : List ℕ → Data → Result Moment WireFault
-moment_in name d = number_in name 0 4102488000 d
+moment_in name d = number_in name 0 latest_moment d
 
 abbrev pub scope_in : Data → Result (Option GroupId) WireFault
 scope_in d = optional_in (name_of avp.Scope) NotRequest 0 greatest_number d

@@ -1,7 +1,7 @@
 -- What the types of an answer's parts keep: each value of the program keeps it.
 use Rattle.std.specs.Prelude.{◌≡◌, ◌≤◌, true, IfSome, ⊤}
 use Rattle.std.specs.List.{AllByRecursion}
-use Rattle.units.specs.Words.{greatest_number}
+use Rattle.units.specs.Words.{greatest_number, latest_moment, most_seconds}
 use Rattle.identifiers.specs.Texts.{is_account_number, is_session_id, is_redirect_address}
 use Rattle.commands.specs.Quantities.{is_quantity}
 use Rattle.commands.specs.declared.answer.FinalUnit.{FinalUnit}
@@ -26,7 +26,7 @@ IsFinal (Redirect address) = is_redirect_address address ≡ true
 
 pub record IsGrant (g : GrantedServiceUnit) : Type 0 where
   pub quantity : is_quantity g.quantity.kind g.quantity.units ≡ true
-  pub switch : IfSome g.switch (λ m. m ≤ 4102488000)
+  pub switch : IfSome g.switch (λ m. m ≤ latest_moment)
   pub last : IfSome g.last IsFinal
 
 abbrev pub IsServiceOutcome : ServiceOutcome → Type 0
@@ -37,7 +37,7 @@ IsServiceOutcome (service.Failed failure) = ⊤
 
 pub record IsServiceAnswer (s : ServiceAnswer) : Type 0 where
   pub group : s.group ≤ greatest_number
-  pub validity : IfSome (validity_of s.outcome) (λ n. n ≤ 4294967295)
+  pub validity : IfSome (validity_of s.outcome) (λ n. n ≤ most_seconds)
   pub outcome : IsServiceOutcome s.outcome
 
 pub record IsCost (c : Cost) : Type 0 where
@@ -58,8 +58,8 @@ pub record IsRequestAnswer (a : RequestAnswer) : Type 0 where
 
 pub record IsBucketBalance (b : BucketBalance) : Type 0 where
   pub number : b.number ≤ greatest_number
-  pub from : b.from ≤ 4102488000
-  pub until : b.until ≤ 4102488000
+  pub from : b.from ≤ latest_moment
+  pub until : b.until ≤ latest_moment
   pub scope : IfSome b.scope (λ g. g ≤ greatest_number)
   pub credited : b.credited ≤ 18446744073709551615
   pub available : b.available ≤ 18446744073709551615
@@ -70,7 +70,7 @@ pub record IsBucketBalance (b : BucketBalance) : Type 0 where
 pub record IsAccountBalance (a : AccountBalance) : Type 0 where
   pub account : is_account_number a.account ≡ true
   pub buckets : AllByRecursion IsBucketBalance a.buckets
-  pub moment : a.moment ≤ 4102488000
+  pub moment : a.moment ≤ latest_moment
 
 abbrev pub IsAnswer : Answer → Type 0
 IsAnswer (answer.Request a) = IsRequestAnswer a

@@ -1,6 +1,7 @@
 //! The body of an allowance.
 
 ghost use Rattle.std.specs.Prelude.{◌≡◌, ◌≤◌, IfOk, OnOk, string_bytes};
+ghost use Rattle.units.specs.Words.{greatest_number, most_blocks};
 ghost use Rattle.json_fields.specs.Gives.{Gives, Says};
 ghost use Rattle.json_fields.specs.Fields.{number_at};
 ghost use Rattle.json_fields.specs.Tokens.{Adds, tokens_of};
@@ -19,7 +20,7 @@ use std::alloc::{AllocError, Global};
 use units::Blocks;
 
 fn blocks(parent: &Tree<'_>) -> Result<AllowanceBlocks, WireFault>
-    ensures { Says (λ b. b) result (number_at Avp.Blocks 1 1_000_000_000 (view parent.now)) }
+    ensures { Says (λ b. b) result (number_at Avp.Blocks 1 most_blocks (view parent.now)) }
 {
     let number = number(parent, Avp::Blocks, 1, 1_000_000_000)?;
     AllowanceBlocks::new(Blocks(number)).ok_or(WireFault::Invalid(Avp::Blocks))
@@ -70,14 +71,14 @@ pub fn read_allow(
 
 fn number_of(blocks: AllowanceBlocks) -> u64
     ensures value { result ≡ blocks }
-    ensures within { (1 ≤ result) × (result ≤ 1_000_000_000) }
+    ensures within { (1 ≤ result) × (result ≤ most_blocks) }
 {
     blocks.blocks().0
 }
 
 fn group_of(scope: u32) -> u64
     ensures value { result ≡ scope }
-    ensures within { result ≤ 4_294_967_295 }
+    ensures within { result ≤ greatest_number }
 {
     scope as u64
 }

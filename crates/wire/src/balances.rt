@@ -2,6 +2,7 @@
 
 ghost use Rattle.std.specs.Prelude.{◌≡◌, ◌≤◌, IfSome, OnOk};
 ghost use Rattle.std.specs.List.{AllByRecursion};
+ghost use Rattle.units.specs.Words.{greatest_number};
 ghost use Rattle.serde_json.specs.Data.{array, boolean};
 ghost use Rattle.commands.specs.Names.{buckets, unit};
 ghost use Rattle.json_fields.specs.Spelling.{whole};
@@ -36,7 +37,7 @@ fn put_amount(out: &mut Writer, name: &str, amount: u64) -> Result<(), AllocErro
 
 fn scope_of(bucket: &BucketBalance) -> Option<u64>
     ensures value { result ≡ bucket.now.scope }
-    ensures within { IfSome result (λ g. g ≤ 4294967295) }
+    ensures within { IfSome result (λ g. g ≤ greatest_number) }
 {
     match bucket.scope {
         None => None,

@@ -1,6 +1,8 @@
 //! The body of a credit.
 
 ghost use Rattle.std.specs.Prelude.{◌≡◌, ◌≤◌, IfOk, IfSome, OnOk, string_bytes};
+ghost use Rattle.units.specs.Words.{no_end, latest_command, latest_moment, greatest_number};
+ghost use Rattle.units.specs.Words.{most_money};
 ghost use Rattle.json_fields.specs.Gives.{Gives, Says};
 ghost use Rattle.json_fields.specs.Fields.{number_at, optional_at};
 ghost use Rattle.json_fields.specs.Tokens.{Adds, tokens_of};
@@ -28,7 +30,7 @@ pub(crate) fn reference(alloc: Global, parent: &Tree<'_>) -> Result<Reference, W
 
 /// A number of the type u32, where it is there.
 fn scope(group: Option<u64>) -> Option<u32>
-    requires { IfSome group (λ n. n ≤ 4_294_967_295) }
+    requires { IfSome group (λ n. n ≤ greatest_number) }
     ensures { result ≡ group }
 {
     match group {
@@ -39,14 +41,14 @@ fn scope(group: Option<u64>) -> Option<u32>
 
 fn amount(parent: &Tree<'_>) -> Result<Money, WireFault>
     ensures { Says (λ m. m) result
-        (number_at Avp.Amount 1 1_000_000_000_000_000 (view parent.now)) }
+        (number_at Avp.Amount 1 most_money (view parent.now)) }
 {
     let micros = number(parent, Avp::Amount, 1, 1_000_000_000_000_000)?;
     Money::new(micros).ok_or(WireFault::Invalid(Avp::Amount))
 }
 
 fn moment_at(parent: &Tree<'_>, name: Avp, low: u64, high: u64) -> Result<Option<Moment>, WireFault>
-    requires { high ≤ 4_102_488_000 }
+    requires { high ≤ latest_moment }
     ensures reads { Says (λ m. m) result (optional_at name low high (view parent.now)) }
     ensures within { IfOk result (λ o. IfSome o (λ m. (low ≤ m) × (m ≤ high))) }
 {
@@ -54,7 +56,7 @@ fn moment_at(parent: &Tree<'_>, name: Avp, low: u64, high: u64) -> Result<Option
 }
 
 fn start_of(moment: Option<Moment>) -> Option<CreditStart>
-    requires { IfSome moment (λ m. (0 ≤ m) × (m ≤ 4_102_444_799)) }
+    requires { IfSome moment (λ m. (0 ≤ m) × (m ≤ latest_command)) }
     ensures { result ≡ moment }
 {
     match moment {
@@ -64,7 +66,7 @@ fn start_of(moment: Option<Moment>) -> Option<CreditStart>
 }
 
 fn end_of(moment: Option<Moment>) -> Option<CreditEnd>
-    requires { IfSome moment (λ m. (1 ≤ m) × (m ≤ 4_102_444_800)) }
+    requires { IfSome moment (λ m. (1 ≤ m) × (m ≤ no_end)) }
     ensures { result ≡ moment }
 {
     match moment {
@@ -74,14 +76,14 @@ fn end_of(moment: Option<Moment>) -> Option<CreditEnd>
 }
 
 pub(crate) fn start(parent: &Tree<'_>) -> Result<Option<CreditStart>, WireFault>
-    ensures { Says (λ s. s) result (optional_at Avp.From 0 4_102_444_799 (view parent.now)) }
+    ensures { Says (λ s. s) result (optional_at Avp.From 0 latest_command (view parent.now)) }
 {
     let moment = moment_at(parent, Avp::From, 0, 4_102_444_799)?;
     Ok(start_of(moment))
 }
 
 pub(crate) fn end(parent: &Tree<'_>) -> Result<Option<CreditEnd>, WireFault>
-    ensures { Says (λ e. e) result (optional_at Avp.Until 1 4_102_444_800 (view parent.now)) }
+    ensures { Says (λ e. e) result (optional_at Avp.Until 1 no_end (view parent.now)) }
 {
     let moment = moment_at(parent, Avp::Until, 1, 4_102_444_800)?;
     Ok(end_of(moment))
@@ -132,7 +134,7 @@ pub fn read_credit(
 
 fn group_of(scope: Option<u32>) -> Option<u64>
     ensures value { result ≡ scope }
-    ensures within { IfSome scope (λ g. g ≤ 4_294_967_295) }
+    ensures within { IfSome scope (λ g. g ≤ greatest_number) }
 {
     match scope {
         None => None,
@@ -142,7 +144,7 @@ fn group_of(scope: Option<u32>) -> Option<u64>
 
 pub(crate) fn started(start: Option<CreditStart>) -> Option<Moment>
     ensures value { result ≡ start }
-    ensures within { IfSome start (λ m. m ≤ 4_102_444_799) }
+    ensures within { IfSome start (λ m. m ≤ latest_command) }
 {
     match start {
         None => None,
@@ -152,7 +154,7 @@ pub(crate) fn started(start: Option<CreditStart>) -> Option<Moment>
 
 pub(crate) fn ended(end: Option<CreditEnd>) -> Option<Moment>
     ensures value { result ≡ end }
-    ensures within { IfSome end (λ m. (1 ≤ m) × (m ≤ 4_102_444_800)) }
+    ensures within { IfSome end (λ m. (1 ≤ m) × (m ≤ no_end)) }
 {
     match end {
         None => None,

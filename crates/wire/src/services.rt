@@ -2,6 +2,7 @@
 
 ghost use Rattle.std.specs.Prelude.{◌≡◌, ◌++◌, ◌≤◌, IfSome, OnOk, option_map, true};
 ghost use Rattle.std.specs.List.{AllByRecursion};
+ghost use Rattle.units.specs.Words.{latest_moment, most_seconds};
 ghost use Rattle.identifiers.specs.Texts.{is_redirect_address};
 ghost use Rattle.commands.specs.Quantities.{is_quantity};
 ghost use Rattle.json_fields.specs.Tokens.{Adds, tokens_of, member_tokens, perhaps_tokens};
@@ -31,7 +32,7 @@ fn put_granted(
 ) -> Result<(), AllocError>
     ensures adds { Adds result out.old out.new (tokens_of (granted_data quantity switch)) }
     ensures rule { OnOk result (is_quantity quantity.kind quantity.units ≡ true) }
-    ensures switch { OnOk result (IfSome switch (λ m. m ≤ 4102488000)) }
+    ensures switch { OnOk result (IfSome switch (λ m. m ≤ latest_moment)) }
 {
     out.begin_object()?;
     put_number(out, unit_name(quantity.kind()), quantity.units())?;
@@ -103,7 +104,7 @@ fn put_units(out: &mut Writer, quantity: Quantity, switch: Option<Moment>) -> Re
     ensures adds { Adds result out.old out.new
         (member_tokens granted_unit (granted_data quantity switch)) }
     ensures rule { OnOk result (is_quantity quantity.kind quantity.units ≡ true) }
-    ensures switch { OnOk result (IfSome switch (λ m. m ≤ 4102488000)) }
+    ensures switch { OnOk result (IfSome switch (λ m. m ≤ latest_moment)) }
 {
     out.key(GRANTED_UNIT)?;
     put_granted(out, quantity, switch)?;
@@ -137,7 +138,7 @@ fn put_grant(out: &mut Writer, outcome: &ServiceOutcome) -> Result<(), AllocErro
 
 fn validity_of(outcome: &ServiceOutcome) -> Option<u64>
     ensures value { result ≡ validity_of outcome.now }
-    ensures within { IfSome result (λ n. n ≤ 4294967295) }
+    ensures within { IfSome result (λ n. n ≤ most_seconds) }
 {
     match outcome {
         ServiceOutcome::Granted(granted) => Some(granted.validity as u64),

@@ -1,7 +1,7 @@
 -- The money of a refund.
 use Rattle.std.specs.Prelude.{ℕ, ◌&&◌, ℤ, pos, negsuc, unsigned_abs, int_le, Option, Some, None}
 use Rattle.std.specs.Prelude.{Result, Ok, nat_le, option_and_then}
-use Rattle.units.specs.Words.{Micros}
+use Rattle.units.specs.Words.{Micros, most_money}
 use Rattle.serde_json.specs.Data.{Data}
 use Rattle.serde_json.specs.Find.{get, as_number, as_i64}
 use Rattle.units.specs.Amounts.{micros_of}
@@ -33,7 +33,7 @@ money_at d = do
   digits ← number_at avp.ValueDigits 1 18446744073709551615 d
   exponent ← exponent_at d
   let micros = micros_told digits exponent
-  where_holds (nat_le micros 1_000_000_000_000_000) (Invalid avp.ValueDigits) micros
+  where_holds (nat_le micros most_money) (Invalid avp.ValueDigits) micros
 
 -- CC-Money in the Requested-Service-Unit of the request (RFC 8506 section 8.22)
 unfoldable pub refund_at : Data → Result Refunded WireFault

@@ -1,6 +1,7 @@
 //! The values of the tests, each made in one place.
 
 ghost use Rattle.std.specs.Prelude.{◌<◌};
+ghost use Rattle.units.specs.Words.{no_end};
 
 use calendar::{Calendar, Entry, Zone};
 use identifiers::SessionId;
@@ -16,7 +17,7 @@ pub(crate) const TEN: u64 = 1_767_607_200;
 
 /// A moment of commands.
 pub(crate) fn moment(rt: &impl Abort, seconds: u64) -> Moment
-    ensures { result < 4_102_444_800 }
+    ensures { result < no_end }
 {
     Moment::of_command(seconds).expect(rt, "a moment of commands")
 }

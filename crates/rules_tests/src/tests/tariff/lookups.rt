@@ -4,6 +4,7 @@
 //! next hour.
 
 ghost use Rattle.std.specs.Prelude.{◌<◌, ◌≤◌};
+ghost use Rattle.units.specs.Words.{no_end};
 
 use crate::tests::tables::{Teller, Words, try_table};
 use crate::tests::tariff::documents::SMALL;
@@ -95,7 +96,7 @@ pub(crate) fn told_of_period(
     at: Moment,
     seconds: u32,
 ) -> String
-    requires at { at < 4_102_444_800 }
+    requires at { at < no_end }
     requires seconds { seconds ≤ 43_200 }
 {
     let Period(period) = book.period_at(at);
@@ -131,7 +132,7 @@ impl Teller for Moments<'_> {
 }
 
 fn told_of_moment(rt: &impl Abort, alloc: Global, book: &TariffBook, at: Moment) -> String
-    requires { at < 4_102_444_800 }
+    requires { at < no_end }
 {
     let period = told_of_period(rt, alloc, book, at, 3600);
     let days = told_of_days(rt, alloc, book, at);
