@@ -243,7 +243,7 @@ impl Purse {
         Ok(self.hold_in(room, group, at, Amount(0), blocks))
     }
 
-    /// Memory for the holds that a later `hold_in` makes; its error is want of memory.
+    /// Memory for the holds that a later `hold_in` makes; its error is lack of memory.
     pub fn room(&self) -> Result<HoldRoom, AllocError>
         ensures { IfOk result (λ room. length self.now ≤ room) }
     {

@@ -13,8 +13,8 @@ use Rattle.calendar.specs.Summer.{IsSummerTime, zone_of_rule}
 use Rattle.calendar.specs.Timetable.{Timetable, IsTimetable, IsEntryAt, period_at, IsChange}
 use Rattle.calendar.specs.Timetable.{switch_within, midnight, day_end}
 
--- the period at a moment is that of any entry that holds its civil minute, wherever in the list it
--- stands
+-- the period at a moment is that of any entry that holds its civil minute, wherever in the
+-- list it is
 abbrev pub IsPeriodOfEntry : Type 0
 IsPeriodOfEntry = (c : Timetable) (t : Moment) (e : Entry) → IsTimetable c → IsEntryAt c t e →
     period_at c t ≡ e.period

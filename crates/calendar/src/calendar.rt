@@ -44,7 +44,7 @@ impl Model for Calendar {
 
 impl Calendar {
     /// The calendar of a zone and the entries of a week; None where there are more than 64, where
-    /// one ends after 24:00, or where some minute of the week stands in no entry or in several.
+    /// one ends after 24:00, or where some minute of the week is in no entry or in several.
     pub fn new(zone: Zone, entries: Vec<Entry>) -> Option<Calendar>
         ensures week { IsSome result ↔ IsWeek entries.items }
         ensures value { result ≡ timetable_of zone entries.items }
@@ -128,7 +128,7 @@ impl Calendar {
     }
 
     /// The tariff switch within a validity from a moment on, and the validity that is granted with
-    /// it, as `next_switch` and `validity_from` tell them, by one walk over the week.
+    /// it, as `next_switch` and `validity_from` give them, by one walk over the week.
     pub fn window_from(&self, moment: Moment, validity: u32) -> Window
         ensures { IsWindow self.now moment validity result }
     {

@@ -20,7 +20,7 @@ inserts_read x value old new r u h is = inserted x (subst (InsertsRead x value o
     inserted (Ok s) h = h.1
     inserted (Err e) h = h.0
 
--- of a route that fits the one error is want of memory
+-- of a route that fits the one error is lack of memory
 pub one_error : (x : Result Scan InsertError) (value : Route) (old new : Rows)
     (r : Result (Unit {0}) InsertError) (e : InsertError) → fits_read x old →
     InsertsRead x value old new r → r ≡ Err e → e ≡ OutOfMemory

@@ -10,11 +10,11 @@ use Rattle.json_fields.specs.declared.fault.WireFault.{WireFault}
 use Rattle.json_fields.specs.declared.fault.WireFault.TheVariants.{Memory}
 use Rattle.json_fields.specs.View.{view}
 
--- what a fault says of reading, where it isn't want of memory
+-- what a fault says of reading, where it isn't lack of memory
 abbrev pub Fails : {Y : Type 0} → WireFault → Result Y WireFault → Type 0
 Fails fault reading = ¬ (fault ≡ Memory) → reading ≡ Err fault
 
--- what a call returned, seen by `view`, is what reading gives; want of memory may come in place of
+-- what a call returned, seen by `view`, is what reading gives; lack of memory may come in place of
 -- it
 abbrev pub Gives : {X Y : Type 0} → (X → Y) → Result X WireFault → Result Y WireFault → Type 0
 Gives view returned reading = GivesUnless Memory view returned reading

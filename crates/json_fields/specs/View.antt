@@ -1,4 +1,4 @@
--- The data that a value with borrowed texts stands for. Of two members of one name the later stays,
+-- The data of a value with borrowed texts. Of two members of one name the later stays,
 -- and a number that is out of range is a float that isn't finite: `document` refuses it.
 use Rattle.std.specs.Prelude.{ℕ, ◌&&◌, List, Bool, true, false, is_some, unwrap_or}
 use Rattle.std.specs.Prelude.{Option, option_and_then}

@@ -103,7 +103,7 @@ abbrev pub AreNumberedFrom : ChargeNumber → List ChargeRow → Type 0
 AreNumberedFrom n [] = Unit {0}
 AreNumberedFrom n (c ∷ cs) = (c.number ≡ n) × AreNumberedFrom (n + 1) cs
 
--- the charges of newer facts stand after those of the older ones, and their numbers go on from the
+-- the charges of newer facts come after those of the older ones, and their numbers go on from the
 -- ledger's next
 pub record GoOn (newer older : Ledger) : Type 0 where
   pub added : List ChargeRow

@@ -81,7 +81,7 @@ pub data Fact : Type 0 where
   Recorded : (session : SessionName) (number : CcRequestNumber) → Fact
   Barred : (barred : Bool) → Fact
 
--- What a fact counts, each kind apart. All else that is told of a fact is read from here, so that a
+-- What a fact counts, each kind apart. All else that is known of a fact is read from here, so a
 -- fact more is a constructor and a line of `counts`.
 pub record Counts : Type 0 where
   pub credit : Option CreditOf
@@ -177,7 +177,7 @@ either (Some a) (Some b) = a || b
 abbrev pub bar_in : Dated → Option Bool
 bar_in d = (counts d.fact).bar
 
--- whether the account is barred: its last bar tells
+-- whether the account is barred: its last bar decides
 abbrev pub is_barred : Ledger → Bool
 is_barred ledger = unwrap_or (newest bar_in ledger) false
 
@@ -305,7 +305,7 @@ held p n (d ∷ older) = hold_of p n d.fact + held (counts_before d.fact p) n ol
 abbrev pub only : SessionName → GroupId → SessionName → GroupId → Bool
 only session group s g = is_same s session && g == group
 
--- what is told of the grant of a session's group: that it was made, or that it is over
+-- what is noted of the grant of a session's group: that it was made, or that it is over
 pub record Telling : Type 0 where
   pub session : SessionName
   pub group : GroupId

@@ -27,7 +27,7 @@ hold_facts t session group [] = []
 hold_facts t session group (h ∷ hs) =
     record { at = t; fact = Hold (hold_for session group h) } ∷ hold_facts t session group hs
 
--- a grant at a moment: by its terms, from where the group's counter in the cycle stands on
+-- a grant at a moment: by its terms, from where the group's counter in the cycle is
 abbrev pub grant_at : Shelf → Moment → SessionName → GroupId → UnitCount → Ledger → GrantOf
 grant_at b t session group units ledger = record {
   session = session;

@@ -38,7 +38,7 @@ pub fn dead_for_good()
     ensures settled { IsDeadSettled }
 {}
 
-/// The charges of newer facts stand after those of the older ones, and their numbers go on from the
+/// The charges of newer facts come after those of the older ones, and their numbers go on from the
 /// ledger's next.
 pub fn charges_go_on()
     ensures { ChargesGoOn }

@@ -340,7 +340,7 @@ told_of texts before after fault.Memory Failed old new unread end same told =
     none_tells texts before after old new IsMemoryFault (λ f memory. inr (inl memory)) same told
 told_of texts before after fault.Memory Unread old new unread end same told = absurd end
 
--- words that say something weren't read only for want of memory
+-- words that say something weren't read only for lack of memory
 pub memory_alone : (texts : List Text) (f : WordsFault) (said : ProgramWords) → IsUnread texts f →
     IsSaid texts said → IsMemory f
 memory_alone texts (fault.Unread error) said unread h =
@@ -408,7 +408,7 @@ nothing_prints bytes said stream old new status same undone = record {
   fault = λ failed. nothing_begun said stream old new same;
 }
 
--- ---- want of memory, and streams
+-- ---- lack of memory, and streams
 
 pub told_stream : (f : StreamFault) (status : Status) (old new : Option (List ℕ)) →
     IsMemoryFault (program.Stream f) ⊎ IsWriteFault (program.Stream f) →

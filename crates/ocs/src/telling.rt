@@ -30,7 +30,7 @@ pub(crate) fn tell_fault<E: Write>(errors: &mut E, fault: ProgramFault) -> Statu
     Status::Failed
 }
 
-/// Reports a fault of a stream, or want of memory.
+/// Reports a fault of a stream, or lack of memory.
 fn tell_stream<E: Write>(errors: &mut E, fault: StreamFault) -> Status
     ensures status { result ≡ Failed }
     ensures told { WritesBeginning (E.contents errors.old) (E.contents errors.new)

@@ -1,4 +1,4 @@
--- Want of memory among the faults of a word.
+-- Lack of memory among the faults of a word.
 -- Source: profile.
 use Rattle.operator.specs.declared.fault.ValueFault.{ValueFault}
 use Rattle.operator.specs.declared.fault.ValueFault.TheVariants.{Memory}

@@ -41,13 +41,13 @@ IsUnread words (Unread error) = IsAmong (kind_of error) (fault_of program_app wo
 IsUnread words Invalid = IsInvalid words
 IsUnread words Memory = Unit {0}
 
--- the fault is this error of `clap`, or want of memory where the error is that
+-- the fault is this error of `clap`, or lack of memory where the error is that
 abbrev pub IsRefusal : Error → WordsFault → Type 0
 IsRefusal error (Unread same) = (same ≡ error) × (kind_of error ≢ OutOfMemory)
 IsRefusal error Invalid = ⊥
 IsRefusal error Memory = kind_of error ≡ OutOfMemory
 
--- an error of `clap` of one of these kinds, or want of memory
+-- an error of `clap` of one of these kinds, or lack of memory
 abbrev pub IsRefused : Kinds → WordsFault → Type 0
 IsRefused kinds (Unread error) = IsAmong (kind_of error) kinds
 IsRefused kinds Invalid = ⊥

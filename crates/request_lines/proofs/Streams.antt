@@ -51,7 +51,7 @@ input_fault read e old new h requests lines = record {
   lines = lines ∙ ap (λ l. l ++ Some e ∷ []) h.lines ∙ sym (map-append fault_of read (Err e ∷ []));
 }
 
--- a fault that isn't want of memory is the line's own
+-- a fault that isn't lack of memory is the line's own
 fails_with : (e : WireFault) (line : Result DatedCommand WireFault) → Fails e line →
     (e ≡ Memory → ⊥) → line ≡ Err e
 fails_with e line h other = h other

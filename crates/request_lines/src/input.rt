@@ -117,7 +117,7 @@ impl Input {
     }
 }
 
-/// The fault of a line; want of memory is none.
+/// The fault of a line; lack of memory is none.
 fn line_fault(fault: WireFault) -> Result<LineFault, AllocError>
     ensures own { IfOk result (λ own. wire_fault own ≡ fault) }
     ensures memory { OnErr result (fault ≡ Memory) }

@@ -201,7 +201,7 @@ pub record Debits (session : SessionName) (group : GroupId) (units : UnitCount) 
 
 -- ---- reservations
 
--- as much is reserved as the funds cover; at an error, which is want of memory, nothing has changed
+-- as much is reserved as the funds cover; at an error, which is lack of memory, nothing has changed
 pub record Reserves (session : SessionName) (group : GroupId) (requested : Option UnitCount)
     (t : Moment) (before after : AccountRows) (result : Result Granted AccountFault) : Type 0 where
   pub rows : IfOk result (λ granted. (ledger : Ledger) → IsRowsOf ledger before →

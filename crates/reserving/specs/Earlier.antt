@@ -27,7 +27,7 @@ abbrev pub earlier_of : Option SessionName → StoredRows → StoredRows
 earlier_of None r = r
 earlier_of (Some s) r = own_stored s r
 
--- what such rows keep: the buckets are sound, no two rows have one key, and they stand in the order
+-- what such rows keep: the buckets are sound, no two rows have one key, and they are in the order
 -- of their keys
 pub record AreEarlier (r : StoredRows) : Type 0 where
   pub sound : IsSound r.buckets

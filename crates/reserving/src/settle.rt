@@ -147,7 +147,7 @@ impl<'b> Account<'b> {
         (LAST_CHARGE as u128) < self.next_charge() as u128 + charges as u128
     }
 
-    /// Makes the rows that a settlement writes to. At a fault, which is want of memory, nothing has
+    /// Makes the rows that a settlement writes to. At a fault, which is lack of memory, nothing has
     /// changed.
     pub(crate) fn make_rows(
         &mut self,

@@ -49,7 +49,7 @@ told_fault ReadFault.Memory = StoreFault.Memory
 told_fault (ReadFault.Store e) = if is_memory e then StoreFault.Memory else StoreFault.Store
 told_fault ReadFault.Rules = StoreFault.Store
 
--- want of memory doesn't count
+-- lack of memory doesn't count
 abbrev pub counted_once : ℕ → StoreFault → ℕ
 counted_once n StoreFault.Memory = n
 counted_once n StoreFault.Store = min (n + 1) max_failures

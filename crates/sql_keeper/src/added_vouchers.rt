@@ -119,7 +119,7 @@ impl<S: Alter> SqlKeeper<S> {
     /// nothing has changed, and whatever a stop leaves is the tables before or with the voucher.
     ///
     /// # Errors
-    /// Want of memory; a fault of the store, which is counted, as is a moment that no command has.
+    /// Lack of memory; a fault of the store, which is counted, as is a moment that no command has.
     pub fn add_voucher(
         &mut self,
         code: VoucherCode,

@@ -249,7 +249,7 @@ impl<S: Alter> SqlKeeper<S> {
     ///
     /// # Errors
     /// `Book`, why the text is no book; `Shelf`, why the book may not follow those of the shelf;
-    /// `Store`, want of memory or a fault of the store, which is counted, as is a shelf that isn't
+    /// `Store`, lack of memory or a fault of the store, which is counted, as is a shelf that isn't
     /// this keeper's, or a moment from the end of all moments on. Where the store can't be asked
     /// any more, `Store` comes before `Shelf`.
     pub fn add_book(

@@ -83,7 +83,7 @@ impl<S: Alter> SqlKeeper<S> {
     /// knows it, so that nothing is read.
     ///
     /// # Errors
-    /// A fault of the store, which is counted, or want of memory.
+    /// A fault of the store, which is counted, or lack of memory.
     pub fn last(&mut self) -> Result<Moment, StoreFault>
         ensures { AsksTables S.Store (λ t moment. moment ≡ t.last) self.old self.new result }
     {
@@ -94,7 +94,7 @@ impl<S: Alter> SqlKeeper<S> {
     /// Whether there is an account of this number.
     ///
     /// # Errors
-    /// A fault of the store, which is counted, or want of memory.
+    /// A fault of the store, which is counted, or lack of memory.
     pub fn has_account(&mut self, account: &AccountNumber) -> Result<bool, StoreFault>
         ensures { AsksTables S.Store (λ t there. there ≡ is_some (t.rows account.now).head)
             self.old self.new result }
@@ -106,7 +106,7 @@ impl<S: Alter> SqlKeeper<S> {
     /// Whether an account has a row of this session, which may be over.
     ///
     /// # Errors
-    /// A fault of the store, which is counted, or want of memory.
+    /// A fault of the store, which is counted, or lack of memory.
     pub fn knows_session(
         &mut self,
         account: &AccountNumber,

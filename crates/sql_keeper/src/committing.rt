@@ -112,7 +112,7 @@ impl<S: Alter> SqlKeeper<S> {
     /// it.
     ///
     /// # Errors
-    /// Want of memory; a fault of the store, which is counted, as is a change that may not be
+    /// Lack of memory; a fault of the store, which is counted, as is a change that may not be
     /// written.
     pub fn commit(&mut self, change: Change) -> Result<(), StoreFault>
         ensures { StoresChange S.Store (changed change)

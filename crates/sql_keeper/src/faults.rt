@@ -1,4 +1,4 @@
-//! Faults of calls: each counts that isn't want of memory.
+//! Faults of calls: each counts that isn't lack of memory.
 
 ghost use Rattle.std.specs.Prelude.{◌≡◌, ◌≤◌, ◌+◌, min};
 ghost use Rattle.keepers.specs.Faults.{HasCause, max_failures};
@@ -21,7 +21,7 @@ fn raise(failures: &mut u64)
     }
 }
 
-/// Whether a statement failed for want of memory.
+/// Whether a statement failed for lack of memory.
 fn is_memory(error: Error) -> bool
     ensures { result ≡ is_memory error }
 {
@@ -31,7 +31,7 @@ fn is_memory(error: Error) -> bool
     }
 }
 
-/// The fault of a call that failed. Where it isn't want of memory it counts: so does a row out of
+/// The fault of a call that failed. Where it isn't lack of memory it counts: so does a row out of
 /// its rules.
 fn fault_of(failures: &mut u64, fault: ReadFault) -> StoreFault
     requires { failures.old ≤ max_failures }
@@ -57,7 +57,7 @@ fn fault_of(failures: &mut u64, fault: ReadFault) -> StoreFault
     }
 }
 
-/// What was read, or the fault of the call, which counts unless it is want of memory.
+/// What was read, or the fault of the call, which counts unless it is lack of memory.
 pub fn counted<T>(failures: &mut u64, read: Result<T, ReadFault>) -> Result<T, StoreFault>
     requires { failures.old ≤ max_failures }
     ensures bounded { failures.new ≤ max_failures }

@@ -138,7 +138,7 @@ impl<S: Alter> SqlKeeper<S> {
     ///
     /// # Errors
     /// A fault of the store, which is counted, as are texts that aren't those of a command and its
-    /// answer; want of memory.
+    /// answer; lack of memory.
     pub fn find_answer(
         &mut self,
         account: &AccountNumber,

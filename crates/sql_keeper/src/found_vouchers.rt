@@ -94,7 +94,7 @@ impl<S: Alter> SqlKeeper<S> {
     /// redeemed it where anyone did; None where none was added.
     ///
     /// # Errors
-    /// A fault of the store, which is counted, as is a row whose terms no voucher can have; want of
+    /// A fault of the store, which is counted, as is a row whose terms no voucher can have; lack of
     /// memory.
     pub fn find_voucher(&mut self, code: &VoucherCode) -> Result<Option<Voucher>, StoreFault>
         ensures { AsksTables S.Store (λ t found. found ≡ t.vouchers code.now)

@@ -65,7 +65,7 @@ fn is_of(kept: &KeptRows, account: &AccountNumber) -> bool
     kept.account == *account
 }
 
-/// A copy of the rows, if they are those of an account; None for want of memory too.
+/// A copy of the rows, if they are those of an account; None for lack of memory too.
 fn copy_if_of(alloc: Global, kept: &KeptRows, account: &AccountNumber) -> Option<LiveRows>
     ensures { (names : Names) (trees : Trees) → Keeps names (Some kept.now) trees →
         IfSome result (AreOf names (rows_in trees account.now)) }
@@ -79,7 +79,7 @@ fn copy_if_of(alloc: Global, kept: &KeptRows, account: &AccountNumber) -> Option
     }
 }
 
-/// A copy of what is kept of an account; None where another is kept, or none, and for want of
+/// A copy of what is kept of an account; None where another is kept, or none, and for lack of
 /// memory.
 pub(crate) fn copy_of_kept(
     alloc: Global,
@@ -116,7 +116,7 @@ fn rows_loaded(alloc: Global, loaded: &Loaded<'_>) -> Result<KeptRows, AllocErro
     })
 }
 
-/// What is kept of an account that is loaded; None for want of memory.
+/// What is kept of an account that is loaded; None for lack of memory.
 fn kept_of(alloc: Global, loaded: &Loaded<'_>) -> Option<KeptRows>
     ensures { (names : Names) (shelf : Shelf) (t : ℕ) (a : List ℕ) (trees : Trees) →
         IsLoadStored names shelf t a (rows_in trees a) (Some loaded.now) →

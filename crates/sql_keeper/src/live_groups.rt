@@ -59,7 +59,7 @@ pub(crate) fn is_none(sessions: &[Session]) -> bool
 /// # Errors
 /// `Rules` where a reservation has no book on the shelf, or its period isn't one of that book's, or
 /// it holds nothing of a bucket, or holds of one that isn't in the purse; else a fault of the
-/// store, or want of memory.
+/// store, or lack of memory.
 pub(crate) fn read_open_sessions<S: Alter>(
     conn: &mut Connection<S>,
     alloc: Global,

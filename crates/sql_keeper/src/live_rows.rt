@@ -376,7 +376,7 @@ pub(crate) fn live_account_of(
 /// the shelf.
 ///
 /// # Errors
-/// `Rules` where the rows are no account's; else a fault of the store, or want of memory.
+/// `Rules` where the rows are no account's; else a fault of the store, or lack of memory.
 pub(crate) fn read_live_account<S: Alter>(
     conn: &mut Connection<S>,
     alloc: Global,

@@ -210,7 +210,7 @@ fn read_rows_within<S: Alter>(
 /// counters; None where there is no account. The periods of reservations have the names of a book.
 ///
 /// # Errors
-/// `Rules` where the rows are no account's; else a fault of the store, or want of memory. Then
+/// `Rules` where the rows are no account's; else a fault of the store, or lack of memory. Then
 /// nothing is committed.
 pub(crate) fn read_uncounted_within<S: Alter>(
     tx: &mut Transaction<'_, S>,

@@ -157,7 +157,7 @@ impl<S: Alter> SqlKeeper<S> {
     ///
     /// # Errors
     /// A fault of the store, which is counted, as are rows that are no account's, or a reservation
-    /// that has no prices on the shelf; want of memory.
+    /// that has no prices on the shelf; lack of memory.
     pub fn load<'b>(
         &mut self,
         shelf: &'b TariffShelf,

@@ -425,7 +425,7 @@ fn opens_unknown(rows: &LiveRows, seen: &Option<SeenAccount>, change: &Change) -
 /// key or among the others, without what can't change any more.
 ///
 /// # Errors
-/// `Rules` where a session is opened of which it wasn't seen that it has no row; want of memory.
+/// `Rules` where a session is opened of which it wasn't seen that it has no row; lack of memory.
 pub(crate) fn rows_over(
     alloc: Global,
     rows: LiveRows,

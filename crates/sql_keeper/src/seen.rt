@@ -84,7 +84,7 @@ pub(crate) fn stands_open(standing: Standing) -> bool
     }
 }
 
-/// A copy of a session's name; None for want of memory.
+/// A copy of a session's name; None for lack of memory.
 fn copy_of(session: &SessionId) -> Option<SessionId>
     ensures { IfSome result (λ s. s ≡ session.now) }
 {
@@ -101,7 +101,7 @@ pub(crate) fn is_open(state: SessionState) -> bool
     state == SessionState::Open
 }
 
-/// The name of a session that is open; None of another one, or for want of memory.
+/// The name of a session that is open; None of another one, or for lack of memory.
 fn open_name(session: &Session) -> Option<SessionId>
     ensures { IfSome result (λ s. (s ≡ session.now.id) × (is_open session.now.state ≡ true)) }
 {
@@ -201,7 +201,7 @@ fn seen_as(account: AccountNumber, rows: &EarlierRows) -> SeenAccount
     }
 }
 
-/// What is seen of the account of these rows; None for want of memory.
+/// What is seen of the account of these rows; None for lack of memory.
 #[tactic(auto, using(crate::proofs::SeenRows::seen_of_copy))]
 fn seen_of(account: &AccountNumber, rows: &EarlierRows) -> Option<SeenAccount>
     ensures { IfSome result (IsSeenOf account.now rows.now) }
@@ -212,7 +212,7 @@ fn seen_of(account: &AccountNumber, rows: &EarlierRows) -> Option<SeenAccount>
     }
 }
 
-/// What is seen of an account that is loaded; None for want of memory.
+/// What is seen of an account that is loaded; None for lack of memory.
 fn seen_loaded(loaded: &Loaded<'_>) -> Option<SeenAccount>
     ensures { (names : Names) (shelf : Shelf) (t : ℕ) (a : List ℕ) (trees : Trees) →
         IsLoadStored names shelf t a (rows_in trees a) (Some loaded.now) → Sees result trees }
@@ -259,7 +259,7 @@ fn is_same_account(one: &AccountNumber, other: &AccountNumber) -> bool
     *one == *other
 }
 
-/// What is seen of an account of which a session has no row; None for want of memory.
+/// What is seen of an account of which a session has no row; None for lack of memory.
 fn unknown_alone(account: &AccountNumber, session: &SessionId) -> Option<SeenAccount>
     ensures { IfSome result (IsUnknownAlone account.now session.now) }
 {

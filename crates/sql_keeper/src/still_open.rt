@@ -11,7 +11,7 @@ use sqlite::{Alter, Connection};
 /// disk shuts it, and nothing else does.
 ///
 /// # Errors
-/// `Store` where it is shut; want of memory.
+/// `Store` where it is shut; lack of memory.
 pub(crate) fn still_open<S: Alter>(conn: &mut Connection<S>) -> Result<(), ReadFault>
     requires idle { HasIdleBook (state S.Store conn.old) }
     ensures { IsStillOpen (state S.Store conn.old) (state S.Store conn.new) result }

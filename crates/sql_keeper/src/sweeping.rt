@@ -190,7 +190,7 @@ impl<S: Alter> SqlKeeper<S> {
     /// memory of all of them are their numbers alone.
     ///
     /// # Errors
-    /// Want of memory; a fault of the store, which is counted, as are rows that are no account's or
+    /// Lack of memory; a fault of the store, which is counted, as are rows that are no account's or
     /// that may not be written.
     pub fn sweep(&mut self, shelf: &TariffShelf, moment: Moment) -> Result<u64, StoreFault>
         ensures { SweepsAll S.Store shelf.now moment self.old self.new result }

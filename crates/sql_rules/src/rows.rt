@@ -183,7 +183,7 @@ fn is_ruled_covered(row: &Row) -> bool
 /// Whether a row is in the rules of the table at this place among those of all versions.
 ///
 /// # Errors
-/// Want of memory, for the texts that are kept of a command alone.
+/// Lack of memory, for the texts that are kept of a command alone.
 pub(crate) fn is_ruled(
     alloc: Global,
     shelf: &TariffShelf,

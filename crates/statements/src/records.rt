@@ -22,7 +22,7 @@ fn record_text(alloc: Global, fields: &[&[u8]]) -> Result<Vec<u8>, Error>
     }
 }
 
-/// The same, where want of memory is the one fault.
+/// The same, where lack of memory is the one fault.
 fn made(alloc: Global, fields: &[&[u8]]) -> Result<Vec<u8>, StreamFault>
     ensures { IfOk result (λ text.
         text.items ≡ row_text default_writer (map (λ f. f.now) fields.now)) }

@@ -1,4 +1,4 @@
--- What a reader answers where reading gives a value: that value, or want of memory.
+-- What a reader answers where reading gives a value: that value, or lack of memory.
 use Rattle.std.proofs.Common.{◌≡◌, Result, Ok, Err, IfOk, IfErr, refl, sym, ap, arith}
 use Rattle.std.specs.Result.{result_ok}
 use Rattle.std.proofs.lemmas.Option.{none-some, same_Some}

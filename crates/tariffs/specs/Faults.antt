@@ -9,7 +9,7 @@ use Rattle.tariffs.specs.declared.fault.BookFault.TheVariants.{TooMany, Memory}
 use Rattle.texts.specs.Steps.{GivesUnless}
 pub use Rattle.texts.specs.Steps.{◌>>=◌, or_fault, where_holds, Says}
 
--- the number under which a fault is told
+-- the number under which a fault is reported
 abbrev pub book_fault_number : BookFault → ℕ
 book_fault_number NotToml = 1
 book_fault_number Missing = 2
@@ -21,7 +21,7 @@ book_fault_number TiersNotRising = 7
 book_fault_number TooMany = 8
 book_fault_number Memory = 9
 
--- what a call returned, seen by `view`, is what reading gives; want of memory may come in place of
+-- what a call returned, seen by `view`, is what reading gives; lack of memory may come in place of
 -- it
 abbrev pub Gives : {X Y : Type 0} → (X → Y) → Result X BookFault → Result Y BookFault → Type 0
 Gives view returned reading = GivesUnless Memory view returned reading

@@ -89,7 +89,7 @@ impl TariffBook {
     /// Reads a book from a TOML document (profile).
     ///
     /// Keys are read in the order `zone`, `currency`, `validity`, `periods`, `week`, `group`,
-    /// arrays in their order, and the first fault is answered; want of memory may be answered in
+    /// arrays in their order, and the first fault is answered; lack of memory may be answered in
     /// place of it.
     pub fn read(alloc: Global, bytes: &[u8]) -> Result<TariffBook, BookFault>
         ensures { ReadsBook bytes.now result }

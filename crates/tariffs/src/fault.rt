@@ -19,7 +19,7 @@ pub enum BookFault {
     /// A value is of another kind than its key's.
     #[error("a value is of the wrong kind")]
     WrongKind,
-    /// A value is outside its key's range, or stands twice where values are distinct.
+    /// A value is outside its key's range, or comes twice where values are distinct.
     #[error("a value is out of range")]
     OutOfRange,
     /// A name is not one of the book's periods.

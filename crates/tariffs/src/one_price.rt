@@ -10,7 +10,7 @@ use crate::fault::BookFault;
 use std::alloc::{AllocError, Global};
 
 /// The book of one price (profile): rating group 10 in seconds, `price` micro-units a block of
-/// `block` seconds in every minute of the week. Its document is a book's, so its error is want of
+/// `block` seconds in every minute of the week. Its document is a book's, so its error is lack of
 /// memory.
 pub fn once_book(alloc: Global, price: u64, block: u64) -> Result<TariffBook, AllocError>
     requires price { price ≤ greatest_price }

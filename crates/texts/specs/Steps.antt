@@ -32,7 +32,7 @@ abbrev pub Says : {F X Y : Type 0} → (X → Y) → Result X F → Result Y F �
 Says view (Ok x) reading = reading ≡ Ok (view x)
 Says view (Err fault) reading = reading ≡ Err fault
 
--- the same, but this fault, want of memory, may come in place of what reading says
+-- the same, but this fault, lack of memory, may come in place of what reading says
 abbrev pub GivesUnless : {F X Y : Type 0} → F → (X → Y) → Result X F → Result Y F → Type 0
 GivesUnless memory view (Ok x) reading = reading ≡ Ok (view x)
 GivesUnless memory view (Err fault) reading = ¬ (fault ≡ memory) → reading ≡ Err fault

@@ -1,4 +1,4 @@
--- What adding a voucher comes to, over what stands under its code.
+-- What adding a voucher comes to, over what is under its code.
 -- Source: profile.
 use Rattle.std.specs.Prelude.{Bool, Option, Some, None, if◌then◌else◌}
 use Rattle.voucher_rules.specs.declared.terms.VoucherTerms.{VoucherTerms}
@@ -19,7 +19,7 @@ abbrev pub addition : Option Voucher → VoucherTerms → Addition
 addition None terms = New (unspent terms)
 addition (Some voucher) terms = if same_terms voucher.terms terms then Present else Conflicting
 
--- what stands under the code afterwards
+-- what is under the code afterwards
 abbrev pub after_addition : Addition → Option Voucher → Option Voucher
 after_addition (New voucher) found = Some voucher
 after_addition Present found = found

@@ -24,18 +24,18 @@ code_of (Redeems code account t) = code
 abbrev pub is_about : VoucherCode → VoucherCommand → Bool
 is_about code c = same_name (code_of c) code
 
--- what stands under its code after a command
+-- what is under its code after a command
 abbrev pub after_command : DayEnds → VoucherCommand → Option Voucher → Option Voucher
 after_command day_end (Adds code terms) found = after_addition (addition found terms) found
 after_command day_end (Redeems code account t) found =
     after_redemption (redemption day_end found account t) found
 
--- it redeems what stands under its code
+-- it redeems what is under its code
 abbrev pub is_redeeming : DayEnds → VoucherCommand → Option Voucher → Bool
 is_redeeming day_end (Adds code terms) found = false
 is_redeeming day_end (Redeems code account t) found = is_ok (redemption day_end found account t)
 
--- what stands under each code
+-- what is under each code
 abbrev pub Vouchers : Type 0
 Vouchers = VoucherCode → Option Voucher
 

@@ -1,4 +1,4 @@
--- What redeeming a voucher comes to, over what stands under its code.
+-- What redeeming a voucher comes to, over what is under its code.
 -- Source: profile.
 use Rattle.std.specs.Prelude.{◌≡◌, ◌↔◌, Option, Some, None, Result, Ok, Err, IsSomeAnd, nat_lt}
 use Rattle.std.specs.Prelude.{if◌then◌else◌, IsErrOf, IsTrue}
@@ -67,7 +67,7 @@ pub record Redeems (day_end : DayEnds) (found : Option Voucher) (account : Accou
   pub spent : IsErrOf result VoucherSpent ↔ IsTrue (is_spent found)
   pub late : IsErrOf result EndOutOfRange ↔ EndsTooLate day_end found t
 
--- what stands under the code afterwards
+-- what is under the code afterwards
 abbrev pub after_redemption : Result Redemption RedeemRefusal → Option Voucher → Option Voucher
 after_redemption (Ok redeemed) found = Some redeemed.voucher
 after_redemption (Err refusal) found = found

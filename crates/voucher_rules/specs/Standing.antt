@@ -1,4 +1,4 @@
--- What stands under the code of a voucher: the voucher as it was added, or as an account redeemed
+-- What is under the code of a voucher: the voucher as it was added, or as an account redeemed
 -- it; nothing where none was added.
 -- Source: profile.
 use Rattle.std.specs.Prelude.{Bool, false, Option, Some, None, is_some}

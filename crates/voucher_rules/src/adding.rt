@@ -6,7 +6,7 @@ ghost use Rattle.voucher_rules.specs.Adding.{addition, same_terms};
 use crate::terms::VoucherTerms;
 use crate::voucher::Voucher;
 
-/// What adding a voucher comes to, over what stands under its code.
+/// What adding a voucher comes to, over what is under its code.
 #[derive(Drop)]
 pub enum Addition {
     /// Nothing stood there: this voucher does, from now on.
@@ -26,7 +26,7 @@ fn same_terms(one: VoucherTerms, other: VoucherTerms) -> bool
     one == other
 }
 
-/// Adds a voucher of these terms, over what stands under its code: a voucher, or nothing.
+/// Adds a voucher of these terms, over what is under its code: a voucher, or nothing.
 pub fn add(found: &Option<Voucher>, terms: VoucherTerms) -> Addition
     ensures value { result ≡ addition found.now terms }
     ensures present { IfSome found.now

@@ -21,7 +21,7 @@ pub fn standing_for_good()
     ensures { StandsForGood }
 {}
 
-/// What stands under a code is what the commands about that code alone leave of it.
+/// What is under a code is what the commands about that code alone leave of it.
 pub fn codes_apart()
     ensures { CodesAreApart }
 {}

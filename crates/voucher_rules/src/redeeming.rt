@@ -22,7 +22,7 @@ pub enum RedeemRefusal {
     EndOutOfRange,
 }
 
-/// What a redemption comes to: the terms of the credit, and what stands under the code afterwards.
+/// What a redemption comes to: the terms of the credit, and what is under the code afterwards.
 #[derive(Drop)]
 pub struct Redemption {
     /// The amount that the account is credited.
@@ -37,7 +37,7 @@ pub struct Redemption {
     pub voucher: Voucher,
 }
 
-/// Redeems a voucher for an account at a moment, over what stands under its code: the voucher, or
+/// Redeems a voucher for an account at a moment, over what is under its code: the voucher, or
 /// nothing. Its days are those of this calendar.
 ///
 /// The credit can still be refused where the account has no number left for a bucket (`O6` too):

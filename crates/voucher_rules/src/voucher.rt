@@ -3,7 +3,7 @@
 use crate::terms::VoucherTerms;
 use identifiers::AccountNumber;
 
-/// What stands under the code of a voucher that was added.
+/// What is under the code of a voucher that was added.
 #[derive(Clone)]
 pub struct Voucher {
     /// What it says.

@@ -16,7 +16,7 @@ voucher_fault_number Scope = 6
 voucher_fault_number Read = 7
 voucher_fault_number Memory = 8
 
--- the fault is in the file itself; the others are the reader's, and want of memory
+-- the fault is in the file itself; the others are the reader's, and lack of memory
 abbrev pub is_in_file : FaultKind → Bool
 is_in_file Header = true
 is_in_file FieldCount = true

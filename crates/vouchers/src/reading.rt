@@ -17,7 +17,7 @@ use csv::{ByteRecord, Error, Reader, ReaderBuilder};
 use std::alloc::Global;
 use std::io::Read;
 
-/// Whose an error of reading a record is: the reader's, or want of memory.
+/// Whose an error of reading a record is: the reader's, or lack of memory.
 fn kind_of(error: &Error) -> FaultKind
     ensures { result ≡ if is_io (error_kind error.now) then Read else Memory }
 {

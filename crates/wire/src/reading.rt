@@ -192,7 +192,7 @@ fn answer(alloc: Global, bytes: &[u8]) -> Result<Answer, WireFault>
     answered(alloc, &parent)
 }
 
-/// Want of memory is reported, and no other fault of a text.
+/// Lack of memory is reported, and no other fault of a text.
 fn told(fault: WireFault) -> WireFault
     ensures memory { fault ≡ WireFault.Memory → result ≡ WireFault.Memory }
     ensures other { (result ≡ WireFault.Memory) ⊎ (result ≡ WireFault.NotRequest) }

@@ -65,7 +65,7 @@ holders a d = d ∷ []
 
 -- ---- what is reported of them
 
--- of an object neither want of memory nor another document is reported
+-- of an object neither lack of memory nor another document is reported
 abbrev pub IsRequestFaultTold : Data → WireFault → Type 0
 IsRequestFaultTold d (Missing a) = list_any (λ h. is_none (get (name_of a) h)) (holders a d) ≡ true
 IsRequestFaultTold d (Invalid a) = list_any (λ h. is_some (get (name_of a) h)) (holders a d) ≡ true
