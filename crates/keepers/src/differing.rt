@@ -19,9 +19,7 @@ use reserving::{Counter, EarlierRows, Reservation, Session, SessionGroup, Sessio
 pub(crate) fn is_new_bucket(before: &EarlierRows, cursor: &mut usize, row: &Bucket) -> bool
     ensures { result ≡ not (list_any (equal_bucket row.now) before.now.buckets) }
 {
-    // For the prover alone: looking at the value makes known here what its type keeps.
-    let _kept = before.as_of();
-    let rows = before.purse().buckets();
+    let rows = before.rows().purse.buckets();
     let place = *cursor;
     if place < rows.len() {
         let old = &rows[place];
@@ -41,8 +39,7 @@ pub(crate) fn is_new_bucket(before: &EarlierRows, cursor: &mut usize, row: &Buck
 pub(crate) fn is_new_counter(before: &EarlierRows, cursor: &mut usize, row: &Counter) -> bool
     ensures { result ≡ not (list_any (equal_counter row.now) before.now.counters) }
 {
-    let _kept = before.as_of();
-    let rows = before.counters();
+    let rows = before.rows().counters.as_slice();
     let place = *cursor;
     if place < rows.len() {
         let old = counter_at(rows, place);
@@ -62,8 +59,7 @@ pub(crate) fn is_new_counter(before: &EarlierRows, cursor: &mut usize, row: &Cou
 pub(crate) fn is_new_session(before: &EarlierRows, cursor: &mut usize, row: &Session) -> bool
     ensures { result ≡ not (list_any (equal_session row.now) before.now.sessions) }
 {
-    let _kept = before.as_of();
-    let rows = before.sessions();
+    let rows = before.rows().sessions.as_slice();
     let place = *cursor;
     if place < rows.len() {
         let old = &rows[place];
@@ -83,8 +79,7 @@ pub(crate) fn is_new_session(before: &EarlierRows, cursor: &mut usize, row: &Ses
 pub(crate) fn is_new_group(before: &EarlierRows, cursor: &mut usize, row: &SessionGroup) -> bool
     ensures { result ≡ not (list_any (equal_group row.now) before.now.groups) }
 {
-    let _kept = before.as_of();
-    let rows = before.groups();
+    let rows = before.rows().groups.as_slice();
     let place = *cursor;
     if place < rows.len() {
         let old = &rows[place];

@@ -292,7 +292,7 @@ fn changed_sessions(
         (own_sessions session.now after.now.sessions)) }
 {
     // For the prover alone: looking at the values makes known here what their types keep.
-    let _before = before.as_of();
+    let _before = before.rows();
     let _kept = after.as_of();
     changed_session(alloc, before.session(session), after.session(session))
 }

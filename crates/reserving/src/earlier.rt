@@ -3,6 +3,7 @@
 ghost use Rattle.std.specs.Prelude.{◌≡◌, IfOk, option_copied};
 ghost use Rattle.reserving.specs.Earlier.{AreEarlier, rows_in, own_stored, earlier_of};
 ghost use Rattle.reserving.specs.Others.{own_sessions, own_groups};
+ghost use Rattle.reserving.specs.Restored.{given};
 ghost use Rattle.reserving.specs.Rows.{AreApart, AreAscending, AreInKeyOrder};
 ghost use Rattle.reserving.specs.Sessions.{is_session, session_before, session_in};
 ghost use Rattle.reserving.specs.Stored.{stored};
@@ -11,13 +12,12 @@ use crate::account::Account;
 use crate::copy::{copy_of_counters, copy_of_purse};
 use crate::kept_rows::KeptRows;
 use crate::own_rows::own_groups;
+use crate::restoring::GivenRows;
 use crate::searching::session_row;
-use crate::session::{Counter, Session, SessionGroup};
-use buckets::Purse;
+use crate::session::{Session, SessionGroup};
 use identifiers::SessionId;
 use std::alloc::{AllocError, Global};
 use std::marker::Model;
-use units::Moment;
 
 /// The rows of an account as they were before a command: all of them, or those of one session with
 /// the buckets and counters, where the command leaves each other session's as they are.
@@ -25,56 +25,28 @@ use units::Moment;
 /// Contracts see a record of the rows.
 #[derive(Drop)]
 pub struct EarlierRows {
-    pub(crate) rows: KeptRows,
+    pub(crate) rows: GivenRows,
 }
 
 impl Model for EarlierRows {
     ghost use Rattle.reserving.specs.Earlier.{AreEarlier};
-    ghost use Rattle.reserving.specs.Inside.{stored_of};
+    ghost use Rattle.reserving.specs.Restored.{given};
     ghost use Rattle.reserving.specs.Stored.{StoredRows};
 
     ghost Value = { StoredRows };
 
-    ghost view = { λ e. stored_of e.rows };
+    ghost view = { λ e. given e.rows };
 
-    ghost invariant = { λ e. AreEarlier (stored_of e.rows) };
+    ghost invariant = { λ e. AreEarlier (given e.rows) };
 }
 
 impl EarlierRows {
-    /// The moment of the account's last change.
-    pub fn as_of(&self) -> Moment
-        ensures value { result ≡ self.now.as_of }
+    /// The rows.
+    pub fn rows(&self) -> &GivenRows
+        ensures value { given result.now ≡ self.now }
         ensures kept { AreEarlier self.now }
     {
-        self.rows.as_of
-    }
-
-    /// Whether the account was barred (profile).
-    pub fn is_barred(&self) -> bool
-        ensures { result ≡ self.now.barred }
-    {
-        self.rows.barred
-    }
-
-    /// The account's purse.
-    pub fn purse(&self) -> &Purse
-        ensures { result.now ≡ self.now.buckets }
-    {
-        &self.rows.purse
-    }
-
-    /// The account's counters.
-    pub fn counters(&self) -> &[Counter]
-        ensures { result.now ≡ self.now.counters }
-    {
-        self.rows.counters.as_slice()
-    }
-
-    /// Its sessions and recorded events.
-    pub fn sessions(&self) -> &[Session]
-        ensures { result.now ≡ self.now.sessions }
-    {
-        self.rows.sessions.as_slice()
+        &self.rows
     }
 
     /// The row of a session: a binary search.
@@ -84,32 +56,11 @@ impl EarlierRows {
         session_row(&self.rows.sessions, id)
     }
 
-    /// What its sessions have of rating groups.
-    pub fn groups(&self) -> &[SessionGroup]
-        ensures { result.now ≡ self.now.groups }
-    {
-        self.rows.groups.as_slice()
-    }
-
     /// What one session has of rating groups, in their order: found by halves.
     pub fn groups_of(&self, session: &SessionId) -> &[SessionGroup]
         ensures { result.now ≡ own_groups session.now self.now.groups }
     {
         own_groups(&self.rows.groups, session)
-    }
-
-    /// The number of the account's next bucket.
-    pub fn next_bucket(&self) -> u64
-        ensures { result ≡ self.now.next_bucket }
-    {
-        self.rows.next_bucket
-    }
-
-    /// The number of the account's next charge.
-    pub fn next_charge(&self) -> u64
-        ensures { result ≡ self.now.next_charge }
-    {
-        self.rows.next_charge
     }
 }
 
@@ -133,7 +84,7 @@ impl<'b> Account<'b> {
     fn earlier_all(&self) -> Result<EarlierRows, AllocError>
         ensures { IfOk result (λ rows. rows ≡ stored self.now) }
     {
-        let rows = self.rows.copy()?;
+        let rows = self.rows.copy()?.into_given();
         Ok(EarlierRows { rows })
     }
 
@@ -150,14 +101,14 @@ impl KeptRows {
     ghost use Rattle.reserving.specs.Inside.{stored_of};
 
     /// The rows of one session once more, with the buckets and counters.
-    fn copy_own(&self, session: &SessionId) -> Result<KeptRows, AllocError>
+    fn copy_own(&self, session: &SessionId) -> Result<GivenRows, AllocError>
         requires order { AreInKeyOrder self.now.sessions.items self.now.groups.items
             self.now.counters.items }
         requires apart { AreApart (λ x y. is_session x.id y) self.now.sessions.items }
         ensures { IfOk result
-            (λ copy. stored_of copy ≡ own_stored session.now (stored_of self.now)) }
+            (λ copy. given copy ≡ own_stored session.now (stored_of self.now)) }
     {
-        Ok(KeptRows {
+        Ok(GivenRows {
             as_of: self.as_of,
             barred: self.barred,
             purse: copy_of_purse(&self.purse)?,
@@ -166,7 +117,6 @@ impl KeptRows {
             groups: copy_of_groups(self.alloc, own_groups(&self.groups, session))?,
             next_bucket: self.next_bucket,
             next_charge: self.next_charge,
-            alloc: self.alloc,
         })
     }
 }

@@ -53,8 +53,8 @@ fn copied(alloc: Global, rows: &LiveRows) -> Result<LiveRows, AllocError>
 {
     Ok(LiveRows {
         purse: copy_of_purse(&rows.purse)?,
-        sessions: copy_of_sessions(alloc, &rows.sessions)?,
-        groups: copy_of_groups(alloc, &rows.groups)?,
+        sessions: copy_of_sessions(alloc, rows.sessions.as_slice())?,
+        groups: copy_of_groups(alloc, rows.groups.as_slice())?,
     })
 }
 
@@ -99,10 +99,11 @@ pub(crate) fn copy_of_kept(
 fn rows_of(alloc: Global, account: &EarlierRows) -> Result<LiveRows, AllocError>
     ensures { IfOk result (AreTaken account.now) }
 {
+    let rows = account.rows();
     Ok(LiveRows {
-        purse: copy_of_purse(account.purse())?,
-        sessions: copy_of_sessions(alloc, account.sessions())?,
-        groups: copy_of_groups(alloc, account.groups())?,
+        purse: copy_of_purse(&rows.purse)?,
+        sessions: copy_of_sessions(alloc, rows.sessions.as_slice())?,
+        groups: copy_of_groups(alloc, rows.groups.as_slice())?,
     })
 }
 

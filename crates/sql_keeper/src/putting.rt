@@ -32,11 +32,12 @@ use units::Moment;
 pub(crate) fn head_of(rows: &EarlierRows) -> HeadColumns
     ensures { result ≡ head_columns_of rows.now }
 {
+    let rows = rows.rows();
     HeadColumns {
-        barred: rows.is_barred(),
-        as_of: rows.as_of(),
-        next_bucket: rows.next_bucket(),
-        next_charge: rows.next_charge(),
+        barred: rows.barred,
+        as_of: rows.as_of,
+        next_bucket: rows.next_bucket,
+        next_charge: rows.next_charge,
     }
 }
 

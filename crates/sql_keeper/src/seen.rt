@@ -190,8 +190,9 @@ fn grant_seen(groups: &[SessionGroup], live: &Option<SessionId>) -> Option<SeenG
 fn seen_as(account: AccountNumber, rows: &EarlierRows) -> SeenAccount
     ensures { IsSeenOf account rows.now result }
 {
-    let live = first_open(rows.sessions());
-    let grant = grant_seen(rows.groups(), &live);
+    let given = rows.rows();
+    let live = first_open(given.sessions.as_slice());
+    let grant = grant_seen(given.groups.as_slice(), &live);
     SeenAccount {
         account,
         head: Some(head_of(rows)),

@@ -1,6 +1,7 @@
 use Rattle.std.proofs.Common.{◌≡◌, ◌<◌, List, length, get_or, sym, ap, subst, ◌∙◌}
 use Rattle.std.specs.Prelude.{not}
 use Rattle.buckets.specs.Row.{BucketRow}
+use Rattle.reserving.specs.Stored.{StoredRows}
 use Rattle.keepers.specs.Differing.{equal_bucket}
 use Rattle.keepers.specs.Keyed.{same_bucket}
 use Rattle.keepers.proofs.Equal.{bucket_from}
@@ -12,7 +13,8 @@ pub returns-then-same_bucket : goal.returns-then-same_bucket
 returns-then-same_bucket c =
     let old : BucketRow = c.index-rows-place.result in
     let xs : List BucketRow = c.args.before.now.buckets in
-    let rows : c.buckets-rows.result.now ≡ xs = c.buckets-rows.ensures.value ∙ c.purse.ensures in
+    let rows : c.buckets-rows.result.now ≡ xs = c.buckets-rows.ensures.value
+    ∙ ap (λ (w : StoredRows). w.buckets) c.rows.ensures.value in
     let less = subst (λ (zs : List BucketRow). c.args.cursor.now < length zs) rows
     c.if-place-rows.true in
     let is : old ≡ get_or xs c.args.cursor.now old = c.index-rows-place.is
@@ -20,7 +22,7 @@ returns-then-same_bucket c =
     sym
     (ap not (new_at same_bucket equal_bucket turn_bucket bucket_from c.args.row.now xs
     c.args.cursor.now old less
-    (distinct_apart c.args.before.now.buckets c.as_of-kept.ensures.kept.sound.distinct)
+    (distinct_apart c.args.before.now.buckets c.rows.ensures.kept.sound.distinct)
     (ap (λ (z : BucketRow). same_bucket z c.args.row.now) (sym is) ∙ sym c.same_bucket.ensures
     ∙ c.if-same_bucket.true)
     (ap (equal_bucket c.args.row.now) (sym is) ∙ sym c.equal_bucket.ensures
