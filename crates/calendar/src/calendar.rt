@@ -2,7 +2,7 @@
 
 ghost use Rattle.std.specs.Prelude.{◌≡◌, ◌↔◌, ◌≤◌, ◌<◌, ◌^◌, ◌+◌, ◌*◌, ◌-◌, Some, IsSome};
 ghost use Rattle.std.specs.Prelude.{IfSome};
-ghost use Rattle.units.specs.Words.{latest_moment};
+ghost use Rattle.units.specs.Words.{latest_moment, longest_validity};
 ghost use Rattle.calendar.specs.Week.{IsWeek};
 ghost use Rattle.calendar.specs.Timetable.{timetable_of, IsTimetable, period_at, IsEntryAt};
 ghost use Rattle.calendar.specs.Timetable.{IsChange, IsWindow, switch_within};
@@ -76,7 +76,7 @@ impl Calendar {
     /// moment. At most 43,200 seconds are asked for, up to the last moment that the type has: each
     /// moment of a command has that many after it.
     pub fn next_switch(&self, moment: Moment, seconds: u32) -> Option<Moment>
-        requires seconds { seconds ≤ 43_200 }
+        requires seconds { seconds ≤ longest_validity }
         requires in_range { moment + seconds ≤ latest_moment }
         ensures { result ≡ switch_within self.now moment seconds }
     {
@@ -91,7 +91,7 @@ impl Calendar {
         seconds: u32,
         steps: &mut Steps,
     ) -> Option<Moment>
-        requires seconds { seconds ≤ 43_200 }
+        requires seconds { seconds ≤ longest_validity }
         requires in_range { moment + seconds ≤ latest_moment }
         requires steps { steps.old ≤ 1_000_000_000 }
         ensures value { result ≡ switch_within self.now moment seconds }
@@ -110,7 +110,7 @@ impl Calendar {
         requires steps { steps.old ≤ 1_000_000_000 }
         ensures value { result ≡ switch_within self.now start seconds }
         ensures found { IfSome result (IsChange self.now start (start + seconds)) }
-        ensures steps { seconds ≤ 43_200 → steps.new ≤ steps.old + 258 }
+        ensures steps { seconds ≤ longest_validity → steps.new ≤ steps.old + 258 }
     {
         let end = start + u64::from(seconds);
         let mut at = 60 * (start / 60);

@@ -5,7 +5,7 @@ ghost use Rattle.std.specs.Prelude.{ℤ, length, nat_le, pos, ◌+ℤ◌, ◌*�
 ghost use Rattle.jiff.specs.Words.{epoch_day, IsWithin};
 ghost use Rattle.jiff.specs.Types.{Date};
 ghost use Rattle.std.specs.List.{prefix_len};
-ghost use Rattle.units.specs.Words.{latest_moment};
+ghost use Rattle.units.specs.Words.{latest_moment, widest_offset};
 ghost use Rattle.calendar.specs.Clock.{IsZone, IsLead, AreApart, minutes_ahead, lead};
 ghost use Rattle.calendar.specs.Clock.{lead_after, next_after, next_change, clock, day};
 ghost use Rattle.calendar.specs.Months.{month};
@@ -124,7 +124,7 @@ impl Zone {
     /// The zone whose clock is always this many minutes ahead of UTC; None beyond 14 hours either
     /// way. It takes no memory.
     pub fn fixed(alloc: Global, minutes: i16) -> Option<Zone>
-        ensures in_range { IsSome result ↔ IsWithin 840 minutes }
+        ensures in_range { IsSome result ↔ IsWithin widest_offset minutes }
         ensures value { IfSome result (λ z. z ≡ minutes_ahead minutes) }
     {
         if minutes < -840 || 840 < minutes {

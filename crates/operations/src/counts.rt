@@ -2,6 +2,7 @@
 
 ghost use Rattle.std.specs.Prelude.{◌≡◌, ◌<◌, string_bytes, IfOk};
 ghost use Rattle.operations.specs.Counts.{counted_as, counts_text, no_counts, total};
+ghost use Rattle.units.specs.Words.{most_of_64_bits};
 
 use std::alloc::{AllocError, Global};
 use voucher_rules::Addition;
@@ -31,7 +32,7 @@ pub(crate) fn no_counts() -> Counts
 
 /// The counts with one voucher more, of which this became.
 pub(crate) fn count_one(counts: Counts, addition: Addition) -> Counts
-    requires { total counts < 18_446_744_073_709_551_615 }
+    requires { total counts < most_of_64_bits }
     ensures { result ≡ counted_as addition counts }
 {
     match addition {

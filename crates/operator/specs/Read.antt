@@ -3,11 +3,13 @@
 use Rattle.std.specs.Prelude.{◌≡◌, ◌≢◌, ℕ, ◌≤◌, List, [], map, Option, IfSome, Ok, Err}
 use Rattle.std.specs.Borrow.{Bor}
 use Rattle.units.specs.Words.{Moment, latest_command, greatest_price, most_granted}
+use Rattle.units.specs.Words.{most_of_16_bits}
 use Rattle.clap.specs.Values.{kind_of}
 use Rattle.clap.specs.Words.{IsAmong, Kinds, Text, fault_of, subcommand_of}
 use Rattle.operator.specs.Office.{IsOfficeCommandInRange}
 use Rattle.operator.specs.Program.{program_app}
 use Rattle.operator.specs.Said.{said_by}
+use Rattle.operator.specs.Values.{most_connections}
 use Rattle.clap.specs.declared.error.Error.{Error}
 use Rattle.clap.specs.declared.error.kind.ErrorKind.TheVariants.{OutOfMemory}
 use Rattle.operator.specs.declared.fault.ValueFault.TheVariants as value
@@ -67,8 +69,8 @@ pub record IsOnceInRange (once : OnceWords) : Type 0 where
   pub block : once.block ≤ most_granted
 
 pub record IsServeInRange (serve : ServeWords) : Type 0 where
-  pub port : (1 ≤ serve.port) × (serve.port ≤ 65_535)
-  pub connections : (1 ≤ serve.connections) × (serve.connections ≤ 1_000_000)
+  pub port : (1 ≤ serve.port) × (serve.port ≤ most_of_16_bits)
+  pub connections : (1 ≤ serve.connections) × (serve.connections ≤ most_connections)
   pub at : IsAtInRange serve.at
 
 -- a book holds from a moment of a command on

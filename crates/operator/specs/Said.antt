@@ -1,13 +1,13 @@
 -- What the words of a command say, by what `clap` finds for its operands and options.
 -- Source: profile.
 use Rattle.std.specs.Prelude.{List, Option, Some, None, Result, Ok, Err, codes}
-use Rattle.units.specs.Words.{most_money, greatest_price, most_granted}
+use Rattle.units.specs.Words.{most_money, greatest_price, most_granted, most_of_16_bits}
 use Rattle.clap.specs.Words.{Row, Text}
 use Rattle.texts.specs.Steps.{◌>>=◌, or_fault}
 use Rattle.operator.specs.Office.{office_command_said}
 use Rattle.operator.specs.Program.{command_named}
 use Rattle.operator.specs.Values.{account_of, at_of, database_of, from_of, has_flag, month_at}
-use Rattle.operator.specs.Values.{number_at, path_at}
+use Rattle.operator.specs.Values.{most_connections, number_at, path_at}
 use Rattle.operator.specs.declared.fault.ValueFault.{ValueFault}
 use Rattle.operator.specs.declared.fault.ValueFault.TheVariants.{Invalid}
 use Rattle.operator.specs.declared.office.OfficeName.{OfficeName}
@@ -53,8 +53,8 @@ book_said rows = do
 unfoldable pub serve_said : List Row → Result ServeWords ValueFault
 serve_said rows = do
   database ← database_of rows
-  port ← number_at 1 65_535 (codes "port") rows
-  connections ← number_at 1 1_000_000 (codes "connections") rows
+  port ← number_at 1 most_of_16_bits (codes "port") rows
+  connections ← number_at 1 most_connections (codes "connections") rows
   at ← at_of rows
   Ok (record { database = database; port = port; connections = connections; at = at })
 

@@ -14,6 +14,10 @@ use Rattle.operator.specs.Paths.{is_file_path}
 use Rattle.operator.specs.declared.fault.ValueFault.{ValueFault}
 use Rattle.operator.specs.declared.fault.ValueFault.TheVariants.{Invalid}
 
+-- how many connections may be served at once
+abbrev pub most_connections : ℕ
+most_connections = 1_000_000
+
 -- the word of an operand or an option
 abbrev pub word : Text → List Row → Result Text ValueFault
 word id rows = or_fault Invalid (first_of id rows)

@@ -6,6 +6,7 @@ use Rattle.std.specs.Prelude.{ℕ, ◌&&◌, ◌||◌, Bool, true, List, [], ◌
 use Rattle.std.specs.Prelude.{nat_lt, slice_index_or}
 use Rattle.std.specs.List.{list_any}
 use Rattle.units.specs.Words.{no_end, latest_command, greatest_number, most_used, most_counted}
+use Rattle.units.specs.Words.{most_days}
 use Rattle.identifiers.specs.Texts.{is_account_number, is_reference, is_session_id}
 use Rattle.identifiers.specs.Texts.{is_voucher_code}
 use Rattle.tariffs.specs.Names.{period_named}
@@ -107,7 +108,7 @@ is_ruled_answer row =
 abbrev pub is_ruled_voucher : Row → Bool
 is_ruled_voucher row =
     is_voucher_code (text_at row 1) && is_some_money (number_at row 2)
-    && is_optional_within 1 3650 (column row 3)
+    && is_optional_within 1 most_days (column row 3)
     && is_optional_within 0 greatest_number (column row 4)
 
 abbrev pub is_ruled_charge : Row → Bool

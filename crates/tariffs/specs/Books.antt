@@ -1,7 +1,7 @@
 -- A tariff book, and the book of a document.
 use Rattle.std.specs.Prelude.{◌≡◌, ℕ, ◌<◌, ◌≤◌, List, length, Some, Result, Ok, All, IsUtf8, codes}
 use Rattle.std.specs.Prelude.{Err, IfOk}
-use Rattle.units.specs.Words.{Seconds, CurrencyNumber}
+use Rattle.units.specs.Words.{Seconds, CurrencyNumber, longest_validity, greatest_currency}
 use Rattle.toml.specs.Data.{Members}
 use Rattle.toml.specs.Parse.{parse_document}
 use Rattle.calendar.specs.Timetable.{Timetable, IsTimetable, timetable_of}
@@ -30,9 +30,9 @@ pub record IsBook (b : Book) : Type 0 where
   pub zone : zone_in b.zone_text ≡ Some b.calendar.zone
   pub week : IsTimetable b.calendar
   pub some_currency : 1 ≤ b.currency
-  pub currency : b.currency ≤ 999
+  pub currency : b.currency ≤ greatest_currency
   pub some_validity : 60 ≤ b.validity
-  pub validity : b.validity ≤ 43_200
+  pub validity : b.validity ≤ longest_validity
   pub periods : ArePeriods b.periods
   pub entries : All (λ e. e.period.0 < length b.periods) b.calendar.entries
   pub some_tariffs : 1 ≤ length b.tariffs
@@ -46,8 +46,8 @@ unfoldable pub book_of : Members → Result Book BookFault
 book_of t = do
   zone ← zone_of t
   zone_text ← text_of (codes "zone") t
-  currency ← number_in (codes "currency") 1 999 t
-  validity ← number_in (codes "validity") 60 43_200 t
+  currency ← number_in (codes "currency") 1 greatest_currency t
+  validity ← number_in (codes "validity") 60 longest_validity t
   periods ← names_of t
   entries ← entries_of periods t
   calendar ← or_fault WeekNotCovered (timetable_of zone entries)

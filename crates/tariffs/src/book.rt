@@ -3,7 +3,7 @@
 ghost use Rattle.std.specs.Prelude.{◌≡◌, ◌==◌, ◌+◌, ◌<◌, ◌≤◌, nat_lt};
 ghost use Rattle.std.specs.Prelude.{length, find, slice_get, option_copied, IfSome};
 ghost use Rattle.std.specs.Prelude.{IfNone, Ok, Err, All};
-ghost use Rattle.units.specs.Words.{latest_moment};
+ghost use Rattle.units.specs.Words.{latest_moment, longest_validity};
 ghost use Rattle.toml.specs.View.{table_view};
 ghost use Rattle.calendar.specs.Timetable.{period_at, IsEntryAt, switch_within, IsWindow};
 ghost use Rattle.calendar.specs.Timetable.{IsCycleOf, validity_from, day_end};
@@ -210,7 +210,7 @@ impl TariffBook {
     /// moment. At most 43,200 seconds are asked for, up to the last moment that the type has: each
     /// moment of a command has that many after it.
     pub fn next_switch(&self, moment: Moment, seconds: u32) -> Option<Moment>
-        requires seconds { seconds ≤ 43_200 }
+        requires seconds { seconds ≤ longest_validity }
         requires in_range { moment + seconds ≤ latest_moment }
         ensures { result ≡ switch_within self.now.calendar moment seconds }
     {
@@ -225,7 +225,7 @@ impl TariffBook {
         seconds: u32,
         steps: &mut Steps,
     ) -> Option<Moment>
-        requires seconds { seconds ≤ 43_200 }
+        requires seconds { seconds ≤ longest_validity }
         requires in_range { moment + seconds ≤ latest_moment }
         requires steps { steps.old ≤ 1_000_000_000 }
         ensures value { result ≡ switch_within self.now.calendar moment seconds }

@@ -9,6 +9,7 @@ ghost use Rattle.tariffs.specs.Fields.{text_of, each, collected};
 ghost use Rattle.tariffs.specs.WeekFields.{minutes_of, zone_minutes, zone_in};
 ghost use Rattle.tariffs.specs.WeekFields.{zone_of, day_of, with_day, days_of, minute_of, entry_of};
 ghost use Rattle.tariffs.specs.WeekFields.{entries_of};
+ghost use Rattle.units.specs.Words.{widest_offset};
 
 use crate::book_fields;
 use crate::fault::BookFault;
@@ -42,7 +43,7 @@ fn minutes(text: &[u8]) -> Option<u16>
 #[tactic(auto, unfolding(crate::specs::WeekFields::zone_minutes))]
 fn zone_minutes(text: &[u8]) -> Option<i16>
     ensures value { result ≡ zone_minutes text.now }
-    ensures in_range { IfSome result (λ m. IsWithin 840 m) }
+    ensures in_range { IfSome result (λ m. IsWithin widest_offset m) }
 {
     let (sign, text) = text.split_first()?;
     let minutes = minutes(text)?;

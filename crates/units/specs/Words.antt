@@ -86,6 +86,22 @@ end_of_numbers = 4_294_967_296
 abbrev pub most_seconds : Seconds
 most_seconds = 4_294_967_295
 
+-- of the validity time of a tariff book: twelve hours
+abbrev pub longest_validity : Seconds
+longest_validity = 43_200
+
+-- how far the civil time of a zone may be from UTC, in minutes: fourteen hours
+abbrev pub widest_offset : ℕ
+widest_offset = 840
+
+-- of a voucher: how long what it gives can be used
+abbrev pub most_days : DayCount
+most_days = 3650
+
+-- of a currency (ISO 4217)
+abbrev pub greatest_currency : CurrencyNumber
+greatest_currency = 999
+
 -- of a credit, a voucher, a refund
 abbrev pub most_money : Micros
 most_money = 1_000_000_000_000_000
@@ -109,3 +125,13 @@ most_blocks = 1_000_000_000
 -- what a counter may count
 abbrev pub most_counted : BlockCount
 most_counted = 4_000_000_000_000_000_000
+
+-- ---- the greatest numbers of the machine
+
+-- of 16 bits
+abbrev pub most_of_16_bits : ℕ
+most_of_16_bits = 65_535
+
+-- of 64 bits
+abbrev pub most_of_64_bits : ℕ
+most_of_64_bits = 18_446_744_073_709_551_615

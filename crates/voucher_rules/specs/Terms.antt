@@ -1,7 +1,7 @@
 -- What a voucher says beside its code.
 -- Source: profile.
 use Rattle.std.specs.Prelude.{◌&&◌, Bool, true, Option, Some, None, nat_le}
-use Rattle.units.specs.Words.{DayCount, Micros, GroupId, most_money}
+use Rattle.units.specs.Words.{DayCount, Micros, GroupId, most_money, most_days}
 
 -- micro-units of the book's currency; the days that the bucket lasts, none without an end; the
 -- rating group that it pays for, none for all
@@ -13,7 +13,7 @@ pub record Terms : Type 0 where
 -- 1 to 3,650 days, or none
 abbrev pub are_days : Option DayCount → Bool
 are_days None = true
-are_days (Some days) = nat_le 1 days && nat_le days 3650
+are_days (Some days) = nat_le 1 days && nat_le days most_days
 
 -- 1 to 10^15 micro-units, and such days; any rating group is a scope
 abbrev pub are_terms : Micros → Option DayCount → Bool

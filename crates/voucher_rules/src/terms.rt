@@ -1,7 +1,7 @@
 //! What a voucher says beside its code.
 
 ghost use Rattle.std.specs.Prelude.{◌≡◌, ◌≤◌, IfSome, None, Some, if◌then◌else◌};
-ghost use Rattle.units.specs.Words.{no_end, most_money};
+ghost use Rattle.units.specs.Words.{no_end, most_money, most_days};
 ghost use Rattle.voucher_rules.specs.Terms.{are_days, are_terms};
 ghost use Rattle.voucher_rules.specs.Redeeming.{bucket_end, moment_in_time};
 
@@ -82,7 +82,7 @@ impl VoucherTerms {
     /// The days that the bucket lasts; None: without an end.
     pub fn days(self) -> Option<u32>
         ensures value { result ≡ self.days }
-        ensures in_range { IfSome result (λ days. (1 ≤ days) × (days ≤ 3650)) }
+        ensures in_range { IfSome result (λ days. (1 ≤ days) × (days ≤ most_days)) }
     {
         self.days
     }

@@ -2,7 +2,7 @@
 -- Source: profile; the fields are those of CSV, RFC 4180.
 use Rattle.std.specs.Prelude.{ℕ, ◌≤◌, ◌&&◌, ◌==◌, List, [], ◌∷◌, length, get_or, codes, Bool}
 use Rattle.std.specs.Prelude.{Option, Some, None, IfSome, IsTrue, Result, Ok, nat_le}
-use Rattle.units.specs.Words.{greatest_number, most_money}
+use Rattle.units.specs.Words.{greatest_number, most_money, most_days}
 use Rattle.texts.specs.Steps.{◌>>=◌, or_fault, where_holds}
 use Rattle.identifiers.specs.Texts.{is_voucher_code, same_name}
 use Rattle.texts.specs.Numbers.{number_of}
@@ -33,7 +33,7 @@ optional_in fault low high (b ∷ bs) = do
 unfoldable pub terms_of : List (List ℕ) → Result VoucherTerms FaultKind
 terms_of fields = do
   amount ← number_in Amount 1 most_money (field fields 1)
-  days ← optional_in Days 1 3650 (field fields 2)
+  days ← optional_in Days 1 most_days (field fields 2)
   scope ← optional_in Scope 0 greatest_number (field fields 3)
   Ok (record { amount = amount; days = days; scope = scope })
 
@@ -55,7 +55,7 @@ is_header fields = (length fields == 4) && same_name (field fields 0) (codes "co
 pub record AreInRange (terms : VoucherTerms) : Type 0 where
   pub some : 1 ≤ terms.amount
   pub amount : terms.amount ≤ most_money
-  pub days : IfSome terms.days (λ n. (1 ≤ n) × (n ≤ 3650))
+  pub days : IfSome terms.days (λ n. (1 ≤ n) × (n ≤ most_days))
   pub scope : IfSome terms.scope (λ g. g ≤ greatest_number)
 
 -- and of a voucher

@@ -1,7 +1,7 @@
 //! Fields of a voucher's record.
 
 ghost use Rattle.std.specs.Prelude.{◌≡◌, ◌≤◌, ◌==◌, ◌&&◌, IfOk, IfSome};
-ghost use Rattle.units.specs.Words.{greatest_number, most_money};
+ghost use Rattle.units.specs.Words.{greatest_number, most_money, most_days};
 ghost use Rattle.csv.specs.Records.{fields_of};
 ghost use Rattle.texts.specs.Steps.{Says, GivesUnless, where_holds};
 ghost use Rattle.identifiers.specs.Texts.{is_voucher_code};
@@ -105,8 +105,8 @@ fn amount(field: &[u8]) -> Result<Money, FaultKind>
 }
 
 fn days(field: &[u8]) -> Result<Option<u32>, FaultKind>
-    ensures value { Says (λ d. d) result (optional_in Days 1 3650 field.now) }
-    ensures in_range { IfOk result (λ o. IfSome o (λ n. (1 ≤ n) × (n ≤ 3650))) }
+    ensures value { Says (λ d. d) result (optional_in Days 1 most_days field.now) }
+    ensures in_range { IfOk result (λ o. IfSome o (λ n. (1 ≤ n) × (n ≤ most_days))) }
 {
     match optional_in(FaultKind::Days, 1, 3650, field)? {
         None => Ok(None),
@@ -127,7 +127,7 @@ fn scope(field: &[u8]) -> Result<Option<u32>, FaultKind>
 #[tactic(auto, using(crate::proofs::FieldLemmas::terms_in_range))]
 fn terms_of(amount: Money, days: Option<u32>, scope: Option<u32>) -> VoucherTerms
     requires amount { (1 ≤ amount) × (amount ≤ most_money) }
-    requires days { IfSome days (λ n. (1 ≤ n) × (n ≤ 3650)) }
+    requires days { IfSome days (λ n. (1 ≤ n) × (n ≤ most_days)) }
     ensures value { result ≡ record { amount = amount; days = days; scope = scope } }
     ensures in_range { AreInRange result }
 {

@@ -3,6 +3,7 @@ use Rattle.std.specs.Prelude.{◌≡◌, ℕ, ◌==◌, List, [], Bool, true, fa
 use Rattle.std.specs.Prelude.{None, Result, Ok, Err, MatchResult, ◌⊎◌, nat_eq, if◌then◌else◌}
 use Rattle.std.specs.Cmp.Lexicographic.{pointwise}
 use Rattle.units.specs.Words.{Moment, Seconds, greatest_number, latest_moment, most_seconds}
+use Rattle.units.specs.Words.{most_of_16_bits, most_of_64_bits}
 use Rattle.serde_json.specs.Data.{Data, Items}
 use Rattle.serde_json.specs.Find.{get}
 use Rattle.identifiers.specs.Texts.{is_redirect_address}
@@ -140,8 +141,8 @@ failure_told n d =
 unfoldable pub cost_in : Data → Result Cost WireFault
 cost_in d = do
   u ← object_at avp.UnitValue d
-  micros ← number_at avp.ValueDigits 0 18446744073709551615 u
-  currency ← number_at avp.CurrencyCode 0 65535 d
+  micros ← number_at avp.ValueDigits 0 most_of_64_bits u
+  currency ← number_at avp.CurrencyCode 0 most_of_16_bits d
   Ok (record { micros = micros; currency = currency })
 
 abbrev pub priced_when : Option Data → Result Outcome WireFault
@@ -191,7 +192,7 @@ swept_when (Some n) = answer.Swept n
 abbrev pub bucket_when : Data → Option ℕ → Result Answer WireFault
 bucket_when d (Some n) = Ok (answer.Bucket n)
 bucket_when d None = do
-  count ← optional_in accounts NotRequest 0 18446744073709551615 d
+  count ← optional_in accounts NotRequest 0 most_of_64_bits d
   Ok (swept_when count)
 
 -- an answer with a Result-Code and no Session-Id

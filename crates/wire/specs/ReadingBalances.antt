@@ -1,6 +1,6 @@
 -- Reading a balance that was written.
 use Rattle.std.specs.Prelude.{ℕ, List, [], Bool, Option, Some, None, Result, Ok}
-use Rattle.units.specs.Words.{Moment, GroupId, greatest_number, latest_moment}
+use Rattle.units.specs.Words.{Moment, GroupId, greatest_number, latest_moment, most_of_64_bits}
 use Rattle.identifiers.specs.Words.{AccountName}
 use Rattle.serde_json.specs.Data.{Data, Items}
 use Rattle.serde_json.specs.Find.{get, as_array, as_bool}
@@ -22,7 +22,7 @@ use Rattle.wire.specs.Members.{member_in, number_in, text_in}
 
 -- micro-units or blocks
 abbrev pub amount_in : List ℕ → Data → Result ℕ WireFault
-amount_in name d = number_in name 0 18446744073709551615 d
+amount_in name d = number_in name 0 most_of_64_bits d
 
 abbrev pub moment_in : List ℕ → Data → Result Moment WireFault
 moment_in name d = number_in name 0 latest_moment d

@@ -2,6 +2,7 @@
 use Rattle.std.specs.Prelude.{◌≡◌, ◌≤◌, true, IfSome, ⊤}
 use Rattle.std.specs.List.{AllByRecursion}
 use Rattle.units.specs.Words.{greatest_number, latest_moment, most_seconds}
+use Rattle.units.specs.Words.{most_of_16_bits, most_of_64_bits}
 use Rattle.identifiers.specs.Texts.{is_account_number, is_session_id, is_redirect_address}
 use Rattle.commands.specs.Quantities.{is_quantity}
 use Rattle.commands.specs.declared.answer.FinalUnit.{FinalUnit}
@@ -41,8 +42,8 @@ pub record IsServiceAnswer (s : ServiceAnswer) : Type 0 where
   pub outcome : IsServiceOutcome s.outcome
 
 pub record IsCost (c : Cost) : Type 0 where
-  pub micros : c.micros ≤ 18446744073709551615
-  pub currency : c.currency ≤ 65535
+  pub micros : c.micros ≤ most_of_64_bits
+  pub currency : c.currency ≤ most_of_16_bits
 
 abbrev pub IsOutcome : Outcome → Type 0
 IsOutcome (outcome.Services ss) = AllByRecursion IsServiceAnswer ss
@@ -61,11 +62,11 @@ pub record IsBucketBalance (b : BucketBalance) : Type 0 where
   pub from : b.from ≤ latest_moment
   pub until : b.until ≤ latest_moment
   pub scope : IfSome b.scope (λ g. g ≤ greatest_number)
-  pub credited : b.credited ≤ 18446744073709551615
-  pub available : b.available ≤ 18446744073709551615
-  pub reserved : b.reserved ≤ 18446744073709551615
-  pub charged : b.charged ≤ 18446744073709551615
-  pub expired : b.expired ≤ 18446744073709551615
+  pub credited : b.credited ≤ most_of_64_bits
+  pub available : b.available ≤ most_of_64_bits
+  pub reserved : b.reserved ≤ most_of_64_bits
+  pub charged : b.charged ≤ most_of_64_bits
+  pub expired : b.expired ≤ most_of_64_bits
 
 pub record IsAccountBalance (a : AccountBalance) : Type 0 where
   pub account : is_account_number a.account ≡ true
@@ -76,6 +77,6 @@ abbrev pub IsAnswer : Answer → Type 0
 IsAnswer (answer.Request a) = IsRequestAnswer a
 IsAnswer answer.Done = ⊤
 IsAnswer (answer.Bucket n) = n ≤ greatest_number
-IsAnswer (answer.Swept accounts) = accounts ≤ 18446744073709551615
+IsAnswer (answer.Swept accounts) = accounts ≤ most_of_64_bits
 IsAnswer (answer.Balance balance) = IsAccountBalance balance
 IsAnswer (answer.Refused refusal) = ⊤

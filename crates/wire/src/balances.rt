@@ -2,7 +2,7 @@
 
 ghost use Rattle.std.specs.Prelude.{◌≡◌, ◌≤◌, IfSome, OnOk};
 ghost use Rattle.std.specs.List.{AllByRecursion};
-ghost use Rattle.units.specs.Words.{greatest_number};
+ghost use Rattle.units.specs.Words.{greatest_number, most_of_64_bits};
 ghost use Rattle.serde_json.specs.Data.{array, boolean};
 ghost use Rattle.commands.specs.Names.{buckets, unit};
 ghost use Rattle.json_fields.specs.Spelling.{whole};
@@ -30,7 +30,7 @@ fn put_flag(out: &mut Writer, name: &str, flag: bool) -> Result<(), AllocError>
 
 fn put_amount(out: &mut Writer, name: &str, amount: u64) -> Result<(), AllocError>
     ensures adds { Adds result out.old out.new (member_tokens name.now (whole amount)) }
-    ensures rule { amount ≤ 18446744073709551615 }
+    ensures rule { amount ≤ most_of_64_bits }
 {
     put_number(out, name, amount)
 }

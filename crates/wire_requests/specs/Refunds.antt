@@ -1,7 +1,7 @@
 -- The money of a refund.
 use Rattle.std.specs.Prelude.{ℕ, ◌&&◌, ℤ, pos, negsuc, unsigned_abs, int_le, Option, Some, None}
 use Rattle.std.specs.Prelude.{Result, Ok, nat_le, option_and_then}
-use Rattle.units.specs.Words.{Micros, most_money}
+use Rattle.units.specs.Words.{Micros, most_money, greatest_currency, most_of_64_bits}
 use Rattle.serde_json.specs.Data.{Data}
 use Rattle.serde_json.specs.Find.{get, as_number, as_i64}
 use Rattle.units.specs.Amounts.{micros_of}
@@ -30,7 +30,7 @@ micros_told digits exponent = unsigned_abs (micros_of (pos digits) exponent)
 -- Value-Digits before Exponent; more than 10^15 micro-units are a fault of Value-Digits
 unfoldable pub money_at : Data → Result Micros WireFault
 money_at d = do
-  digits ← number_at avp.ValueDigits 1 18446744073709551615 d
+  digits ← number_at avp.ValueDigits 1 most_of_64_bits d
   exponent ← exponent_at d
   let micros = micros_told digits exponent
   where_holds (nat_le micros most_money) (Invalid avp.ValueDigits) micros
@@ -42,5 +42,5 @@ refund_at d = do
   m ← object_at avp.Money r
   u ← object_at avp.UnitValue m
   micros ← money_at u
-  currency ← number_at avp.CurrencyCode 0 999 m
+  currency ← number_at avp.CurrencyCode 0 greatest_currency m
   Ok (record { micros = micros; currency = currency })

@@ -4,7 +4,7 @@
 //! next hour.
 
 ghost use Rattle.std.specs.Prelude.{◌<◌, ◌≤◌};
-ghost use Rattle.units.specs.Words.{no_end};
+ghost use Rattle.units.specs.Words.{no_end, longest_validity};
 
 use crate::tests::tables::{Teller, Words, try_table};
 use crate::tests::tariff::documents::SMALL;
@@ -97,7 +97,7 @@ pub(crate) fn told_of_period(
     seconds: u32,
 ) -> String
     requires at { at < no_end }
-    requires seconds { seconds ≤ 43_200 }
+    requires seconds { seconds ≤ longest_validity }
 {
     let Period(period) = book.period_at(at);
     let switch = book.next_switch(at, seconds).map(Moment::seconds);
