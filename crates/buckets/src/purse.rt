@@ -243,7 +243,10 @@ impl Purse {
         Ok(self.hold_in(room, group, at, Amount(0), blocks))
     }
 
-    /// Memory for the holds that a later `hold_in` makes; its error is lack of memory.
+    /// Memory for the holds that a later `hold_in` makes.
+    ///
+    /// # Errors
+    /// Out of memory.
     pub fn room(&self) -> Result<HoldRoom, AllocError>
         ensures { IfOk result (λ room. length self.now ≤ room) }
     {
@@ -356,6 +359,9 @@ impl Purse {
     }
 
     /// A copy of the buckets, in the order of their use.
+    ///
+    /// # Errors
+    /// Out of memory.
     pub fn to_vec(&self) -> Result<Vec<Bucket>, AllocError>
         ensures { IfOk result (λ copy. copy.items ≡ self.now) }
     {

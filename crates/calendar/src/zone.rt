@@ -138,8 +138,10 @@ impl Zone {
 
     /// The zone of a clock that is put ahead each year for some months: its changes of the years
     /// 1969 to 2100, 16 bytes each, so that each moment of commands has those around it (POSIX,
-    /// Base Definitions 8.3, TZ; RFC 9636 section 3.3.1). Its error is that memory for them is
-    /// refused.
+    /// Base Definitions 8.3, TZ; RFC 9636 section 3.3.1).
+    ///
+    /// # Errors
+    /// Out of memory.
     pub fn with_summer(alloc: Global, rule: &SummerTime) -> Result<Zone, AllocError>
         requires { IsSummerTime rule.now }
         ensures { IfOk result (λ z. z ≡ zone_of_rule rule.now) }

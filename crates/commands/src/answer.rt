@@ -59,7 +59,7 @@ impl Drop for GrantedServiceUnit {
     }
 }
 
-/// Why a service isn't granted units.
+/// Why a service isn't granted units (RFC 8506 sections 9.1 and 9.2).
 #[derive(Clone, Copy, Debug)]
 pub enum ServiceFailure {
     /// 4010, DIAMETER_END_USER_SERVICE_DENIED: the account is barred.
@@ -232,7 +232,7 @@ pub struct Cost {
     pub currency: u16,
 }
 
-/// Why a request isn't answered 2001.
+/// Why a request isn't answered 2001 (RFC 8506 section 9, RFC 6733 section 7.1.5).
 #[derive(Clone, Copy, Debug)]
 pub enum Failure {
     /// 4010, 4012 or 5031: nothing is granted or charged. The request is accepted, unless it is a

@@ -338,6 +338,9 @@ impl Content {
     }
 
     /// The same content once more.
+    ///
+    /// # Errors
+    /// Out of memory.
     pub fn copy(&self) -> Result<Content, AllocError>
         ensures { IfOk result (λ copy. copy ≡ self.now) }
     {

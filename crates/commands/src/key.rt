@@ -42,6 +42,9 @@ pub enum KeyRef<'a> {
 
 impl Key {
     /// The key of a command with this content.
+    ///
+    /// # Errors
+    /// Out of memory.
     pub fn of(content: &Content) -> Result<Key, AllocError>
         ensures { IfOk result (λ key. key ≡ key_of content.now) }
     {

@@ -37,6 +37,9 @@ impl Model for AccountNumber {
 
 impl AccountNumber {
     /// The number of an account that the text is; None where it is none.
+    ///
+    /// # Errors
+    /// Out of memory.
     pub fn new(alloc: Global, text: &str) -> Result<Option<AccountNumber>, AllocError>
         ensures { IfOk result
             (λ o. o ≡ if is_account_number text.now then Some text.now else None) }

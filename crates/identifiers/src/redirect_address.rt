@@ -36,6 +36,9 @@ impl Model for RedirectAddress {
 
 impl RedirectAddress {
     /// The address that the text is; None where it is none.
+    ///
+    /// # Errors
+    /// Out of memory.
     pub fn new(alloc: Global, text: &str) -> Result<Option<RedirectAddress>, AllocError>
         ensures { IfOk result
             (λ o. o ≡ if is_redirect_address text.now then Some text.now else None) }

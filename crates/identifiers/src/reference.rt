@@ -37,6 +37,9 @@ impl Model for Reference {
 
 impl Reference {
     /// The reference that the text is; None where it is none.
+    ///
+    /// # Errors
+    /// Out of memory.
     pub fn new(alloc: Global, text: &str) -> Result<Option<Reference>, AllocError>
         ensures { IfOk result (λ o. o ≡ if is_reference text.now then Some text.now else None) }
     {

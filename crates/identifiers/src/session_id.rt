@@ -40,6 +40,9 @@ impl Model for SessionId {
 
 impl SessionId {
     /// The name of a session that the text is; None where it is none.
+    ///
+    /// # Errors
+    /// Out of memory.
     pub fn new(alloc: Global, text: &str) -> Result<Option<SessionId>, AllocError>
         ensures { IfOk result (λ o. o ≡ if is_session_id text.now then Some text.now else None) }
     {

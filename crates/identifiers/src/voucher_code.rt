@@ -36,6 +36,9 @@ impl Model for VoucherCode {
 
 impl VoucherCode {
     /// The code of a voucher that the text is; None where it is none.
+    ///
+    /// # Errors
+    /// Out of memory.
     pub fn new(alloc: Global, text: &str) -> Result<Option<VoucherCode>, AllocError>
         ensures { IfOk result (λ o. o ≡ if is_voucher_code text.now then Some text.now else None) }
     {

@@ -7,19 +7,19 @@ use commands::Avp;
 use std::alloc::{AllocError, AllocFailed};
 use thiserror::Error;
 
-/// Why a text was not read.
+/// Why a text was not read, and the Result-Code by which it is answered (RFC 6733 section 7.1.5).
 #[derive(Clone, Copy, Debug, Drop, Error)]
 pub enum WireFault {
-    /// Not UTF-8, not JSON, nested deeper than 127, or no object.
+    /// 5012: not UTF-8, not JSON (RFC 8259), nested deeper than 127, or no object.
     #[error("no JSON object")]
     NotRequest,
-    /// A member that has to be there isn't.
+    /// 5005, DIAMETER_MISSING_AVP: a member that has to be there isn't.
     #[error("{} is missing", .0.name())]
     Missing(Avp),
-    /// A member has the wrong kind or value.
+    /// 5004, DIAMETER_INVALID_AVP_VALUE: a member has the wrong kind or value.
     #[error("{} is invalid", .0.name())]
     Invalid(Avp),
-    /// Memory ran out.
+    /// 5012: memory ran out.
     #[error("out of memory")]
     Memory,
 }

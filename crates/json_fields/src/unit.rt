@@ -67,7 +67,10 @@ fn lacks_others(value: &Tree<'_>, kind: UnitKind) -> bool
     }
 }
 
-/// The units of this kind in `value`, alone, at least `low`, and else `fault`.
+/// The units of this kind in `value`, alone.
+///
+/// # Errors
+/// `fault`, where they aren't there alone, or are below `low` or above the most of the kind.
 #[tactic(auto, unfolding(crate::specs::Unit::units_at))]
 pub fn units_in(
     value: &Tree<'_>,

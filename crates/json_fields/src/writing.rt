@@ -13,6 +13,9 @@ use std::alloc::AllocError;
 use units::Moment;
 
 /// Writes a member that is a whole number.
+///
+/// # Errors
+/// Out of memory.
 pub fn put_number(out: &mut Writer, name: &str, n: u64) -> Result<(), AllocError>
     ensures { Adds result out.old out.new (member_tokens name.now (whole n)) }
 {
@@ -22,6 +25,9 @@ pub fn put_number(out: &mut Writer, name: &str, n: u64) -> Result<(), AllocError
 }
 
 /// Writes a member that is a whole number, where there is one.
+///
+/// # Errors
+/// Out of memory.
 pub fn put_perhaps(out: &mut Writer, name: &str, n: Option<u64>) -> Result<(), AllocError>
     ensures { Adds result out.old out.new (perhaps_tokens name.now (option_map whole n)) }
 {
@@ -32,6 +38,9 @@ pub fn put_perhaps(out: &mut Writer, name: &str, n: Option<u64>) -> Result<(), A
 }
 
 /// Writes a member that is a moment, where there is one.
+///
+/// # Errors
+/// Out of memory.
 pub fn put_moment(out: &mut Writer, name: &str, moment: Option<Moment>) -> Result<(), AllocError>
     ensures adds { Adds result out.old out.new (perhaps_tokens name.now (option_map whole moment)) }
     ensures rule { OnOk result (IfSome moment (λ m. m ≤ latest_moment)) }
@@ -43,6 +52,9 @@ pub fn put_moment(out: &mut Writer, name: &str, moment: Option<Moment>) -> Resul
 }
 
 /// Writes a member that is a text.
+///
+/// # Errors
+/// Out of memory.
 pub fn put_text(out: &mut Writer, name: &str, text: &str) -> Result<(), AllocError>
     ensures { Adds result out.old out.new (member_tokens name.now (string text.now)) }
 {
@@ -63,7 +75,10 @@ fn put_value(out: &mut Writer, micros: u64) -> Result<(), AllocError>
     Ok(())
 }
 
-/// Writes micro-units of a currency as a value.
+/// Writes micro-units of a currency as a value (CC-Money, RFC 8506 section 8.22).
+///
+/// # Errors
+/// Out of memory.
 #[tactic(auto, unfolding(crate::specs::Spelling::money_data))]
 pub fn put_money(out: &mut Writer, micros: u64, currency: u16) -> Result<(), AllocError>
     ensures { Adds result out.old out.new (tokens_of (money_data micros currency)) }

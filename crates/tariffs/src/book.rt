@@ -88,9 +88,11 @@ fn book(alloc: Global, table: &Table) -> Result<TariffBook, BookFault>
 impl TariffBook {
     /// Reads a book from a TOML document (profile).
     ///
-    /// Keys are read in the order `zone`, `currency`, `validity`, `periods`, `week`, `group`,
-    /// arrays in their order, and the first fault is answered; lack of memory may be answered in
-    /// place of it.
+    /// Keys are read in the order `zone`, `currency`, `validity`, `periods`, `week`, `group`, and
+    /// arrays in their order.
+    ///
+    /// # Errors
+    /// The first fault; lack of memory may be reported in place of it.
     pub fn read(alloc: Global, bytes: &[u8]) -> Result<TariffBook, BookFault>
         ensures { ReadsBook bytes.now result }
     {

@@ -20,6 +20,9 @@ fn member<'a>(table: &'a Table, key: &str) -> Result<&'a Value, BookFault>
 }
 
 /// The text under a key.
+///
+/// # Errors
+/// `Missing`, then `WrongKind`.
 #[tactic(auto, unfolding(crate::specs::Fields::text_of))]
 pub fn text<'a>(table: &'a Table, key: &str) -> Result<&'a str, BookFault>
     ensures { Says (λ s. s.now) result (text_of key.now (table_view table.now)) }
@@ -28,6 +31,9 @@ pub fn text<'a>(table: &'a Table, key: &str) -> Result<&'a str, BookFault>
 }
 
 /// The whole number under a key, from `low` to `high`.
+///
+/// # Errors
+/// `Missing`, then `WrongKind`, then `OutOfRange`.
 #[tactic(auto, unfolding(crate::specs::Fields::number_in))]
 pub fn number(table: &Table, key: &str, low: u64, high: u64) -> Result<u64, BookFault>
     requires low { low < 2 ^ 62 }
@@ -46,6 +52,9 @@ pub fn number(table: &Table, key: &str, low: u64, high: u64) -> Result<u64, Book
 }
 
 /// The array under a key, of at most `most` entries.
+///
+/// # Errors
+/// `Missing`, then `WrongKind`, then `TooMany`.
 #[tactic(auto, using(crate::proofs::Entries::item_count_view), unfolding(crate::specs::Fields::array_of))]
 pub fn array<'a>(table: &'a Table, key: &str, most: usize) -> Result<&'a [Value], BookFault>
     ensures value { Says (λ v. items_view v.now) result
@@ -61,6 +70,9 @@ pub fn array<'a>(table: &'a Table, key: &str, most: usize) -> Result<&'a [Value]
 }
 
 /// The array under a key, of 1 to `most` entries.
+///
+/// # Errors
+/// Those of `array`, then `OutOfRange` where there is no entry.
 #[tactic(auto, using(crate::proofs::Entries::item_count_view), unfolding(crate::specs::Fields::filled_array_of))]
 pub fn filled_array<'a>(table: &'a Table, key: &str, most: usize) -> Result<&'a [Value], BookFault>
     ensures value { Says (λ v. items_view v.now) result
@@ -76,6 +88,9 @@ pub fn filled_array<'a>(table: &'a Table, key: &str, most: usize) -> Result<&'a 
 }
 
 /// An entry of an array of texts.
+///
+/// # Errors
+/// `WrongKind`.
 pub fn entry_text(entry: &Value) -> Result<&str, BookFault>
     ensures { Says (λ s. s.now) result (text_at (view entry.now)) }
 {
@@ -83,6 +98,9 @@ pub fn entry_text(entry: &Value) -> Result<&str, BookFault>
 }
 
 /// An entry of an array of tables.
+///
+/// # Errors
+/// `WrongKind`.
 pub fn entry_table(entry: &Value) -> Result<&Table, BookFault>
     ensures { Says (λ t. table_view t.now) result (table_at (view entry.now)) }
 {

@@ -10,8 +10,10 @@ use crate::fault::BookFault;
 use std::alloc::{AllocError, Global};
 
 /// The book of one price (profile): rating group 10 in seconds, `price` micro-units a block of
-/// `block` seconds in every minute of the week. Its document is a book's, so its error is lack of
-/// memory.
+/// `block` seconds in every minute of the week.
+///
+/// # Errors
+/// Out of memory, and no fault of the book: its document is a book's, whatever the numbers.
 pub fn once_book(alloc: Global, price: u64, block: u64) -> Result<TariffBook, AllocError>
     requires price { price ≤ greatest_price }
     requires some_block { 1 ≤ block }

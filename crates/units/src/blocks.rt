@@ -34,7 +34,7 @@ pub enum TariffChangeUsage {
 pub struct UsedPart {
     /// How many.
     pub units: Units,
-    /// Where they stand to a tariff switch; None: the part doesn't say.
+    /// On which side of a tariff switch they were used; None: the part doesn't say.
     pub change: Option<TariffChangeUsage>,
 }
 

@@ -7,7 +7,7 @@ use std::marker::Model;
 
 /// A moment: whole seconds since 1970.
 ///
-/// Commands have the moments 0 to 4,102,444,799, and 4,102,444,800 stands for "no end". A tariff
+/// Commands have the moments 0 to 4,102,444,799, and 4,102,444,800 means "no end". A tariff
 /// switch or the end of a validity time may lie up to 43,200 seconds later.
 #[derive(Clone, Copy, Debug, PartialEq, Eq, PartialOrd, Ord)]
 pub struct Moment {

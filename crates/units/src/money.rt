@@ -53,8 +53,10 @@ impl Money {
     }
 
     /// The amount that Value-Digits and Exponent say (Unit-Value, RFC 8506 section 8.8): the digits
-    /// times 10 to the exponent, in units of the currency. The exponent's fault is told before the
-    /// value's.
+    /// times 10 to the exponent, in units of the currency.
+    ///
+    /// # Errors
+    /// `Exponent`, then `OutOfRange`.
     pub fn from_digits(digits: i64, exponent: i32) -> Result<Money, UnitFault>
         ensures { ReadsMoney digits exponent result }
     {

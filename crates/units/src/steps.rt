@@ -7,7 +7,7 @@ use std::marker::Model;
 /// How many steps a walk has taken, for calls whose contracts bound their steps: `tick` alone adds
 /// one.
 ///
-/// A call that counts takes `&mut Steps` last and wants at most 10^9 steps before it.
+/// A call that counts takes `&mut Steps` last and requires at most 10^9 steps before it.
 #[derive(Drop)]
 pub struct Steps {
     taken: u64,

@@ -11,9 +11,9 @@ use crate::voucher::Voucher;
 pub enum Addition {
     /// Nothing stood there: this voucher does, from now on.
     New(Voucher),
-    /// A voucher of the same terms stands there, spent or not: nothing changes.
+    /// A voucher of the same terms is there, spent or not: nothing changes.
     Present,
-    /// A voucher of other terms stands there (`O5`): nothing changes.
+    /// A voucher of other terms is there (`O5`): nothing changes.
     Conflicting,
 }
 

@@ -4,7 +4,7 @@ ghost use Rattle.voucher_rules.specs.Laws.{CodesAreApart, IsRedeemedOnce, IsSpen
 ghost use Rattle.voucher_rules.specs.Laws.{StandsForGood};
 
 /// A voucher that was redeemed is spent by that account for good: whatever is added and redeemed
-/// afterwards, the same stands under its code.
+/// afterwards, the same is under its code.
 pub fn spent_for_good()
     ensures { IsSpentForGood }
 {}
@@ -15,7 +15,7 @@ pub fn redeemed_once()
     ensures { IsRedeemedOnce }
 {}
 
-/// A voucher that stands under a code does so for good, with its terms: adding one over it changes
+/// A voucher that is under a code is there for good, with its terms: adding one over it changes
 /// nothing, be it of the same terms or of others, and redeeming it leaves its terms.
 pub fn standing_for_good()
     ensures { StandsForGood }

@@ -68,6 +68,9 @@ fn write_redemption(alloc: Global, redemption: &VoucherRedemption) -> Result<Str
 /// The text that is kept of an accepted command: of a request its text, of a credit or an allowance
 /// its body, of a redemption its body with its voucher's code, as compact JSON with the members in
 /// the byte order of their names. It is read again as the same content.
+///
+/// # Errors
+/// Out of memory.
 pub fn write_content(alloc: Global, content: &Content) -> Result<String, AllocError>
     ensures text { IfOk result (λ s. string_bytes s ≡ content_text content.now) }
     ensures read_again { IfOk result
@@ -195,9 +198,9 @@ fn content(alloc: Global, account: AccountNumber, bytes: &[u8]) -> Result<Conten
 /// The content of this account whose text the bytes are, as `write_content` writes it.
 ///
 /// # Errors
-/// The first fault of the request, where the text has a Session-Id, else of the redemption, where
-/// it has a Voucher-Code, else of the allowance, where it has Blocks, else of the credit;
-/// `NotRequest` also where the bytes say a content and aren't its text; `Memory` where memory ran
+/// The first fault of the request, where the text has a Session-Id; else of the redemption, where
+/// it has a Voucher-Code; else of the allowance, where it has Blocks; else of the credit.
+/// `NotRequest` also where the bytes say a content and aren't its text. `Memory` where memory ran
 /// out.
 pub fn read_content(
     alloc: Global,

@@ -152,6 +152,9 @@ fn compact(alloc: Global, answer: &Answer) -> Result<String, AllocError>
 
 /// The text of an answer: compact JSON, with the members in the byte order of their names. It is
 /// read again as the same answer.
+///
+/// # Errors
+/// Out of memory.
 pub fn write_answer(alloc: Global, answer: &Answer) -> Result<String, AllocError>
     ensures text { IfOk result (λ s. string_bytes s ≡ answer_text answer.now) }
     ensures read_again { IfOk result (λ s. answer_of (string_bytes s) ≡ Ok answer.now) }
@@ -184,6 +187,9 @@ fn put_fault(out: &mut Writer, fault: WireFault) -> Result<(), AllocError>
 }
 
 /// The answer to a text that isn't read, as compact JSON.
+///
+/// # Errors
+/// Out of memory.
 #[tactic(auto, unfolding(crate::specs::Spelled::fault_text))]
 pub fn write_fault(alloc: Global, fault: WireFault) -> Result<String, AllocError>
     ensures { IfOk result (λ s. string_bytes s ≡ fault_text fault) }

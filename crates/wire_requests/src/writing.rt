@@ -119,6 +119,9 @@ fn compact(alloc: Global, request: &Request) -> Result<String, AllocError>
 
 /// The text of a request as it is kept: compact JSON, with the members in the byte order of their
 /// names. It is read again as the same request.
+///
+/// # Errors
+/// Out of memory.
 pub fn write_request(alloc: Global, request: &Request) -> Result<String, AllocError>
     ensures text { IfOk result (λ s. string_bytes s ≡ request_text request.now) }
     ensures read_again { IfOk result (λ s. request_of (string_bytes s) ≡ Ok request.now) }

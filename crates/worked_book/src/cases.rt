@@ -4,12 +4,17 @@ use std::alloc::Global;
 use std::test::Fail;
 
 /// The text on fewer lines: one that begins with two spaces goes on with the one before it.
+///
+/// # Errors
+/// The test fails: out of memory.
 pub fn joined(alloc: Global, text: &str) -> Result<String, Fail> {
     Ok(text.replace(alloc, "\n  ", "")?)
 }
 
-/// The document with the changes of a case, joined by `&`, each `OLD -> NEW`. A change whose old
-/// text isn't there fails the test.
+/// The document with the changes of a case, joined by `&`, each `OLD -> NEW`.
+///
+/// # Errors
+/// The test fails: a change's old text isn't there, or it is no change; out of memory.
 pub fn changed(alloc: Global, document: &str, changes: &str) -> Result<String, Fail> {
     let mut text = joined(alloc, document)?;
     for change in changes.split(" & ") {
