@@ -35,3 +35,4 @@ pub mod Parted
 pub mod Paged
 pub mod Numbered
 pub mod WrittenParts
+pub mod Recorded

@@ -53,12 +53,12 @@ each_rest : {A : Type 0} (P : A → Type 0) (xs ys : List A) → EachIn P (xs ++
 each_rest P [] ys h = h
 each_rest P (x ∷ xs) ys h = each_rest P xs ys h.1
 
-across : {A : Type 0} (same : A → A → Bool) (xs ys : List A) → AreApart same (xs ++ ys) →
+pub across : {A : Type 0} (same : A → A → Bool) (xs ys : List A) → AreApart same (xs ++ ys) →
     EachIn (λ x. EachIn (λ y. same x y ≡ false) ys) xs
 across same [] ys h = tt
 across same (x ∷ xs) ys h = (each_rest (λ y. same x y ≡ false) xs ys h.0, across same xs ys h.1)
 
-both_each : {A : Type 0} (P Q R : A → Type 0) (xs : List A) → ((x : A) → P x → Q x → R x) →
+pub both_each : {A : Type 0} (P Q R : A → Type 0) (xs : List A) → ((x : A) → P x → Q x → R x) →
     EachIn P xs → EachIn Q xs → EachIn R xs
 both_each P Q R [] k p q = tt
 both_each P Q R (x ∷ xs) k p q = (k x p.0 q.0, both_each P Q R xs k p.1 q.1)
@@ -71,7 +71,7 @@ module _ {A : Type 0} (before same : A → A → Bool) (known : A → Bool)
     (alike : (x y : A) → same x y ≡ true → known y ≡ known x) (left named live : List A)
     (told : EachIn (λ y. known y ≡ true) left) (fresh : list_any known named ≡ false) where
   -- none that is named has a key of one that was left
-  none_there : (y : A) → known y ≡ true → EachIn (λ z. same y z ≡ false) named
+  pub none_there : (y : A) → known y ≡ true → EachIn (λ z. same y z ≡ false) named
   none_there y e = EachIn-weaker (λ z. known z ≡ false) (λ z. same y z ≡ false) named
       (λ z f. not_same (same y z) (λ k. sym f ∙ alike y z k ∙ e)) (none_passing known named fresh)
 
@@ -85,7 +85,7 @@ module _ {A : Type 0} (before same : A → A → Bool) (known : A → Bool)
       told (across same left live h))
 
   -- so what is found among those left isn't named
-  unnamed : (q : A → Bool) → ((x y : A) → q x ≡ true → q y ≡ true → same x y ≡ true) → (z : A) →
+  pub unnamed : (q : A → Bool) → ((x y : A) → q x ≡ true → q y ≡ true → same x y ≡ true) → (z : A) →
       find q named ≡ Some z → find q left ≡ None
   unnamed q one z e = at (find q left) refl
     where

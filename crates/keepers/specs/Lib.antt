@@ -11,6 +11,7 @@ pub mod Inside
 pub mod Keeping
 pub mod Replacing
 pub mod Overlaying
+pub mod Recorded
 pub mod Memory
 pub mod Failing
 pub mod Seen

@@ -103,10 +103,10 @@ fn leaving_counters(
 }
 
 /// Whether a session's row leaves the live ones: it isn't open, and has no row after the change.
-fn leaves_session(after: &StoredAccount, row: &Session) -> bool
+pub(crate) fn leaves_session(after: &StoredAccount, row: &Session) -> bool
     ensures { result ≡ leaves_session after.now row.now }
 {
-    row.state != SessionState::Open && !has_session(after.sessions(), &row.id)
+    row.state != SessionState::Open && !after.has_session(&row.id)
 }
 
 fn leaving_sessions(

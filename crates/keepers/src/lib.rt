@@ -20,6 +20,7 @@ mod memory_charges;
 mod named_rows;
 mod overlaying;
 mod pages;
+mod past_rows;
 mod places;
 mod row_copies;
 mod showing;

@@ -1,21 +1,25 @@
 //! The rows of an account in memory.
 
 ghost use Rattle.std.specs.Prelude.{◌≡◌, ℕ, ◌≤◌, ◌++◌, if◌then◌else◌, [], is_some, IfOk, OnOk};
-ghost use Rattle.std.specs.Prelude.{OnErr};
+ghost use Rattle.std.specs.Prelude.{OnErr, true};
 ghost use Rattle.reserving.specs.Sessions.{session_in};
 ghost use Rattle.ledger.specs.Ledger.{Ledger};
 ghost use Rattle.keepers.specs.Change.{IsLoadedFrom, over, AreRowsAt, AreBroughtTo, AreDeadOf};
 ghost use Rattle.keepers.specs.Tables.{no_rows};
 ghost use Rattle.keepers.specs.Whole.{AreWhole};
-ghost use Rattle.keepers.specs.Parts.{rows_of_parts, with_live, advanced_parts};
+ghost use Rattle.keepers.specs.Parts.{rows_of_parts, with_live, advanced_parts, AreParts};
 ghost use Rattle.keepers.specs.Named.{may_go_on};
 ghost use Rattle.reserving.specs.Restored.{given};
+ghost use Rattle.reserving.specs.Stored.{IsStoredInOrder};
+ghost use Rattle.reserving.specs.Written.{rows_written};
 ghost use Rattle.keepers.specs.Overlaying.{IsRestDead, back_from, is_fresh};
+ghost use Rattle.keepers.specs.Recorded.{are_past, recorded, IsChange, IsPut};
 
 use crate::known::{Known, any_group_named, any_named, any_of_cycles, may_go_on, note};
 use crate::left_rows::{LeftStore, append, keep, leaving_rows, make_room};
 use crate::named_rows::NamedRows;
 use crate::overlaying::{given_over, rows_alone, rows_over};
+use crate::past_rows::{are_past, put_back, take_past};
 use crate::places::{has_counter, has_session};
 use crate::row_copies::{all_buckets, all_counters, all_groups, all_sessions, dead_rows};
 use crate::whole::WholeAccount;
@@ -154,9 +158,57 @@ impl Store {
         ensures over { OnOk result (rows_of_parts self.new ≡ over named (rows_of_parts self.old)) }
         ensures err { OnErr result (self.new ≡ self.old) }
     {
+        // For the prover alone: looking at the value makes known here what its type keeps.
         let _named = named.as_of();
-        let _kept = self.live.as_of();
         let rows = given_over(self.alloc, named, self.live.purse())?;
+        if are_past(&self.live, &rows) {
+            return self.record(rows);
+        }
+        self.write(rows)
+    }
+
+    /// The same, where no row of a session may change any more: those of sessions go straight to
+    /// what was left, and the others are written over the live ones.
+    fn record(&mut self, mut rows: GivenRows) -> Result<(), AllocError>
+        requires past { are_past (given rows) self.old.live ≡ true }
+        requires change { IsChange self.old.live.buckets rows }
+        ensures over { OnOk result (IsPut rows self.old self.new) }
+        ensures err { OnErr result (self.new ≡ self.old) }
+    {
+        let _kept = self.live.as_of();
+        if !is_fresh(&self.known, &rows) || !have_rows(self.live.counters(), &rows.counters) {
+            return self.overlay(rows);
+        }
+        let past = take_past(self.alloc, &mut rows);
+        if self.live.is_writable(&rows) {
+            return self.leave(rows, past);
+        }
+        self.overlay(put_back(rows, past))
+    }
+
+    /// Writes rows over the live ones, and leaves others behind those that were left. At a fault
+    /// nothing has changed.
+    fn leave(&mut self, rows: GivenRows, past: LeftStore) -> Result<(), AllocError>
+        requires order { IsStoredInOrder (rows_written (given rows) self.old.live) }
+        requires parts { AreParts (recorded (given rows) past self.old) }
+        ensures done { OnOk result (self.new ≡ recorded (given rows) past self.old) }
+        ensures err { OnErr result (self.new ≡ self.old) }
+    {
+        note(&mut self.known, &past)?;
+        make_room(&mut self.left, &past)?;
+        self.live.write(rows)?;
+        append(&mut self.left, past)?;
+        Ok(())
+    }
+
+    /// The same, where a row of a session may still change: all are written over the live ones,
+    /// while few of these can't change any more.
+    fn write(&mut self, rows: GivenRows) -> Result<(), AllocError>
+        requires { IsChange self.old.live.buckets rows }
+        ensures over { OnOk result (IsPut rows self.old self.new) }
+        ensures err { OnErr result (self.new ≡ self.old) }
+    {
+        let _kept = self.live.as_of();
         if is_fresh(&self.known, &rows)
             && are_few(self.past, &self.live, &rows)
             && self.live.is_writable(&rows)
@@ -165,6 +217,14 @@ impl Store {
             self.live.write(rows)?;
             return Ok(());
         }
+        self.overlay(rows)
+    }
+
+    /// The same, where the live rows are put together anew with those that stay beside them.
+    fn overlay(&mut self, rows: GivenRows) -> Result<(), AllocError>
+        ensures over { OnOk result (IsPut rows self.old self.new) }
+        ensures err { OnErr result (self.new ≡ self.old) }
+    {
         let back = back_from(&self.known.names, &rows.sessions, &self.left.groups);
         let live = rows_over(self.alloc, rows, back, &self.live)?;
         self.replace(live)
