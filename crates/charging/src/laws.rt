@@ -27,9 +27,9 @@ pub fn beginning()
     ensures tables { (b : Shelf) → AreTables b [] no_tables }
 {}
 
-/// One run after another is a run: where the second goes on from what the first one left, the
+/// One run after another is a run, where the second goes on from what the first one left. The
 /// answers of both, one after the other, are those of the commands that the first one answered and
-/// of the second one's, and the tables are those of all of them.
+/// of the second one's. The tables are those of all of them.
 pub fn runs_chain()
     ensures { IsRunOfBoth }
 {}
@@ -72,9 +72,9 @@ pub fn open_grants_are_one()
     ensures { GrantsAreOne }
 {}
 
-/// Dead rows are dead for good: a bucket that has nothing available and nothing reserved, a session
-/// that is over or was never opened, and what it used of each group stay as they are, whatever
-/// commands come, and at every later moment (RFC 8506 section 8.2; profile).
+/// Dead rows are dead for good. They are a bucket that has nothing available and nothing reserved,
+/// a session that is over or was never opened, and what it used of each group. They stay as they
+/// are, whatever commands come, and at every later moment (RFC 8506 section 8.2; profile).
 pub fn dead_rows_stay()
     ensures { DeadRowsStay }
 {}
@@ -87,8 +87,8 @@ pub fn sessions_open_by_grants()
 {}
 
 /// Each report and each debit of an account has the price of the started blocks that no allowance
-/// covered: what is collected of it and what isn't are that price, allowances give just the blocks
-/// that are covered, and something is uncollected only where its reservation is used up and no
+/// covered. What is collected of it and what isn't are that price, and allowances give just the
+/// blocks that are covered. Something is uncollected only where its reservation is used up and no
 /// eligible bucket has anything left, neither money nor blocks (RFC 8506 section 5.3; TS 32.296,
 /// account balance management function). The reports are those of the accepted updates and
 /// terminations, in their order, each priced by the parts that it names.

@@ -6,7 +6,7 @@ use thiserror::Error;
 /// Why a connection wasn't served to its end.
 #[derive(Clone, Copy, Debug, Drop, Error)]
 pub enum ServeFault {
-    /// Serve fault 1: a growth was refused for a head or a body.
+    /// Serve fault 1: a growth was refused for the connection's buffers, a head or a body.
     #[error("out of memory")]
     Memory,
     /// Serve fault 2: the reader failed.

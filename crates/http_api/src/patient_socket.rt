@@ -7,7 +7,8 @@ use std::io::{self, ErrorKind, Read, Write};
 use std::net::TcpStream;
 use std::time::{Duration, Instant};
 
-/// How long the bytes of a request may take from its first ones, in seconds (profile).
+/// How long the bytes of a request may take from its first ones, in seconds (profile). Of a request
+/// whose first bytes came together with the one before they are counted from the next ones.
 pub const REQUEST_SECONDS: u64 = 60;
 
 /// The answers of a socket that aren't written yet, and whether a write of them failed.
@@ -31,7 +32,8 @@ pub(crate) enum Coming {
 
 /// What is read of a socket, with how far a request has come since the last answer. A read fails
 /// once its bytes have taken longer than they may. Most requests come by one read, for which no
-/// clock is asked. The answers that wait are written before a read: the peer may wait for them, too.
+/// clock is asked. The answers that wait are written before a read: the peer may wait for them,
+/// too.
 #[derive(Drop)]
 pub(crate) struct PatientReader<'s, 'b> {
     pub(crate) rt: HostRuntime,

@@ -33,9 +33,10 @@ pub struct Served {
 /// dated commands.
 ///
 /// # Errors
-/// `Memory` where a growth was refused for a head or a body, `Read` where the reader failed: then
-/// all answers are written, and nothing is done for the next request. `Write` where the writer
-/// failed: then all but the last are, and a beginning of that. What was accepted stays so.
+/// `Memory` where a growth was refused for the buffers, a head or a body, `Read` where the reader
+/// failed: then all answers are written, and nothing is done for the next request. `Write` where
+/// the writer failed: then all but the last are, and a beginning of that. What was accepted stays
+/// so.
 pub fn serve<R: Read, W: Write, K: ChargeSource, C: Clock>(
     alloc: Global,
     reader: &mut R,

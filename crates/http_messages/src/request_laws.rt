@@ -3,7 +3,7 @@
 ghost use Rattle.http_messages.specs.Shortest.{AreShortest, NextIsOne};
 
 /// A head part is the shortest beginning of its stream that ends with an empty line, within 8,192
-/// bytes; it is too long exactly where the first 8,192 bytes have no such beginning, and cut where
+/// bytes. It is too long exactly where the first 8,192 bytes have no such beginning, and cut where
 /// a shorter stream has none (RFC 9112 section 2.1; the bound: profile).
 pub fn first_parts_are_shortest()
     ensures { AreShortest }

@@ -23,9 +23,10 @@ use voucher_rules::{Voucher, VoucherTerms};
 ///
 /// Contracts see its content as tables. What a call says of them it says where the store is clean
 /// after it, and a store that is clean was clean before. Where the store is honest a call that
-/// answers leaves it clean, also over a disk that fails. A store fault comes only where the store
-/// failed in the call. A change that would leave rows which a keeper can't hold, as holds without
-/// the reservation that holds them, is refused as a fault: store fault 1 in memory, 2 over a store.
+/// answers leaves it clean, also over a disk that fails. Store fault 2 comes only where the count
+/// of failures rose in the call, or is at its highest. A change that would leave rows which a
+/// keeper can't hold, as holds without the reservation that holds them, is refused as a fault:
+/// store fault 1 in memory, 2 over a store.
 pub trait Keeper {
     /// What a contract sees of it.
     ghost seen: { Self → Seen };
@@ -35,12 +36,18 @@ pub trait Keeper {
         ensures { result ≡ (seen self.now).failed };
 
     /// The moment of the last accepted command.
+    ///
+    /// # Errors
+    /// A store fault.
     fn last(&mut self) -> Result<Moment, StoreFault>
         ensures { KeeperReads (seen self.old) (seen self.new)
             (λ t. t ≡ (seen self.old).tables.last) result };
 
     /// What may still change of the account of this number at the moment, priced by the shelf; None
     /// where there is no account.
+    ///
+    /// # Errors
+    /// A store fault.
     fn load<'b>(
         &mut self,
         shelf: &'b TariffShelf,
@@ -53,6 +60,9 @@ pub trait Keeper {
 
     /// What may still change of the account of this number at the moment, to be read; None where
     /// there is no account.
+    ///
+    /// # Errors
+    /// A store fault.
     fn view<'b>(
         &mut self,
         shelf: &'b TariffShelf,
@@ -64,11 +74,17 @@ pub trait Keeper {
             result };
 
     /// Whether there is an account of this number.
+    ///
+    /// # Errors
+    /// A store fault.
     fn has_account(&mut self, account: &AccountNumber) -> Result<bool, StoreFault>
         ensures { KeeperReads (seen self.old) (seen self.new)
             (λ there. there ≡ is_some ((seen self.old).tables.rows account.now).head) result };
 
     /// Whether an account has a row of this session, which may be over.
+    ///
+    /// # Errors
+    /// A store fault.
     fn knows_session(
         &mut self,
         account: &AccountNumber,
@@ -80,11 +96,17 @@ pub trait Keeper {
 
     /// The buckets of an account that can't be used any more, which `load` leaves, in the order of
     /// their numbers; none where there is no account.
+    ///
+    /// # Errors
+    /// A store fault.
     fn dead_buckets(&mut self, account: &AccountNumber) -> Result<Vec<Bucket>, StoreFault>
         ensures { KeeperReads (seen self.old) (seen self.new)
             (λ found. AreDeadOf ((seen self.old).tables.rows account.now) found.items) result };
 
     /// What is kept under a key of an account; None where nothing is.
+    ///
+    /// # Errors
+    /// A store fault.
     fn find_answer(
         &mut self,
         account: &AccountNumber,
@@ -94,11 +116,17 @@ pub trait Keeper {
             (λ found. found ≡ (seen self.old).tables.answers account.now key.now) result };
 
     /// What is under the code of a voucher; None where nothing is.
+    ///
+    /// # Errors
+    /// A store fault.
     fn find_voucher(&mut self, code: &VoucherCode) -> Result<Option<Voucher>, StoreFault>
         ensures { KeeperReads (seen self.old) (seen self.new)
             (λ found. found ≡ (seen self.old).tables.vouchers code.now) result };
 
-    /// Makes the change, in one transaction, and nothing else. At a fault nothing has changed.
+    /// Makes the change, in one transaction, and nothing else.
+    ///
+    /// # Errors
+    /// A store fault. Then nothing has changed.
     fn commit(&mut self, change: Change) -> Result<(), StoreFault>
         ensures done { (seen self.new).clean →
             OnOk result ((seen self.new).tables ≡ changed change (seen self.old).tables) }
@@ -106,7 +134,10 @@ pub trait Keeper {
             (λ t. t ≡ changed change (seen self.old).tables) result };
 
     /// Puts a voucher of these terms, which no account has redeemed, under the code, as a command
-    /// of the moment, in one transaction. At a fault nothing has changed.
+    /// of the moment, in one transaction.
+    ///
+    /// # Errors
+    /// A store fault. Then nothing has changed.
     fn add_voucher(
         &mut self,
         code: VoucherCode,
@@ -130,8 +161,10 @@ pub trait Keeper {
         } = loaded;
     }
 
-    /// Brings each account to the moment, in one transaction, and answers how many there are. At a
-    /// fault nothing has changed.
+    /// Brings each account to the moment, in one transaction, and answers how many there are.
+    ///
+    /// # Errors
+    /// A store fault. Then nothing has changed.
     fn sweep(&mut self, shelf: &TariffShelf, moment: Moment) -> Result<u64, StoreFault>
         ensures count { (seen self.new).clean →
             IfOk result (λ n. n ≡ (seen self.old).tables.count) }

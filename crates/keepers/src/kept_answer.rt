@@ -17,6 +17,9 @@ pub struct KeptAnswer {
 
 impl KeptAnswer {
     /// A copy of the kept answer.
+    ///
+    /// # Errors
+    /// Out of memory.
     pub fn copy(&self) -> Result<KeptAnswer, AllocError>
         ensures { IfOk result (λ copy. copy ≡ self.now) }
     {

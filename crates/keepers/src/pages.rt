@@ -28,6 +28,9 @@ pub struct ChargePage {
 pub trait ChargePages: Keeper {
     /// The charges of an account beyond this number, as many as a page has; none where there is no
     /// account.
+    ///
+    /// # Errors
+    /// A store fault.
     fn page(&mut self, account: &AccountNumber, after: u32) -> Result<ChargePage, StoreFault>
         ensures { KeeperReads (Self.seen self.old) (Self.seen self.new)
             (λ page. IsPage ((Self.seen self.old).tables.charges account.now) after page) result };

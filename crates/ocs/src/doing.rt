@@ -32,10 +32,13 @@ use tariffs::once_book;
 /// an operator's command or a statement is refused.
 ///
 /// # Errors
-/// Each word has its own: `once` one of lines over memory, `init`, `migrate` and `book` one of the
-/// database or of the writer, `serve` one before the first connection, `import` one of the file or
-/// of its command, an operator's command and a statement their command's, `replay` one of a file,
-/// of the database or of the lines.
+/// Each word has its own:
+/// - `once` one of lines over memory;
+/// - `init`, `migrate` and `book` one of the database or of the writer;
+/// - `serve` one before the first connection;
+/// - `import` one of the file or of its command;
+/// - an operator's command and a statement their command's;
+/// - `replay` one of a file, of the database or of the lines.
 pub(crate) fn do_said<F: Files, I: Read, O: Write, E: Write>(
     rt: &HostRuntime,
     files: &F,

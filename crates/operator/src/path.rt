@@ -27,6 +27,9 @@ impl Model for FilePath {
 
 impl FilePath {
     /// The path that the text is; None where it is empty.
+    ///
+    /// # Errors
+    /// Out of memory.
     pub fn new(alloc: Global, text: &str) -> Result<Option<FilePath>, AllocError>
         ensures { IfOk result (λ o. o ≡ if is_file_path text.now then Some text.now else None) }
     {

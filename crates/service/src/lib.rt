@@ -1,7 +1,7 @@
-//! What the program's words do over the database of a file: it is made, brought to the latest
-//! version or opened by its path, a tariff book is added, an operator's command is carried out over
-//! it, a file of vouchers is added, an account's month is printed, and connections of HTTP/1.1 on a
-//! port of 127.0.0.1 are served.
+//! What the program's words do over the database of a file. It is made, brought to the latest
+//! version or opened by its path. A tariff book or a file of vouchers is added, an operator's
+//! command is carried out, and an account's month is printed. Connections of HTTP/1.1 on a port of
+//! 127.0.0.1 are served.
 #![tactic(auto)]
 
 mod adding;

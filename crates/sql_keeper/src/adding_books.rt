@@ -248,10 +248,11 @@ impl<S: Alter> SqlKeeper<S> {
     /// the tables before or with the book.
     ///
     /// # Errors
-    /// `Book`, why the text is no book; `Shelf`, why the book may not follow those of the shelf;
-    /// `Store`, lack of memory or a fault of the store, which is counted, as is a shelf that isn't
-    /// this keeper's, or a moment from the end of all moments on. Where the store can't be asked
-    /// any more, `Store` comes before `Shelf`.
+    /// - `Book`, why the text is no book;
+    /// - `Shelf`, why the book may not follow those of the shelf;
+    /// - `Store`, lack of memory or a fault of the store, which is counted. So is a shelf that
+    ///   isn't this keeper's, and a moment from the end of all moments on. Where the store can't be
+    ///   asked any more, it comes before `Shelf`.
     pub fn add_book(
         &mut self,
         shelf: &mut TariffShelf,

@@ -57,7 +57,10 @@ fn fault_of(failures: &mut u64, fault: ReadFault) -> StoreFault
     }
 }
 
-/// What was read, or the fault of the call, which counts unless it is lack of memory.
+/// What was read.
+///
+/// # Errors
+/// The fault of the call, which is counted unless it is lack of memory.
 pub fn counted<T>(failures: &mut u64, read: Result<T, ReadFault>) -> Result<T, StoreFault>
     requires { failures.old ≤ max_failures }
     ensures bounded { failures.new ≤ max_failures }

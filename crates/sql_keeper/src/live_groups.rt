@@ -57,9 +57,9 @@ pub(crate) fn is_none(sessions: &[Session]) -> bool
 /// reservations hold in the order of the purse. Where no session is open, nothing more is asked.
 ///
 /// # Errors
-/// `Rules` where a reservation has no book on the shelf, or its period isn't one of that book's, or
-/// it holds nothing of a bucket, or holds of one that isn't in the purse; else a fault of the
-/// store, or lack of memory.
+/// `Rules` where a reservation has no book on the shelf, or its period isn't one of that book's.
+/// `Rules` too where it holds nothing of a bucket, or holds of one that isn't in the purse. Else a
+/// fault of the store, or lack of memory.
 pub(crate) fn read_open_sessions<S: Alter>(
     conn: &mut Connection<S>,
     alloc: Global,

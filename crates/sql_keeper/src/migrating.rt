@@ -273,11 +273,12 @@ impl<S: Alter> SqlKeeper<S> {
     ///
     /// # Errors
     /// The connection is given back; while it is open it shows what it showed, and nothing is
-    /// committed but where the commit itself failed.
-    /// `Foreign`, the tables aren't exactly those of a version of this system, and only then;
-    /// `Version`, another version is kept than that of the tables, and only then; `Rules`, a rowid
-    /// comes twice, or a row that is read is out of its rules, and only then; `Store`, also where
-    /// a transaction is open; `Memory`.
+    /// committed but where the commit itself failed. The first three come only then:
+    /// - `Foreign`, the tables aren't exactly those of a version of this system;
+    /// - `Version`, another version is kept than that of the tables;
+    /// - `Rules`, a rowid comes twice, or a row that is read is out of its rules;
+    /// - `Store`, also where a transaction is open;
+    /// - `Memory`.
     pub fn migrate(
         alloc: Global,
         mut connection: Connection<S>,

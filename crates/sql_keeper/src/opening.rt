@@ -241,15 +241,18 @@ impl<S: Alter> SqlKeeper<S> {
     /// nothing.
     ///
     /// # Errors
-    /// The connection is given back; while it is open it shows what it showed. Each of the first
-    /// four says what the database is, and a database has one of them at most. `Foreign`, the
-    /// tables aren't exactly those of a version of this system. Of the others they are, and `Rules`
-    /// says that a rowid comes twice, or that what is kept once isn't there or is out of its
-    /// rules; `Version`, that another version is kept than that of the tables; `Older`, that it is
-    /// that of the tables, and before the latest; `Rules` too, that it is the latest, and the texts
-    /// that are kept aren't those of a shelf; or that a database without any other of these faults
-    /// has a row out of the rules of its table. `Store`, also where a transaction is open;
-    /// `Memory`.
+    /// The connection is given back; while it is open it shows what it showed. The first four say
+    /// what the database is, and it has one of them at most:
+    /// - `Foreign`, the tables aren't exactly those of a version of this system. Of the others they
+    ///   are;
+    /// - `Rules`, a rowid comes twice, or what is kept once isn't there or is out of its rules. Of
+    ///   the latest version it also says that the texts that are kept aren't those of a shelf. Of a
+    ///   database without any other of these faults it says that a row is out of the rules of its
+    ///   table;
+    /// - `Version`, another version is kept than that of the tables;
+    /// - `Older`, it is that of the tables, and before the latest;
+    /// - `Store`, also where a transaction is open;
+    /// - `Memory`.
     pub fn open(
         alloc: Global,
         mut connection: Connection<S>,
