@@ -56,6 +56,10 @@ pub mod RemoveAllowance
 pub mod RemoveCovered
 pub mod RemoveGrantBook
 pub mod RemoveHolds
+pub mod ReplaceAccount
+pub mod ReplaceBucket
+pub mod ReplaceCounter
+pub mod Replaces
 pub mod ReservedRules
 pub mod Rising
 pub mod RowRules

@@ -77,16 +77,16 @@ head_told v h = go h.barred refl
     go false e = rw e refl
 
 module _ (a : List ℕ) (h : HeadColumns) where
-  abbrev values : Row
+  abbrev pub values : Row
   values = head_values a h
 
-  again : (id : ℤ) → cast_row accounts (Int id ∷ values) ≡ Int id ∷ values
+  pub again : (id : ℤ) → cast_row accounts (Int id ∷ values) ≡ Int id ∷ values
   again id = simp (cast_int)
 
   unset : cast_row accounts (Null ∷ values) ≡ Null ∷ values
   unset = simp (cast_int, cast_null)
 
-  meets : (id : ℤ) (other : Row) →
+  pub meets : (id : ℤ) (other : Row) →
       conflicts (Some places) book_schema.indexes accounts (Int id ∷ values) other
       ≡ eq_by_cmp row_cmp (key_of places other) (key_of places (Int id ∷ values))
   meets id other = or_false (agree plain places other places (Int id ∷ values))
@@ -101,11 +101,11 @@ module _ (a : List ℕ) (h : HeadColumns) where
       put_account_text terms project 6 5 put_is put_plain values (λ olds new. refl) again unset
       (λ id met r. refl) (λ id met. refl) refl (λ v. refl) (λ id. (refl, tt)) meets
 
-  abbrev grown : Trees → ℕ
+  abbrev pub grown : Trees → ℕ
   grown old = if is_some (look accounts old (head_key a)) then length (old 2)
       else length (old 2) + 1
 
-  turns : (old new : Trees) → Changes accounts values old new → length (new 2) ≡ grown old
+  pub turns : (old new : Trees) → Changes accounts values old new → length (new 2) ≡ grown old
       → tables_content new ≡ with_account a h (tables_content old)
   turns old new c more =
       only_changed 2 old new c.others

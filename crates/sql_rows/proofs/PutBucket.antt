@@ -87,16 +87,16 @@ bucket_told v b counts = go b.scope refl ∙ ap (λ k. record b { kind = k }) (s
 
 -- a bucket of money
 module _ (a : List ℕ) (b : BucketRow) (counts : b.kind ≡ Money) where
-  abbrev values : Row
+  abbrev pub values : Row
   values = bucket_values a b
 
-  again : (id : ℤ) → cast_row buckets (Int id ∷ values) ≡ Int id ∷ values
+  pub again : (id : ℤ) → cast_row buckets (Int id ∷ values) ≡ Int id ∷ values
   again id = simp (cast_int, cast_or_null)
 
   unset : cast_row buckets (Null ∷ values) ≡ Null ∷ values
   unset = simp (cast_int, cast_or_null, cast_null)
 
-  meets : (id : ℤ) (other : Row) →
+  pub meets : (id : ℤ) (other : Row) →
       conflicts (Some places) book_schema.indexes buckets (Int id ∷ values) other
       ≡ eq_by_cmp row_cmp (key_of places other) (key_of places (Int id ∷ values))
   meets id other = or_false (agree plain places other places (Int id ∷ values))
@@ -111,7 +111,7 @@ module _ (a : List ℕ) (b : BucketRow) (counts : b.kind ≡ Money) where
       put_bucket_text terms project 11 10 put_is put_plain values (λ olds new. refl) again unset
       (λ id met r. refl) (λ id met. refl) refl (λ v. refl) (λ id. (refl, (refl, tt))) meets
 
-  turns : (old new : Trees) → Changes buckets values old new
+  pub turns : (old new : Trees) → Changes buckets values old new
       → tables_content new ≡ with_rows a (with_bucket b) (tables_content old)
   turns old new c =
       only_changed 4 old new c.others

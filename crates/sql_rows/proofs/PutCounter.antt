@@ -69,16 +69,16 @@ unfolding understood everything
 put_plain = (refl, refl)
 
 module _ (a : List ℕ) (k : Counter) where
-  abbrev values : Row
+  abbrev pub values : Row
   values = counter_values a k
 
-  again : (id : ℤ) → cast_row counters (Int id ∷ values) ≡ Int id ∷ values
+  pub again : (id : ℤ) → cast_row counters (Int id ∷ values) ≡ Int id ∷ values
   again id = simp (cast_int)
 
   unset : cast_row counters (Null ∷ values) ≡ Null ∷ values
   unset = simp (cast_int, cast_null)
 
-  meets : (id : ℤ) (other : Row) →
+  pub meets : (id : ℤ) (other : Row) →
       conflicts (Some places) book_schema.indexes counters (Int id ∷ values) other
       ≡ eq_by_cmp row_cmp (key_of places other) (key_of places (Int id ∷ values))
   meets id other = or_false (agree plain places other places (Int id ∷ values))
@@ -93,7 +93,7 @@ module _ (a : List ℕ) (k : Counter) where
       put_counter_text terms project 5 4 put_is put_plain values (λ olds new. refl) again unset
       (λ id met r. refl) (λ id met. refl) refl (λ v. refl) (λ id. (refl, (refl, (refl, tt)))) meets
 
-  turns : (old new : Trees) → Changes counters values old new
+  pub turns : (old new : Trees) → Changes counters values old new
       → tables_content new ≡ with_rows a (with_counter_row k) (tables_content old)
   turns old new c =
       only_changed 6 old new c.others

@@ -91,13 +91,25 @@ with_account a h c = record c {
   count = if is_some (c.rows a).head then c.count else c.count + 1;
 }
 
+-- whether an account is opened
+abbrev pub has_account : AccountName → TablesContent → Bool
+has_account a c = is_some (c.rows a).head
+
 abbrev pub with_bucket : BucketRow → TableRows → TableRows
 with_bucket b r = record r { buckets = λ n. if nat_eq b.number n then Some b else r.buckets n }
+
+-- whether an account has a bucket of a number
+abbrev pub has_bucket : AccountName → BucketNumber → TablesContent → Bool
+has_bucket a n c = is_some ((c.rows a).buckets n)
 
 abbrev pub with_counter_row : Counter → TableRows → TableRows
 with_counter_row k r = record r {
   counters = λ g c. if nat_eq k.group g && nat_eq k.cycle c then Some k else r.counters g c;
 }
+
+-- whether an account has a counter of a rating group in a cycle
+abbrev pub has_counter : AccountName → GroupId → CycleNumber → TablesContent → Bool
+has_counter a g y c = is_some ((c.rows a).counters g y)
 
 abbrev pub with_session_row : Session → TableRows → TableRows
 with_session_row x r = record r {

@@ -36,6 +36,14 @@ pub record AddsIfNone {E : Type 0} (stands : TablesContent → Bool)
   pub told : HasCleanDisk new
       → IfOk result (λ added. added ≡ not (stands (tables_content old.now.trees)))
 
+-- the change is made where something is in its place, and it is said whether anything was
+pub record ReplacesIfSome {E : Type 0} (stands : TablesContent → Bool)
+    (change : TablesContent → TablesContent)
+    (old new : State) (result : Result Bool E) : Type 0 where
+  pub makes : Attempts (Makes (λ c. if stands c then change c else c)) old new result
+  pub told : HasCleanDisk new
+      → IfOk result (λ replaced. replaced ≡ stands (tables_content old.now.trees))
+
 -- the change is committed
 pub record Commits (change : TablesContent → TablesContent) (old new : State) : Type 0 where
   pub turns : Turns change old.now.trees new.now.trees

@@ -1,10 +1,10 @@
 //! Rows of accounts.
 
 ghost use Rattle.std.specs.Prelude.{◌≡◌, map, IfOk, OnOk};
-ghost use Rattle.sql_rows.specs.Content.{tables_content, rows_in, with_account};
+ghost use Rattle.sql_rows.specs.Content.{has_account, tables_content, rows_in, with_account};
 ghost use Rattle.sql_rows.specs.Values.{head_cells, head_key};
 ghost use Rattle.sql_rows.specs.Lists.{AreAccounts, Ascends, name_before};
-ghost use Rattle.sql_rows.specs.Makes.{Makes};
+ghost use Rattle.sql_rows.specs.Makes.{Makes, ReplacesIfSome};
 ghost use Rattle.sql_tables.specs.Statements.{Attempts, HasBook, HasIdleBook, HasRules, Reads};
 ghost use Rattle.sql_tables.specs.Statements.{ReadsWithin};
 ghost use Rattle.sql_tables.specs.Selects.{one_or_none};
@@ -20,12 +20,42 @@ use sql_tables::{
 use sqlite::{Alter, Connection, Error, Row, Transaction};
 use std::alloc::Global;
 
-/// Puts what is kept of an account once.
+/// Replaces what is kept of an account once, if it is opened, and answers whether it is.
+///
+/// # Errors
+/// As of `put_account`.
+fn replace_account<S: Alter>(
+    tx: &mut Transaction<'_, S>,
+    account: &AccountNumber,
+    head: &HeadColumns,
+) -> Result<bool, Error>
+    requires book { HasBook (state S.Store tx.old.conn.now) }
+    ensures same_reference { tx.new.conn.ghost_name ≡ tx.old.conn.ghost_name }
+    ensures replaces { ReplacesIfSome (has_account account.now) (with_account account.now head.now)
+        (state S.Store tx.old.conn.now) (state S.Store tx.new.conn.now) result }
+    // The rows of the tables obey their rules then.
+    ensures rules { OnOk result (HasRules (state S.Store tx.new.conn.now)) }
+{
+    let number = text(account.as_str());
+    let barred = flag(head.barred);
+    let as_of = large(head.as_of.seconds());
+    let next_bucket = checked(head.next_bucket as u128, 4)?;
+    let next_charge = checked(head.next_charge as u128, 5)?;
+    let count = write(
+        tx,
+        "UPDATE accounts SET account = ?1, barred = ?2, as_of = ?3, next_bucket = ?4, \
+         next_charge = ?5 WHERE account = ?1",
+        &[number, barred, as_of, next_bucket, next_charge],
+    )?;
+    Ok(count == 1)
+}
+
+/// Puts what is kept of an account once, whether it is opened or not.
 ///
 /// # Errors
 /// `IntegralValueOutOfRange` where the next number of a bucket or of a charge is 2^63 or more, else
 /// an error of the store. Then nothing is committed.
-pub fn put_account<S: Alter>(
+fn insert_account<S: Alter>(
     tx: &mut Transaction<'_, S>,
     account: &AccountNumber,
     head: &HeadColumns,
@@ -50,6 +80,30 @@ pub fn put_account<S: Alter>(
          next_bucket = excluded.next_bucket, next_charge = excluded.next_charge",
         &[number, barred, as_of, next_bucket, next_charge],
     )
+}
+
+/// Puts what is kept of an account once. An account that is opened already is the more frequent
+/// one, and its row is replaced at less cost than a row is put that may be there.
+///
+/// # Errors
+/// `IntegralValueOutOfRange` where the next number of a bucket or of a charge is 2^63 or more, else
+/// an error of the store. Then nothing is committed.
+pub fn put_account<S: Alter>(
+    tx: &mut Transaction<'_, S>,
+    account: &AccountNumber,
+    head: &HeadColumns,
+) -> Result<usize, Error>
+    requires book { HasBook (state S.Store tx.old.conn.now) }
+    ensures same_reference { tx.new.conn.ghost_name ≡ tx.old.conn.ghost_name }
+    ensures makes { Attempts (Makes (with_account account.now head.now))
+        (state S.Store tx.old.conn.now) (state S.Store tx.new.conn.now) result }
+    // The rows of the tables obey their rules then.
+    ensures rules { OnOk result (HasRules (state S.Store tx.new.conn.now)) }
+{
+    if replace_account(tx, account, head)? {
+        return Ok(1);
+    }
+    insert_account(tx, account, head)
 }
 
 /// What is kept of an account once: none where it is not opened.

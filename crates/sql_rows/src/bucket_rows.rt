@@ -1,12 +1,12 @@
 //! Rows of buckets.
 
 ghost use Rattle.std.specs.Prelude.{◌≡◌, map, filter, true, IsTrue, IfOk, OnOk};
-ghost use Rattle.sql_rows.specs.Content.{with_bucket, with_rows};
+ghost use Rattle.sql_rows.specs.Content.{has_bucket, with_bucket, with_rows};
 ghost use Rattle.sql_rows.specs.Values.{bucket_cells, plain_bucket};
 ghost use Rattle.sql_rows.specs.Lists.{BucketsRise, Rises, is_dead_bucket};
 ghost use Rattle.sql_rows.specs.Texts.{ReadsBuckets, bucket_row};
 ghost use Rattle.sql_rows.specs.Each.{with_buckets};
-ghost use Rattle.sql_rows.specs.Makes.{Makes, MakesIfOpen};
+ghost use Rattle.sql_rows.specs.Makes.{Makes, MakesIfOpen, ReplacesIfSome};
 ghost use Rattle.sql_tables.specs.Statements.{HasBook, HasIdleBook, IsInside};
 ghost use Rattle.sql_tables.specs.Statements.{AttemptsOver};
 ghost use Rattle.sqlite.specs.Held.{state};
@@ -21,12 +21,50 @@ use sql_tables::{
 use sqlite::{Alter, Connection, Error, Row, Transaction};
 use std::alloc::Global;
 
-/// Puts the columns of an account's bucket. Whether they count money or blocks is beside them
-/// (`put_allowance`).
+/// Replaces the columns of an account's bucket, if it has one of the number, and answers whether it
+/// has.
 ///
 /// # Errors
 /// An error of the store. Then nothing is committed.
-pub fn put_bucket<S: Alter>(
+fn replace_bucket<S: Alter>(
+    tx: &mut Transaction<'_, S>,
+    account: &AccountNumber,
+    bucket: &Bucket,
+) -> Result<bool, Error>
+    requires book { HasBook (state S.Store tx.old.conn.now) }
+    ensures same_reference { tx.new.conn.ghost_name ≡ tx.old.conn.ghost_name }
+    ensures replaces { ReplacesIfSome (has_bucket account.now bucket.now.number)
+        (with_rows account.now (with_bucket (plain_bucket bucket.now)))
+        (state S.Store tx.old.conn.now) (state S.Store tx.new.conn.now) result }
+{
+    let of_account = text(account.as_str());
+    let number = whole(bucket.number());
+    let starts = large(bucket.from().seconds());
+    let ends = large(bucket.until().seconds());
+    let scope = optional(bucket.scope());
+    let credited = large(bucket.credited());
+    let available = large(bucket.available());
+    let reserved = large(bucket.reserved());
+    let charged = large(bucket.charged());
+    let expired = large(bucket.expired());
+    let count = write(
+        tx,
+        "UPDATE buckets SET account = ?1, number = ?2, starts = ?3, ends = ?4, scope = ?5, \
+         credited = ?6, available = ?7, reserved = ?8, charged = ?9, expired = ?10 \
+         WHERE account = ?1 AND number = ?2",
+        &[
+            of_account, number, starts, ends, scope, credited, available, reserved, charged,
+            expired,
+        ],
+    )?;
+    Ok(count == 1)
+}
+
+/// Puts the columns of an account's bucket, whether it has one of the number or not.
+///
+/// # Errors
+/// An error of the store. Then nothing is committed.
+fn insert_bucket<S: Alter>(
     tx: &mut Transaction<'_, S>,
     account: &AccountNumber,
     bucket: &Bucket,
@@ -59,6 +97,27 @@ pub fn put_bucket<S: Alter>(
             expired,
         ],
     )
+}
+
+/// Puts the columns of an account's bucket. Whether they count money or blocks is beside them
+/// (`put_allowance`).
+///
+/// # Errors
+/// An error of the store. Then nothing is committed.
+pub fn put_bucket<S: Alter>(
+    tx: &mut Transaction<'_, S>,
+    account: &AccountNumber,
+    bucket: &Bucket,
+) -> Result<usize, Error>
+    requires book { HasBook (state S.Store tx.old.conn.now) }
+    ensures { AttemptsOver S.Store
+        (Makes (with_rows account.now (with_bucket (plain_bucket bucket.now))))
+        tx.old.conn tx.new.conn result }
+{
+    if replace_bucket(tx, account, bucket)? {
+        return Ok(1);
+    }
+    insert_bucket(tx, account, bucket)
 }
 
 /// All buckets, in the order of their numbers, each once, as their columns say: no other rule of

@@ -1,10 +1,10 @@
 //! Rows of counters.
 
 ghost use Rattle.std.specs.Prelude.{◌≡◌, map, IfOk};
-ghost use Rattle.sql_rows.specs.Content.{rows_in, with_counter_row, with_rows};
+ghost use Rattle.sql_rows.specs.Content.{has_counter, rows_in, with_counter_row, with_rows};
 ghost use Rattle.sql_rows.specs.Each.{with_counters};
 ghost use Rattle.sql_rows.specs.Values.{counter_cells};
-ghost use Rattle.sql_rows.specs.Makes.{Makes, MakesIfOpen};
+ghost use Rattle.sql_rows.specs.Makes.{Makes, MakesIfOpen, ReplacesIfSome};
 ghost use Rattle.sql_tables.specs.Statements.{HasBook, HasIdleBook, IsInside, Reads};
 ghost use Rattle.sql_tables.specs.Statements.{AttemptsOver};
 ghost use Rattle.sql_tables.specs.Selects.{one_or_none};
@@ -17,12 +17,40 @@ use sql_tables::{
 };
 use sqlite::{Alter, Connection, Error, Row, Transaction};
 
-/// Puts a counter of an account.
+/// Replaces a counter of an account, if it has one of the rating group in the cycle, and answers
+/// whether it has.
 ///
 /// # Errors
-/// `IntegralValueOutOfRange` where the number of blocks is 2^63 or more, else an error of the
-/// store. Then nothing is committed.
-pub fn put_counter<S: Alter>(
+/// As of `put_counter`.
+fn replace_counter<S: Alter>(
+    tx: &mut Transaction<'_, S>,
+    account: &AccountNumber,
+    counter: &Counter,
+) -> Result<bool, Error>
+    requires book { HasBook (state S.Store tx.old.conn.now) }
+    ensures same_reference { tx.new.conn.ghost_name ≡ tx.old.conn.ghost_name }
+    ensures replaces { ReplacesIfSome (has_counter account.now counter.now.group counter.now.cycle)
+        (with_rows account.now (with_counter_row counter.now))
+        (state S.Store tx.old.conn.now) (state S.Store tx.new.conn.now) result }
+{
+    let of_account = text(account.as_str());
+    let group = whole(counter.group);
+    let cycle = whole(counter.cycle);
+    let blocks = checked(counter.blocks as u128, 4)?;
+    let count = write(
+        tx,
+        "UPDATE counters SET account = ?1, rating_group = ?2, cycle = ?3, blocks = ?4 \
+         WHERE account = ?1 AND rating_group = ?2 AND cycle = ?3",
+        &[of_account, group, cycle, blocks],
+    )?;
+    Ok(count == 1)
+}
+
+/// Puts a counter of an account, whether it has one of the rating group in the cycle or not.
+///
+/// # Errors
+/// As of `put_counter`.
+fn insert_counter<S: Alter>(
     tx: &mut Transaction<'_, S>,
     account: &AccountNumber,
     counter: &Counter,
@@ -43,6 +71,26 @@ pub fn put_counter<S: Alter>(
          cycle = excluded.cycle, blocks = excluded.blocks",
         &[of_account, group, cycle, blocks],
     )
+}
+
+/// Puts a counter of an account.
+///
+/// # Errors
+/// `IntegralValueOutOfRange` where the number of blocks is 2^63 or more, else an error of the
+/// store. Then nothing is committed.
+pub fn put_counter<S: Alter>(
+    tx: &mut Transaction<'_, S>,
+    account: &AccountNumber,
+    counter: &Counter,
+) -> Result<usize, Error>
+    requires book { HasBook (state S.Store tx.old.conn.now) }
+    ensures { AttemptsOver S.Store (Makes (with_rows account.now (with_counter_row counter.now)))
+        tx.old.conn tx.new.conn result }
+{
+    if replace_counter(tx, account, counter)? {
+        return Ok(1);
+    }
+    insert_counter(tx, account, counter)
 }
 
 /// The counter of a rating group in a cycle.
