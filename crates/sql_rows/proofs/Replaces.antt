@@ -43,7 +43,7 @@ use Rattle.sqlite_rules.proofs.TableLemmas.{int_is, put_all_adds}
 use Rattle.sqlite.specs.Does.{Tally}
 use Rattle.sqlite.specs.Effect.{Answers, Database}
 use Rattle.sqlite.specs.Listing.{understood}
-use Rattle.sqlite.specs.Rows.{Task, Updates, Written}
+use Rattle.sqlite.specs.Rows.{Updates, Written}
 use Rattle.sqlite.specs.State.{State, ExecutesInside, HasCleanDisk, KeepsCommit, Shows, Writes}
 use Rattle.sqlite.specs.declared.error.Error.{Error}
 use Rattle.sqlite.proofs.Callers.{IsPlain, command_of, one_step, runs_as, statement_of}
@@ -61,7 +61,7 @@ use Rattle.sql_tables.proofs.Steps.{does_over, mapped_to, permuted, same_value, 
 use Rattle.sql_tables.proofs.Stored.{stored_filter}
 use Rattle.sql_tables.proofs.Swaps.{PutsRow, no_clash, differ_ints, puts_key}
 use Rattle.sql_tables.proofs.Ties.{agree_ties}
-use Rattle.sql_tables.proofs.Upserts.{Moved, Put, Upserted}
+use Rattle.sql_tables.proofs.Upserts.{Moved, Upserted}
 use Rattle.sql_rows.specs.Content.{TablesContent, tables_content}
 use Rattle.sql_rows.specs.Makes.{Makes, ReplacesIfSome}
 use Rattle.sql_rows.specs.Plain.{ArePlain}
@@ -546,24 +546,8 @@ module _ (stands : TablesContent → Bool) (change : TablesContent → TablesCon
   abbrev chosen_of : TablesContent → TablesContent
   chosen_of c = if stands c then change c else c
 
-  chosen_true : (c : TablesContent) → true ≡ stands c → chosen_of c ≡ change c
-  chosen_true c e = ap (λ b. if b then change c else c) (sym e)
-
   chosen_false : (c : TablesContent) → false ≡ stands c → chosen_of c ≡ c
   chosen_false c e = ap (λ b. if b then change c else c) (sym e)
-
-  pub was_replaced : (b : Bool) → b ≡ true → (old new : State) (count : ℕ)
-      → ReplacesIfSome {E = Error} stands change old new (Ok b)
-      → Attempts {A = ℕ} {E = Error} (Makes change) old new (Ok count)
-  was_replaced b is old new count h = record {
-    done = λ clean.
-        let m = h.makes.done clean in
-        makes_turned change old new
-        (m.turns.content ∙ chosen_true (tables_content old.now.trees) (sym is ∙ h.told clean))
-        m.turns.catalog m.turns.plain m.book m.shows;
-    kept = λ clean. tt;
-    survives = h.makes.survives;
-  }
 
   pub was_put : (b : Bool) → b ≡ false → (old mid new : State) (r : Result ℕ Error)
       → ReplacesIfSome {E = Error} stands change old mid (Ok b)
