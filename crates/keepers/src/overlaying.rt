@@ -144,13 +144,30 @@ pub(crate) fn rows_over(
     account_of(alloc, rows)
 }
 
-/// Those of the buckets that aren't dead and aren't named, and the ones that are named.
+/// Whether a bucket stays beside those that are named: it isn't dead, and isn't named.
+fn stays_bucket(named: &[Bucket], row: &Bucket) -> bool
+    ensures { result ≡ stays_bucket named.now row.now }
+{
+    !row.is_dead() && !has_bucket(named, row.number())
+}
+
+fn any_stays(named: &[Bucket], live: &[Bucket]) -> bool
+    ensures { result ≡ list_any (stays_bucket named.now) live.now }
+{
+    live.iter().any(|row| stays_bucket(named, row))
+}
+
+/// Those of the buckets that stay, and the ones that are named. Where none stays, nothing is
+/// copied.
 fn buckets_over(mut named: Vec<Bucket>, live: &Purse) -> Result<Vec<Bucket>, AllocError>
     ensures { IfOk result (λ rows. rows.items ≡
         filter (stays_bucket named.items) live.now ++ named.items) }
 {
+    if !any_stays(&named, live.buckets()) {
+        return Ok(named);
+    }
     let mut rows = live.to_vec()?;
-    rows.retain(|row| !row.is_dead() && !has_bucket(&named, row.number()));
+    rows.retain(|row| stays_bucket(&named, row));
     rows.append(&mut named)?;
     Ok(rows)
 }
