@@ -20,6 +20,7 @@ use Rattle.http_messages.specs.Requests.{Next, asks, refused, ended, IsNext}
 use Rattle.http_messages.specs.Asking.{Asking, refuses}
 use Rattle.http_messages.specs.Table.{asked_of}
 use Rattle.http_messages.specs.Texts.{Begins}
+use Rattle.http_api.specs.Words.{most_requests}
 use Rattle.http_api.specs.Clocks.{GivesInTurn}
 use Rattle.http_api.specs.Replies.{Reply, reply_text, IsReply}
 use Rattle.http_api.specs.declared.fault.ServeFault.{ServeFault}
@@ -38,7 +39,7 @@ pub record Connection : Type 0 where
 -- a new one takes 1,000 requests
 abbrev pub new_connection : Bytes → List Accepted → Connection
 new_connection stream list =
-    record { left = 1000; rest = stream; list = list; moments = []; written = [] }
+    record { left = most_requests; rest = stream; list = list; moments = []; written = [] }
 
 -- how many it takes after a request: none where that ends the connection
 abbrev pub left_after : Bool → ℕ → ℕ
@@ -129,7 +130,7 @@ pub record IsConnectionBegun {C : Type 0} (gives : C → Option Moment → C →
     (stream : Bytes) (before after : C) (empty full : Option Bytes) (old new : Tables)
     : Type 0 where
   pub count : ℕ
-  pub bounded : count ≤ 1000
+  pub bounded : count ≤ most_requests
   pub taken : IsPart gives b before after old (Begins empty full)
       (λ moments text. IsTaken b stream count moments text new)
 
@@ -145,7 +146,7 @@ pub record IsUnread {C : Type 0} (gives : C → Option Moment → C → Type 0) 
     (stream : Bytes) (before after : C) (empty full : Option Bytes) (old new : Tables)
     : Type 0 where
   pub count : ℕ
-  pub bounded : count < 1000
+  pub bounded : count < most_requests
   pub taken : IsPart gives b before after old (Appends empty full)
       (λ moments text. IsTakenOn b stream count moments text new)
 
@@ -168,7 +169,7 @@ pub record IsCutOff {C : Type 0} (gives : C → Option Moment → C → Type 0) 
     (stream : Bytes) (before after : C) (empty full : Option Bytes) (old new : Tables)
     : Type 0 where
   pub count : ℕ
-  pub bounded : count < 1000
+  pub bounded : count < most_requests
   pub more : Bytes
   pub begun : ℕ
   pub taken : IsPart gives b before after old (λ text. Appends empty full (text ++ take begun more))
@@ -226,10 +227,10 @@ pub record ServesConnection {C : Type 0} (gives : C → Option Moment → C → 
   pub write : new.clean → IsErrOf result Write → IfSome bytes (λ stream.
       IsCutOff gives b stream before after empty full old.tables new.tables)
   pub shown : new.honest → IsShown gives b bytes before after empty full old.tables result
-  pub bounded : IfOk result (λ done. done.requests ≤ 1000)
+  pub bounded : IfOk result (λ done. done.requests ≤ most_requests)
   pub continued : new.clean → Continues b old.tables new.tables
   pub cleanness : new.clean → old.clean
   pub honesty : new.honest → old.honest
   pub left : LeavesOn b old new
-  pub held : LeavesTurns b bytes 1000 old new
+  pub held : LeavesTurns b bytes most_requests old new
   pub failures : old.failed ≤ new.failed

@@ -3,6 +3,7 @@
 ghost use Rattle.std.specs.Prelude.{◌≡◌, ◌≤◌, ◌++◌, [], true, false, length, Err, OnOk, OnErr};
 ghost use Rattle.std.specs.Io.KnownBytes.{Appends, append_known};
 ghost use Rattle.http_messages.specs.Texts.{Begins};
+ghost use Rattle.http_api.specs.Words.{most_waiting};
 
 use http_messages::write_text;
 use std::io::Write;
@@ -16,7 +17,8 @@ pub const MAX_WAITING: usize = 8192;
 fn adds(waiting: &mut Vec<u8>, text: &[u8]) -> bool
     ensures added { result ≡ true → waiting.new.items ≡ waiting.old.items ++ text.now }
     ensures other { result ≡ false → waiting.new.items ≡ waiting.old.items }
-    ensures bounded { length waiting.old.items ≤ 8192 → length waiting.new.items ≤ 8192 }
+    ensures bounded { length waiting.old.items ≤ most_waiting
+        → length waiting.new.items ≤ most_waiting }
 {
     if text.len() > MAX_WAITING.saturating_sub(waiting.len()) {
         return false;
@@ -75,7 +77,8 @@ pub(crate) fn join<W: Write>(
         (append_known (W.contents writer.new) waiting.new.items) text.now) }
     ensures err { OnErr result (Begins (W.contents writer.old) (W.contents writer.new)
         (waiting.old.items ++ text.now)) }
-    ensures bounded { length waiting.old.items ≤ 8192 → length waiting.new.items ≤ 8192 }
+    ensures bounded { length waiting.old.items ≤ most_waiting
+        → length waiting.new.items ≤ most_waiting }
     ensures fault { OnErr result (result ≡ Err StreamFault.Write) }
 {
     if adds(waiting, text) {

@@ -3,6 +3,7 @@
 ghost use Rattle.std.specs.Prelude.{◌≡◌, ◌<◌, ◌+◌};
 ghost use Rattle.http_messages.specs.Table.{table};
 ghost use Rattle.http_api.specs.Connections.{left_after, ServesConnection};
+ghost use Rattle.http_api.specs.Words.{most_requests};
 
 use crate::answering::answer_request;
 use crate::clock::Clock;
@@ -74,7 +75,7 @@ pub fn serve<R: Read, W: Write, K: ChargeSource, C: Clock>(
 
 /// What was served with one request more.
 fn one_more(served: u32) -> Served
-    requires { served < 1000 }
+    requires { served < most_requests }
     ensures { result.requests ≡ served + 1 }
 {
     Served {

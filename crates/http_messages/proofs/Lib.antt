@@ -3,6 +3,7 @@ pub mod Founds
 pub mod Digits
 pub mod Nexts
 pub mod Pieces
+pub mod Shown
 pub mod Refusals
 pub mod Tokens
 pub mod Shortest

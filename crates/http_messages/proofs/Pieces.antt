@@ -16,7 +16,7 @@ use Rattle.http_messages.specs.declared.head_part.HeadPart.TheVariants as head_p
 use Rattle.http_messages.specs.Parts.{whole, cut, too_long, first_part, part_after, ends_head}
 use Rattle.http_messages.specs.Parts.{IsHeadPart}
 
-abbrev end_of_head : List ℕ
+abbrev pub end_of_head : List ℕ
 end_of_head = 13 ∷ 10 ∷ 13 ∷ 10 ∷ []
 
 last_is : (taken front : List ℕ) (b : ℕ) → taken ++ b ∷ [] ≡ front ++ end_of_head → b ≡ 10

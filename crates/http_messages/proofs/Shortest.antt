@@ -101,7 +101,7 @@ is_first_part stream = walked stream [] stream refl (omega (arith)) (nothing_end
 no_bool : {A : Type 0} (b : Bool) → b ≡ true → b ≡ false → A
 no_bool b t f = absurd (let no : true ≡ false = sym t ∙ f in cc)
 
-begins : (stream part rest : List ℕ) → stream ≡ part ++ rest → take (length part) stream ≡ part
+pub begins : (stream part rest : List ℕ) → stream ≡ part ++ rest → take (length part) stream ≡ part
 begins stream part rest e = ap (take (length part)) e ∙ take-append_seam part rest
 
 -- a beginning that ends with an empty line isn't longer than the shortest

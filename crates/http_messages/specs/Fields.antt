@@ -6,6 +6,7 @@ use Rattle.std.specs.Char.{to_ascii_lowercase, is_ascii_digit}
 use Rattle.std.specs.Str.{bytes_eq}
 use Rattle.std.specs.Str.Parse.{digits_value}
 use Rattle.texts.specs.StreamWords.{Bytes}
+use Rattle.http_messages.specs.Words.{most_body}
 use Rattle.http_messages.specs.Methods.{is_post, is_put}
 use Rattle.http_messages.specs.Statuses.{bad_request, length_required, payload_too_large}
 use Rattle.http_messages.specs.Statuses.{not_implemented}
@@ -35,7 +36,7 @@ said_number value =
 -- a length of at most 65,536 bytes is taken
 abbrev pub taken_length : Option ℕ → Result ℕ ℕ
 taken_length None = Err bad_request
-taken_length (Some n) = if nat_le n 65536 then Ok n else Err payload_too_large
+taken_length (Some n) = if nat_le n most_body then Ok n else Err payload_too_large
 
 abbrev pub said_length : Bytes → Result ℕ ℕ
 said_length value = taken_length (said_number value)

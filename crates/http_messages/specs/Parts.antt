@@ -3,7 +3,9 @@
 use Rattle.std.specs.Prelude.{◌≡◌, ◌≤◌, ℕ, Bool, List, [], ◌∷◌, ◌++◌, length, if◌then◌else◌, nat_lt}
 use Rattle.std.specs.Prelude.{nat_eq, Option, Some}
 use Rattle.std.specs.List.{ends_with}
+use Rattle.std.specs.Io.KnownBytes.{Consumes}
 use Rattle.texts.specs.StreamWords.{Bytes}
+use Rattle.http_messages.specs.Words.{most_head}
 use Rattle.http_messages.specs.declared.head_part.HeadPart.{HeadPart}
 use Rattle.http_messages.specs.declared.head_part.HeadPart.TheVariants as head_part
 
@@ -19,9 +21,9 @@ ends_head bytes = ends_with nat_eq bytes (13 ∷ 10 ∷ 13 ∷ 10 ∷ [])
 
 -- the head part that these bytes begin and the rest goes on with
 abbrev pub part_after : Bytes → Bytes → Part
-part_after taken [] = if nat_lt (length taken) 8192 then cut else too_long
+part_after taken [] = if nat_lt (length taken) most_head then cut else too_long
 part_after taken (b ∷ bytes) =
-    if nat_lt (length taken) 8192
+    if nat_lt (length taken) most_head
     then (if ends_head (taken ++ b ∷ []) then whole (taken ++ b ∷ []) bytes
     else part_after (taken ++ b ∷ []) bytes)
     else too_long
@@ -45,8 +47,15 @@ IsHeadPart cut (head_part.Whole bytes) left = ⊥
 IsHeadPart cut head_part.TooLong left = ⊥
 IsHeadPart cut head_part.Ended left = Unit {0}
 
+-- a head part comes to what was taken before, off a stream that begins with it
+pub record TakesHead (before after : Bytes) (old left : Option Bytes) : Type 0 where
+  pub part : Bytes
+  pub is_head : first_part part ≡ whole part []
+  pub joined : after ≡ before ++ part
+  pub taken : Consumes old left part
+
 -- a head part has at most 8,192 bytes
 abbrev pub IsShort : HeadPart → Type 0
-IsShort (head_part.Whole bytes) = length bytes.items ≤ 8192
+IsShort (head_part.Whole bytes) = length bytes.items ≤ most_head
 IsShort head_part.TooLong = Unit {0}
 IsShort head_part.Ended = Unit {0}

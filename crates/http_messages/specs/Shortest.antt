@@ -1,6 +1,7 @@
 -- A head part by what it is of its stream: the shortest beginning that ends with an empty line.
 use Rattle.std.specs.Prelude.{◌≡◌, ◌<◌, ◌≤◌, ◌++◌, ℕ, length, take, false, true}
 use Rattle.texts.specs.StreamWords.{Bytes}
+use Rattle.http_messages.specs.Words.{most_head}
 use Rattle.http_messages.specs.Parts.{Part, whole, too_long, cut, first_part, ends_head}
 use Rattle.http_messages.specs.Requests.{Next, IsNext}
 
@@ -12,7 +13,7 @@ HasNoEnd most stream = (n : ℕ) → n ≤ most → ends_head (take n stream) �
 -- no shorter beginning ends with one
 pub record IsShortest (stream part rest : Bytes) : Type 0 where
   pub split : stream ≡ part ++ rest
-  pub few : length part ≤ 8192
+  pub few : length part ≤ most_head
   pub ends : ends_head part ≡ true
   pub shorter : (n : ℕ) → n < length part → ends_head (take n stream) ≡ false
 
@@ -20,8 +21,8 @@ pub record IsShortest (stream part rest : Bytes) : Type 0 where
 -- bytes; none in a stream of fewer
 abbrev pub IsFirstPart : Bytes → Part → Type 0
 IsFirstPart stream (whole part rest) = IsShortest stream part rest
-IsFirstPart stream too_long = (8192 ≤ length stream) × HasNoEnd 8192 stream
-IsFirstPart stream cut = (length stream < 8192) × HasNoEnd (length stream) stream
+IsFirstPart stream too_long = (most_head ≤ length stream) × HasNoEnd most_head stream
+IsFirstPart stream cut = (length stream < most_head) × HasNoEnd (length stream) stream
 
 -- of each stream this is so, and of nothing else
 pub record AreShortest : Type 0 where

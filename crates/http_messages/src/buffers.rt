@@ -1,6 +1,7 @@
 //! The memory that the requests of a connection are taken into.
 
 ghost use Rattle.std.specs.Prelude.{◌≤◌, ◌*◌, length};
+ghost use Rattle.http_messages.specs.Words.{most_head};
 
 use crate::requests::HttpRequest;
 use httparse::spans::{EMPTY_HEADER_SPAN, HeaderSpan};
@@ -18,7 +19,7 @@ pub struct Buffers {
     fields: Vec<HeaderSpan>,
     part: Vec<u8>,
     target: String,
-    ghost wide: { 8192 ≤ 3 * length fields.items },
+    ghost wide: { most_head ≤ 3 * length fields.items },
 }
 
 impl Buffers {
@@ -37,7 +38,7 @@ impl Buffers {
 
     /// The places of a head's fields.
     pub(crate) fn fields(&mut self) -> &mut [HeaderSpan]
-        ensures { 8192 ≤ 3 * length result.now }
+        ensures { most_head ≤ 3 * length result.now }
     {
         self.fields.as_mut_slice()
     }

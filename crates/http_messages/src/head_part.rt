@@ -1,13 +1,19 @@
 //! The bytes of a head, taken off a stream.
 
-ghost use Rattle.std.specs.Prelude.{IfOk, IsErrOf, IfSome};
-ghost use Rattle.http_messages.specs.Parts.{first_part, IsHeadPart, IsShort};
+ghost use Rattle.std.specs.Prelude.{◌≡◌, ◌≢◌, ◌≤◌, List, ℕ, length, take, drop, true, false};
+ghost use Rattle.std.specs.Prelude.{IfOk, IsErrOf, IfSome, IfNone};
+ghost use Rattle.std.specs.Io.KnownBytes.{Keeps};
+ghost use Rattle.http_messages.specs.Parts.{first_part, whole, IsHeadPart, IsShort, TakesHead};
 
-use std::io::BufRead;
+use memchr::memmem;
+use std::io::{BufRead, ErrorKind};
 use texts::{StreamFault, take_piece};
 
 /// The longest head part, in bytes, with the empty line that ends it.
 pub const MAX_HEAD_PART: usize = 8192;
+
+/// How a head part ends: its last line, and then the empty one.
+const END_OF_HEAD: &[u8] = b"\r\n\r\n";
 
 /// What a stream begins with.
 #[derive(Drop)]
@@ -18,6 +24,43 @@ pub enum HeadPart {
     TooLong,
     /// The stream ends before.
     Ended,
+}
+
+/// How many bytes the head part has that these bytes begin with, if they begin with a whole one.
+fn shown_length(shown: &[u8]) -> Option<usize>
+    ensures within { IfSome result (λ n. n ≤ length shown.now) }
+    ensures some { IfSome result
+        (λ n. first_part shown.now ≡ whole (take n shown.now) (drop n shown.now)) }
+    ensures none { IfNone result ((part rest : List ℕ) → first_part shown.now ≢ whole part rest) }
+{
+    let most = shown.len().min(MAX_HEAD_PART);
+    let at = memmem::find(&shown[..most], END_OF_HEAD)?;
+    Some(at + END_OF_HEAD.len())
+}
+
+/// Adds the head part that a stream's buffer shows to these bytes, and answers whether it shows a
+/// whole one; else nothing is taken.
+///
+/// # Errors
+/// `Memory` where the growth was refused, `Read` where the reader failed.
+fn take_shown<R: BufRead>(reader: &mut R, part: &mut Vec<u8>) -> Result<bool, StreamFault>
+    ensures taken { IfOk result (λ taken. taken ≡ true → TakesHead part.old.items part.new.items
+        (R.remaining reader.old) (R.remaining reader.new)) }
+    ensures kept { IfOk result (λ taken. taken ≡ false → (part.new.items ≡ part.old.items)
+        × Keeps (R.remaining reader.old) (R.remaining reader.new)) }
+    ensures fault { IsErrOf result StreamFault.Write → ⊥ }
+{
+    let shown = match reader.fill_buf() {
+        Ok(shown) => shown,
+        Err(error) if error.kind() == ErrorKind::Interrupted => return Ok(false),
+        Err(_) => return Err(StreamFault::Read),
+    };
+    let Some(length) = shown_length(shown) else {
+        return Ok(false);
+    };
+    part.extend_from_slice(&shown[..length])?;
+    reader.consume(length);
+    Ok(true)
 }
 
 /// Takes the next head part off a stream (RFC 9112 section 2.1; its greatest length: profile), into
@@ -33,6 +76,9 @@ pub fn next_head_part<R: BufRead>(reader: &mut R, room: Vec<u8>) -> Result<HeadP
 {
     let mut part = room;
     part.clear();
+    if take_shown(reader, &mut part)? {
+        return Ok(HeadPart::Whole(part));
+    }
     for _turn in 0..MAX_HEAD_PART {
         let left = MAX_HEAD_PART - part.len();
         if left == 0 {

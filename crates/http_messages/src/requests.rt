@@ -4,6 +4,7 @@ ghost use Rattle.std.specs.Prelude.{◌≤◌, length, IfOk, IsErrOf, IfSome};
 ghost use Rattle.httparse.specs.Grammar.{RequestHead};
 ghost use Rattle.http_messages.specs.Parts.{Part, whole, first_part, IsHeadPart, IsShort};
 ghost use Rattle.http_messages.specs.Requests.{TellsNext, IsHeadOf, Tells, after_head, SaysStatus};
+ghost use Rattle.http_messages.specs.Words.{most_head};
 
 use crate::buffers::Buffers;
 use crate::head::{HttpHead, read_head};
@@ -87,7 +88,7 @@ fn after_bytes<R: BufRead>(
     part: &[u8],
     buffers: &mut Buffers,
 ) -> Result<Taken, StreamFault>
-    requires short { length part.now ≤ 8192 }
+    requires short { length part.now ≤ most_head }
     ensures next { IfOk result (λ taken. IfSome (R.remaining reader.old)
         (λ rest. TellsNext (whole part.now rest) taken (R.remaining reader.new))) }
     ensures status { IfOk result SaysStatus }

@@ -1,0 +1,11 @@
+-- The limits of a connection.
+-- Source: profile.
+use Rattle.std.specs.Prelude.{ℕ}
+
+-- the most requests that are answered
+abbrev pub most_requests : ℕ
+most_requests = 1000
+
+-- the most bytes that wait to be written together
+abbrev pub most_waiting : ℕ
+most_waiting = 8192
