@@ -111,7 +111,7 @@ ascends_on (suc n) [] h = tt
 ascends_on (suc n) (x ∷ xs) h = ascends_on n xs h.1
 
 -- from the place where they begin
-all_from : (n : ℕ) (xs : List SessionGroup) → n ≤ length xs
+pub all_from : (n : ℕ) (xs : List SessionGroup) → n ≤ length xs
     → slice_range xs n (length xs) ≡ drop n xs
 all_from n xs le = take_all (length xs - n) (drop n xs) (whole n xs le)
   where
