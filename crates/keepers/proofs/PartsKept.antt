@@ -2,7 +2,7 @@
 use Rattle.std.proofs.Common.{◌≡◌, ℕ, ◌≤◌, Bool, true, false, List, [], ◌∷◌, ◌++◌, map}
 use Rattle.std.proofs.Common.{get_or, refl, sym, ap, ◌∙◌, Option, Some, None}
 use Rattle.std.specs.Prelude.{if◌then◌else◌, ◌==◌, not, filter, is_some, position}
-use Rattle.std.specs.Prelude.{Result, Ok, Err, IfOk}
+use Rattle.std.specs.Prelude.{Result, Ok, Err, IfOk, OnOk}
 use Rattle.std.specs.List.{find}
 use Rattle.std.proofs.lemmas.Bool.{not-true}
 use Rattle.buckets.specs.Row.{BucketRow, IsBalanced, with_release, with_end}
@@ -67,6 +67,10 @@ pub if_ok : {X E : Type 0} (r : Result X E) {P Q : X → Type 0} → IfOk r P �
     IfOk r Q
 if_ok (Ok x) h k = k x h
 if_ok (Err e) h k = tt
+
+pub ok_then : {X E P Q : Type 0} (r : Result X E) → OnOk r P → (P → Q) → OnOk r Q
+ok_then (Ok x) p f = f p
+ok_then (Err e) p f = tt
 
 -- ---- what is left once the rows are others
 

@@ -1,7 +1,7 @@
 -- Rows of sessions that go straight to what was left, beside those that are written over the live
 -- ones: what is found, and what is kept.
-use Rattle.std.proofs.Common.{◌≡◌, ℕ, ◌≤◌, Bool, true, false, cond, List, [], ◌∷◌, ◌++◌, refl, sym, ap}
-use Rattle.std.proofs.Common.{subst, ◌∙◌, Option, Some, None}
+use Rattle.std.proofs.Common.{◌≡◌, ℕ, ◌≤◌, Bool, true, false, cond, List, [], ◌∷◌, ◌++◌, refl, sym}
+use Rattle.std.proofs.Common.{ap, subst, ◌∙◌, Option, Some, None}
 use Rattle.std.specs.Prelude.{◌==◌, ◌&&◌, not, nat_le, filter, is_some, option_map}
 use Rattle.std.specs.List.{find, list_any, list_all}
 use Rattle.std.specs.List.Sorted.{IsPermutation}
@@ -150,12 +150,13 @@ module _ (names : Names) (cycles : Numbers) (w : StoredRows) (bs : List BucketRo
   one = and_parts _ _ two.0
 
   rest_parts : AreParts (rest w p)
-  rest_parts = written_parts names cycles (rest_of w) bs p h live new held all apart tt tt counters
-      two.1 known_sessions known_groups known_counters
+  rest_parts = written_parts names cycles (rest_of w) bs p h live new held all apart tt tt
+      counters two.1 known_sessions known_groups known_counters
 
-  rest_rows : rows_of_parts (rest w p) ≡ over (record (rest_of w) { buckets = bs }) (rows_of_parts p)
-  rest_rows = written_rows names cycles (rest_of w) bs p h live new held all apart tt tt counters
-      two.1 known_sessions known_groups known_counters
+  rest_rows : rows_of_parts (rest w p) ≡
+      over (record (rest_of w) { buckets = bs }) (rows_of_parts p)
+  rest_rows = written_rows names cycles (rest_of w) bs p h live new held all apart tt tt
+      counters two.1 known_sessions known_groups known_counters
 
   -- ---- what is known of the names
 
@@ -309,8 +310,8 @@ module _ (names : Names) (cycles : Numbers) (w : StoredRows) (bs : List BucketRo
 
 -- ---- the rows of a change
 
-module _ (names : Names) (cycles : Numbers) (rows others : GivenRows) (taken : LeftStore) (p : Parts)
-    (h : AreParts p) (live : IsStored p.live) (past : are_past (given rows) p.live ≡ true)
+module _ (names : Names) (cycles : Numbers) (rows others : GivenRows) (taken : LeftStore)
+    (p : Parts) (h : AreParts p) (live : IsStored p.live) (past : are_past (given rows) p.live ≡ true)
     (beside : given others ≡ rest_of (given rows))
     (none : taken.buckets.items ≡ []) (none_counted : taken.counters.items ≡ [])
     (own_sessions : taken.sessions.items ≡ rows.sessions.items)

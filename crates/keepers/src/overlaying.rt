@@ -285,8 +285,7 @@ fn session_place(rows: &[Session], first: usize) -> usize {
     };
     let first = first.min(rows.len());
     match rows[..first].binary_search_by(|other| other.id.cmp(&row.id)) {
-        Ok(place) => place,
-        Err(place) => place,
+        Ok(place) | Err(place) => place,
     }
 }
 
@@ -317,8 +316,7 @@ fn group_place(rows: &[SessionGroup], first: usize) -> usize {
             .cmp(&row.session)
             .then(other.group.cmp(&row.group))
     }) {
-        Ok(place) => place,
-        Err(place) => place,
+        Ok(place) | Err(place) => place,
     }
 }
 

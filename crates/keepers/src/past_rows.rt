@@ -1,5 +1,5 @@
-//! The sessions' rows of a change that can't change any more: where the live rows have none of these
-//! sessions, they go straight to the rows that were left.
+//! The sessions' rows of a change that can't change any more: where the live rows have none of
+//! these sessions, they go straight to the rows that were left.
 
 ghost use Rattle.std.specs.Prelude.{◌≡◌, []};
 ghost use Rattle.std.specs.List.{list_all};

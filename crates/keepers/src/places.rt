@@ -54,7 +54,7 @@ fn stands_at(rows: &[Session], place: usize, session: &SessionId) -> bool
 
 /// Whether there is a row of this session, for a walk that asks for sessions in their order: the
 /// row is mostly at the place of the last one or at the next one, and is searched for only
-/// where it doesn't. The place is then that of the row.
+/// where it isn't there. The place is then that of the row.
 pub(crate) fn has_session_near(rows: &[Session], place: &mut usize, session: &SessionId) -> bool
     ensures { result ≡ is_some (session_in session.now rows.now) }
 {

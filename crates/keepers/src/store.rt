@@ -311,13 +311,10 @@ fn is_fresh(known: &Known, rows: &GivenRows) -> bool
 
 /// How many of the sessions aren't open.
 fn count_past(sessions: &[Session]) -> usize {
-    let mut count: usize = 0;
-    for row in sessions {
-        if row.state != SessionState::Open {
-            count = count.saturating_add(1);
-        }
-    }
-    count
+    sessions
+        .iter()
+        .filter(|row| row.state != SessionState::Open)
+        .count()
 }
 
 /// So many sessions that aren't open may stay among the live ones, however few these are.
@@ -335,10 +332,7 @@ fn are_few(past: usize, live: &StoredAccount, rows: &GivenRows) -> bool {
 
 /// Whether each of the counters has its row.
 fn have_rows(rows: &[Counter], named: &[Counter]) -> bool {
-    for row in named {
-        if !has_counter(rows, row.group, row.cycle) {
-            return false;
-        }
-    }
-    true
+    named
+        .iter()
+        .all(|row| has_counter(rows, row.group, row.cycle))
 }

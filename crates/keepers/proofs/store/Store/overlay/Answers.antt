@@ -1,5 +1,4 @@
 use Rattle.std.proofs.Common.{◌≡◌, ◌∙◌, sym, subst, List}
-use Rattle.std.specs.Prelude.{Result, Ok, Err, OnOk}
 use Rattle.reserving.specs.declared.session.SessionGroup.{SessionGroup}
 use Rattle.reserving.specs.Restored.{given}
 use Rattle.reserving.specs.Stored.{StoredRows}
@@ -8,14 +7,11 @@ use Rattle.keepers.specs.Inside.{parts_of}
 use Rattle.keepers.specs.Overlaying.{back_from, rows_over, IsAccountOf, IsRestDead, IsGivenOver}
 use Rattle.keepers.specs.Parts.{Parts, rows_of_parts}
 use Rattle.keepers.proofs.Overlaid.{rest_dead, overlaid}
+use Rattle.keepers.proofs.PartsKept.{ok_then}
 use Rattle.keepers.proofs.store.Store.overlay.Goals as goal
 
-on_ok : {X E P Q : Type 0} (r : Result X E) → OnOk r P → (P → Q) → OnOk r Q
-on_ok (Ok x) p f = f p
-on_ok (Err e) p f = tt
-
 pub returns-clause-over : goal.returns-clause-over
-returns-clause-over c = on_ok c.replace.result c.replace.ensures.over (λ made named is of.
+returns-clause-over c = ok_then c.replace.result c.replace.ensures.over (λ made named is of.
     let p : Parts = parts_of c.self.inside in
     let names = c.self.inside.known.names in
     let own : IsGivenOver named p.live.buckets c.args.rows =

@@ -1,5 +1,4 @@
 use Rattle.std.proofs.Common.{◌≡◌, ◌∙◌, true, ap, sym, subst}
-use Rattle.std.specs.Prelude.{Result, Ok, Err, OnOk}
 use Rattle.reserving.specs.Restored.{given}
 use Rattle.keepers.specs.Change.{over}
 use Rattle.keepers.specs.Inside.{parts_of}
@@ -7,11 +6,8 @@ use Rattle.keepers.specs.Overlaying.{IsGivenOver}
 use Rattle.keepers.specs.Parts.{Parts, AreParts, rows_of_parts}
 use Rattle.keepers.specs.Recorded.{are_past, recorded}
 use Rattle.keepers.proofs.Recorded.{recorded_parts, recorded_rows}
+use Rattle.keepers.proofs.PartsKept.{ok_then}
 use Rattle.keepers.proofs.store.Store.record.Goals as goal
-
-on_ok : {X E P Q : Type 0} (r : Result X E) → OnOk r P → (P → Q) → OnOk r Q
-on_ok (Ok x) p f = f p
-on_ok (Err e) p f = tt
 
 pub leave-requires-clause-parts : goal.leave-requires-clause-parts
 leave-requires-clause-parts c =
@@ -31,7 +27,8 @@ leave-requires-clause-parts c =
     (sym c.self.view_is) c.requires.change.of))
 
 pub returns-then-is_writable-clause-over : goal.returns-then-is_writable-clause-over
-returns-then-is_writable-clause-over c = on_ok c.leave.result c.leave.ensures.done (λ made named is of.
+returns-then-is_writable-clause-over c =
+    ok_then c.leave.result c.leave.ensures.done (λ made named is of.
     let p : Parts = parts_of c.self.inside in
     let taken = c.take_past-past in
     ap rows_of_parts made
