@@ -18,8 +18,6 @@ use Rattle.sql_tables.specs.Selects.{passing}
 use Rattle.sql_rows.specs.declared.head.HeadColumns.{HeadColumns}
 use Rattle.sql_rows.specs.Content.{TableRows}
 use Rattle.sql_rows.specs.Lists.{AreChargeRows, AreCovered, NumbersRise, is_row_within}
-use Rattle.sql_rows.specs.Texts.{covered_row}
-use Rattle.sql_rows.specs.Values.{CoveredRow}
 use Rattle.sql_rows.specs.declared.covered_rows.CoveredColumns.{CoveredColumns}
 use Rattle.sql_keeper.specs.ChargePages.{AreTold, IsPageRead, end_of_page, last_number}
 use Rattle.sql_keeper.specs.Content.{charge_of, is_numbered, told_charge}
@@ -74,34 +72,15 @@ covered_found cs n (x ∷ xs) = go (covered_found cs n xs) (x.number == n)
     go later true = refl
     go later false = later
 
--- what is read of covered blocks says which they are
-under_read : (n : ℕ) (cs : List CoveredColumns)
-    → blocks_under n cs ≡ option_map (λ (x : CoveredRow). x.blocks)
-    (find (λ (x : CoveredRow). nat_eq x.number n) (map covered_row cs))
-under_read n [] = refl
-under_read n (c ∷ cs) = go (under_read n cs) (nat_eq c.number n)
-  where
-    go : blocks_under n cs ≡ option_map (λ (x : CoveredRow). x.blocks)
-        (find (λ (x : CoveredRow). nat_eq x.number n) (map covered_row cs))
-        → (t : Bool)
-        → option_map (λ (x : CoveredColumns). x.blocks)
-        (cond t (Some c) (find (λ (x : CoveredColumns). nat_eq x.number n) cs))
-        ≡ option_map (λ (x : CoveredRow). x.blocks)
-        (cond t (Some (covered_row c))
-        (find (λ (x : CoveredRow). nat_eq x.number n) (map covered_row cs)))
-    go later true = refl
-    go later false = later
-
 module _ (r : TableRows) (after last : ℕ) (xs : List ChargeRow) (cs : List CoveredColumns)
     (charges : AreChargeRows (is_row_within after last) r xs)
-    (covered : AreCovered after last r (map covered_row cs)) where
+    (covered : AreCovered after last r cs) where
   blocks_are : (n : ℕ) (x : ChargeRow) → is_row_within after last x ≡ true →
       charge_in n xs ≡ Some x →
       blocks_under x.number cs ≡ r.covered n
   blocks_are n x within found =
       let is = found_number n xs x found in
       ap (λ m. blocks_under m cs) is
-      ∙ under_read n cs
       ∙ covered n
       ∙ ap (λ t. if t then r.covered n else None)
       (ap (λ m. nat_lt after m && nat_le m last) (sym is) ∙ within)

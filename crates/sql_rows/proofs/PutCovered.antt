@@ -31,7 +31,8 @@ use Rattle.sql_tables.proofs.Steps.{or_false}
 use Rattle.sql_tables.proofs.Tabled.{puts_table}
 use Rattle.sql_tables.proofs.Ties.{agree_ties}
 use Rattle.sql_tables.proofs.Upserts.{pick}
-use Rattle.sql_rows.specs.Values.{nat, CoveredRow, covered_values, covered_in_row, charge_key}
+use Rattle.sql_rows.specs.declared.covered_rows.CoveredColumns.{CoveredColumns}
+use Rattle.sql_rows.specs.Values.{nat, covered_values, covered_in_row, charge_key}
 use Rattle.sql_rows.specs.Content.{with_rows, with_covered, rows_in, tables_content}
 use Rattle.sql_rows.specs.Makes.{Makes}
 use Rattle.sql_rows.proofs.Plains.{plain_beside}
@@ -66,7 +67,7 @@ put_plain : IsPlain (understood book_schema put_covered_text)
 unfolding understood everything
 put_plain = (refl, refl)
 
-module _ (a : List ℕ) (x : CoveredRow) where
+module _ (a : List ℕ) (x : CoveredColumns) where
   abbrev values : Row
   values = covered_values a x
 

@@ -31,8 +31,8 @@ use Rattle.sql_tables.proofs.Keys.{keys_split, int_tie}
 use Rattle.sql_tables.proofs.Selected.{select_from, selected_from, told}
 use Rattle.sql_tables.proofs.Selections.{meets}
 use Rattle.sql_tables.proofs.Steps.{and_last, and_true, mapped_to}
-use Rattle.sql_rows.specs.Values.{nat, nat_in, CoveredRow, charge_key, covered_cells}
-use Rattle.sql_rows.specs.Values.{covered_in_row}
+use Rattle.sql_rows.specs.declared.covered_rows.CoveredColumns.{CoveredColumns}
+use Rattle.sql_rows.specs.Values.{nat, nat_in, charge_key, covered_cells, covered_in_row}
 use Rattle.sql_rows.specs.Content.{rows_in}
 use Rattle.sql_rows.specs.Lists.{AreCovered}
 use Rattle.sql_rows.proofs.Ranges.{is_beyond, is_up_to, lies_within, within_told, tied_within}
@@ -47,18 +47,19 @@ abbrev columns : Row → Row
 columns r = column r 2 ∷ column r 3 ∷ []
 
 -- a stored row as one of the list
-abbrev at_in : Row → CoveredRow
+abbrev at_in : Row → CoveredColumns
 at_in v = record { number = nat_in (column v 1); blocks = covered_in_row v }
 
 same_columns : (r : Row) → at_in (drop 1 r) ≡ at_in (Null ∷ columns r)
 same_columns [] = refl
 same_columns (v ∷ vs) = refl
 
-back : (x : CoveredRow) (r : Row) → covered_cells x ≡ columns r → at_in (drop 1 r) ≡ x
+back : (x : CoveredColumns) (r : Row) → covered_cells x ≡ columns r → at_in (drop 1 r) ≡ x
 back x r is = same_columns r ∙ ap (λ w. at_in (Null ∷ w)) (sym is) ∙ refl
 
 blocks_only : (o : Option Row) →
-    option_map (λ (x : CoveredRow). x.blocks) (option_map at_in o) ≡ option_map covered_in_row o
+    option_map (λ (x : CoveredColumns). x.blocks) (option_map at_in o)
+    ≡ option_map covered_in_row o
 blocks_only None = refl
 blocks_only (Some v) = refl
 
@@ -102,7 +103,7 @@ module _ (a : List ℕ) (after last : ℕ) where
       ∙ ap₂ ◌&&◌ (sym (equal_turned (column r 1) (Text a) refl))
       (keys_split (nat n) (column r 2) [] [] ∙ and_true _)
 
-  wanted : (n : ℕ) (x : CoveredRow) (r : Row) → covered_cells x ≡ columns r →
+  wanted : (n : ℕ) (x : CoveredColumns) (r : Row) → covered_cells x ≡ columns r →
       rest n r ≡ nat_eq x.number n
   wanted n x r is =
       ap (λ (w : Row). is_eq (value_cmp (nat n) (column w 0))) (sym is) ∙ int_tie x.number n
@@ -118,20 +119,20 @@ module _ (a : List ℕ) (after last : ℕ) where
       tied_within after last n (column r 2) parts.1 here
 
   -- each that was read lies between the numbers
-  lies_told : (x : CoveredRow) (r : Row) → extra r ≡ true → covered_cells x ≡ columns r →
+  lies_told : (x : CoveredColumns) (r : Row) → extra r ≡ true → covered_cells x ≡ columns r →
       is_in x.number ≡ true
   lies_told x r e is =
       sym (within_told after last x.number)
       ∙ ap (λ (w : Row). lies_within after last (column w 0)) is ∙ e
 
-  abbrev AreSelected : List Row → List CoveredRow → Type 0
+  abbrev AreSelected : List Row → List CoveredColumns → Type 0
   AreSelected stored xs = Selects (λ r. front r && extra r) columns stored (map covered_cells xs)
 
-  none_other : (stored : List Row) (xs : List CoveredRow) → AreSelected stored xs → (n : ℕ)
+  none_other : (stored : List Row) (xs : List CoveredColumns) → AreSelected stored xs → (n : ℕ)
       → is_in n ≡ false → find (λ x. nat_eq x.number n) xs ≡ None
   none_other stored xs selects n other = go (find (λ x. nat_eq x.number n) xs) refl
     where
-      go : (o : Option CoveredRow) → find (λ x. nat_eq x.number n) xs ≡ o
+      go : (o : Option CoveredColumns) → find (λ x. nat_eq x.number n) xs ≡ o
           → find (λ x. nat_eq x.number n) xs ≡ None
       go None e = e
       go (Some x) e =
@@ -144,12 +145,12 @@ module _ (a : List ℕ) (after last : ℕ) where
           subst (λ m. is_in m ≡ true) same (lies_told x it.0 both.1 it.3) in
           absurd (let no : true ≡ false = sym inside ∙ other in cc)
 
-  pub covered_read : (old new : State) (rows : List Row) (xs : List CoveredRow) →
+  pub covered_read : (old new : State) (rows : List Row) (xs : List CoveredColumns) →
       Answers read_covered_text (Text a ∷ nat after ∷ nat last ∷ []) old new rows
       → map covered_cells xs ≡ rows → AreCovered after last (rows_in old.now.trees a) xs
   covered_read old new rows xs got is n = elim (cases_Bool (is_in n)) [
-    | inl here ↦ rw here (ap (option_map (λ (x : CoveredRow). x.blocks)) (at here) ∙ blocks_only _)
-    | inr other ↦ rw other (ap (option_map (λ (x : CoveredRow). x.blocks))
+    | inl here ↦ rw here (ap (option_map (λ (x : CoveredColumns). x.blocks)) (at here) ∙ blocks_only _)
+    | inr other ↦ rw other (ap (option_map (λ (x : CoveredColumns). x.blocks))
         (none_other (old.now.trees 29) xs selects n other))
   ]
     where

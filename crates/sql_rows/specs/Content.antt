@@ -17,6 +17,7 @@ use Rattle.sql_tables.specs.Keyed.{look, same_name}
 use Rattle.sql_tables.specs.Schema.{meta, accounts, buckets, counters, sessions, session_groups}
 use Rattle.sql_tables.specs.Schema.{holds, answers, vouchers, charges, books, grant_books}
 use Rattle.sql_tables.specs.Schema.{allowance_buckets, covered}
+use Rattle.sql_rows.specs.declared.covered_rows.CoveredColumns.{CoveredColumns}
 use Rattle.sql_rows.specs.declared.head.HeadColumns.{HeadColumns}
 use Rattle.sql_rows.specs.Values.{Meta, Group, Kept, VoucherRow, meta_key, head_key, bucket_key}
 use Rattle.sql_rows.specs.Values.{counter_key, session_key, group_key, hold_key, answer_key}
@@ -24,8 +25,8 @@ use Rattle.sql_rows.specs.Values.{voucher_key, charge_key, meta_in, head_in, buc
 use Rattle.sql_rows.specs.Values.{counter_in_row}
 use Rattle.sql_rows.specs.Values.{session_in_row, group_in_row, hold_in, answer_in_row}
 use Rattle.sql_rows.specs.Values.{voucher_in_row, charge_in_row}
-use Rattle.sql_rows.specs.Values.{CoveredRow, BookRow, book_key, book_in_row, grant_book_in}
-use Rattle.sql_rows.specs.Values.{allowance_in, covered_in_row}
+use Rattle.sql_rows.specs.Values.{BookRow, book_key, book_in_row, grant_book_in, allowance_in}
+use Rattle.sql_rows.specs.Values.{covered_in_row}
 
 -- what is stored of an account; texts are known by their bytes
 pub record TableRows : Type 0 where
@@ -168,7 +169,7 @@ abbrev pub without_allowance : BucketNumber → TableRows → TableRows
 without_allowance n r =
     record r { allowances = λ m. if nat_eq n m then false else r.allowances m }
 
-abbrev pub with_covered : CoveredRow → TableRows → TableRows
+abbrev pub with_covered : CoveredColumns → TableRows → TableRows
 with_covered x r =
     record r { covered = λ n. if nat_eq x.number n then Some x.blocks else r.covered n }
 

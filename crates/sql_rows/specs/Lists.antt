@@ -21,9 +21,10 @@ use Rattle.reserving.specs.Left.{is_open_row}
 use Rattle.reserving.specs.Rows.{AreApart}
 use Rattle.sql_tables.specs.Keyed.{same_name}
 use Rattle.sql_tables.specs.Selects.{passing}
-use Rattle.sql_rows.specs.Values.{CoveredRow, BookRow, Group, book_values, flag_number}
+use Rattle.sql_rows.specs.Values.{BookRow, Group, book_values, flag_number}
 use Rattle.sql_rows.specs.Values.{counter_cells, group_cells, head_cells, nat}
 use Rattle.sql_rows.specs.Content.{TablesContent, TableRows}
+use Rattle.sql_rows.specs.declared.covered_rows.CoveredColumns.{CoveredColumns}
 use Rattle.sql_rows.specs.declared.head.HeadColumns.{HeadColumns}
 
 abbrev pub is_live_bucket : BucketRow → Bool
@@ -244,9 +245,9 @@ AreReserved content xs = (a : AccountName) (s : SessionName) (g : GroupId) →
     ≡ has_reservation ((content.rows a).groups s g)
 
 -- the covered blocks of the charges beyond a number, and up to another
-abbrev pub AreCovered : ChargeNumber → ChargeNumber → TableRows → List CoveredRow → Type 0
+abbrev pub AreCovered : ChargeNumber → ChargeNumber → TableRows → List CoveredColumns → Type 0
 AreCovered after last rows xs = (n : ChargeNumber) →
-    option_map (λ (x : CoveredRow). x.blocks) (find (λ x. nat_eq x.number n) xs)
+    option_map (λ (x : CoveredColumns). x.blocks) (find (λ x. nat_eq x.number n) xs)
     ≡ (if nat_lt after n && nat_le n last then rows.covered n else None)
 
 -- covered blocks are beside a charge
@@ -254,7 +255,7 @@ abbrev pub AreCoveredBeside : TableRows → Type 0
 AreCoveredBeside r = (n : ChargeNumber) → r.charges n ≡ None → r.covered n ≡ None
 
 -- by the charge's number
-abbrev pub covered_before : CoveredRow → CoveredRow → Bool
+abbrev pub covered_before : CoveredColumns → CoveredColumns → Bool
 covered_before x y = nat_lt x.number y.number
 
 -- whether a charge lies beyond a number, and up to another

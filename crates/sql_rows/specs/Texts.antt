@@ -13,7 +13,6 @@ use Rattle.buckets.specs.declared.bucket.columns.Columns.{Columns as BucketColum
 pub use Rattle.buckets.specs.Columns.{row_of_columns as bucket_row}
 use Rattle.sql_rows.specs.declared.answer_rows.KeptTexts.{KeptTexts}
 use Rattle.sql_rows.specs.declared.book_rows.BookColumns.{BookColumns}
-use Rattle.sql_rows.specs.declared.covered_rows.CoveredColumns.{CoveredColumns}
 use Rattle.sql_rows.specs.declared.grant_book_rows.GrantBook.{GrantBook}
 use Rattle.sql_rows.specs.declared.group_rows.GroupColumns.{GroupColumns}
 use Rattle.sql_rows.specs.declared.group_rows.PeriodTexts.{PeriodTexts}
@@ -29,7 +28,7 @@ use Rattle.sql_tables.specs.Statements.{Reads, ReadsWithin}
 use Rattle.sql_rows.specs.Content.{rows_in}
 use Rattle.sql_rows.specs.Lists.{AreBuckets, BookAt, GrantBookAt, GroupAt, HoldAt, OpenGroupAt}
 use Rattle.sql_rows.specs.Lists.{ReservedAt, SessionBookAt, SessionHoldAt}
-use Rattle.sql_rows.specs.Values.{CoveredRow, Kept, Meta, PeriodNames, VoucherRow}
+use Rattle.sql_rows.specs.Values.{Kept, Meta, PeriodNames, VoucherRow}
 
 abbrev pub kept_of : KeptTexts → Kept
 kept_of k = record { content = string_bytes k.content; answer = string_bytes k.answer }
@@ -106,9 +105,6 @@ reserved_at x = record {
   group = x.group;
   reserved = true;
 }
-
-abbrev pub covered_row : CoveredColumns → CoveredRow
-covered_row x = record { number = x.number; blocks = x.blocks }
 
 -- the names are in their columns, and are there exactly where the group has a reservation
 pub record ArePeriods (row : Values) (is_reserved : Bool) (o : Option PeriodTexts) : Type 0 where

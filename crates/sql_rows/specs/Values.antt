@@ -21,6 +21,7 @@ use Rattle.reserving.specs.declared.session.SessionState.{SessionState}
 use Rattle.reserving.specs.declared.session.SessionState.TheVariants.{Open, Ended, NeverOpened}
 use Rattle.reserving.specs.declared.session.Counter.{Counter}
 use Rattle.ledger.specs.declared.charge.ChargeRow.{ChargeRow}
+use Rattle.sql_rows.specs.declared.covered_rows.CoveredColumns.{CoveredColumns}
 use Rattle.sql_rows.specs.declared.head.HeadColumns.{HeadColumns}
 
 -- ---- one value; what isn't of its kind reads as nothing
@@ -371,15 +372,10 @@ allowance_in v = nat_in (column v 1)
 
 -- ---- `covered`, under the keys of `charges`
 
--- the blocks of a charge that allowances paid
-pub record CoveredRow : Type 0 where
-  pub number : ChargeNumber
-  pub blocks : BlockCount
-
-abbrev pub covered_cells : CoveredRow → Values
+abbrev pub covered_cells : CoveredColumns → Values
 covered_cells x = nat x.number ∷ nat x.blocks ∷ []
 
-abbrev pub covered_values : AccountName → CoveredRow → Values
+abbrev pub covered_values : AccountName → CoveredColumns → Values
 covered_values a x = Text a ∷ covered_cells x
 
 abbrev pub covered_in_row : Values → BlockCount

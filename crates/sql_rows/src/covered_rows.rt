@@ -3,7 +3,6 @@
 ghost use Rattle.std.specs.Prelude.{◌≡◌, map, IfOk};
 ghost use Rattle.sql_rows.specs.Content.{rows_in, with_covered, with_rows, without_covered};
 ghost use Rattle.sql_rows.specs.Lists.{AreCovered, Ascends, covered_before};
-ghost use Rattle.sql_rows.specs.Texts.{covered_row};
 ghost use Rattle.sql_rows.specs.Values.{covered_cells};
 ghost use Rattle.sql_rows.specs.Makes.{Makes};
 ghost use Rattle.sql_tables.specs.Statements.{HasBook, HasIdleBook, Reads, AttemptsOver};
@@ -76,7 +75,7 @@ pub fn remove_covered<S: Alter>(
 }
 
 impl InOrder for CoveredColumns {
-    ghost before = { λ x y. covered_before (covered_row x) (covered_row y) };
+    ghost before = { covered_before };
 
     fn is_before(&self, other: &CoveredColumns) -> bool {
         self.number < other.number
@@ -98,9 +97,9 @@ pub fn read_covered_within<S: Alter>(
 ) -> Result<Vec<CoveredColumns>, ReadFault>
     requires idle { HasIdleBook (state S.Store conn.old) }
     ensures reads { Reads (λ trees xs.
-        AreCovered after last (rows_in trees account.now) (map covered_row xs.items))
+        AreCovered after last (rows_in trees account.now) xs.items)
         (state S.Store conn.old) (state S.Store conn.new) result }
-    ensures order { IfOk result (λ xs. Ascends covered_before (map covered_row xs.items)) }
+    ensures order { IfOk result (λ xs. Ascends covered_before xs.items) }
 {
     let of_account = text(account.as_str());
     let beyond = whole(after);
@@ -115,8 +114,8 @@ pub fn read_covered_within<S: Alter>(
 }
 
 fn covered_rows_from(alloc: Global, rows: &[Row]) -> Result<Vec<CoveredColumns>, ReadFault>
-    ensures cells { IfOk result (λ xs. map covered_cells (map covered_row xs.items) ≡ rows.now) }
-    ensures order { IfOk result (λ xs. Ascends covered_before (map covered_row xs.items)) }
+    ensures cells { IfOk result (λ xs. map covered_cells xs.items ≡ rows.now) }
+    ensures order { IfOk result (λ xs. Ascends covered_before xs.items) }
 {
     let mut covered = Vec::new(alloc);
     'rows: for row in rows {
@@ -130,7 +129,7 @@ fn covered_rows_from(alloc: Global, rows: &[Row]) -> Result<Vec<CoveredColumns>,
 }
 
 fn covered_from(row: &Row) -> Result<CoveredColumns, ReadFault>
-    ensures { IfOk result (λ x. row.now ≡ covered_cells (covered_row x)) }
+    ensures { IfOk result (λ x. row.now ≡ covered_cells x) }
 {
     has_columns(row, 2)?;
     let number = small_at(row, 0)?;

@@ -10,6 +10,7 @@ use Rattle.reserving.specs.declared.session.Session.{Session}
 use Rattle.reserving.specs.declared.session.Counter.{Counter}
 use Rattle.ledger.specs.declared.charge.ChargeRow.{ChargeRow}
 use Rattle.ledger.proofs.Holds.{same_from}
+use Rattle.sql_rows.specs.declared.covered_rows.CoveredColumns.{CoveredColumns}
 use Rattle.sql_rows.specs.declared.head.HeadColumns.{HeadColumns}
 use Rattle.sql_rows.specs.Content.{TablesContent, TableRows, with_account, with_allowance}
 use Rattle.sql_rows.specs.Content.{with_answer}
@@ -19,7 +20,7 @@ use Rattle.sql_rows.specs.Content.{with_grant_book, with_group_row, with_head, w
 use Rattle.sql_rows.specs.Content.{with_meta}
 use Rattle.sql_rows.specs.Content.{with_rows, with_session_row, with_voucher_row, without_allowance}
 use Rattle.sql_rows.specs.Content.{without_covered, without_grant_book, without_holds}
-use Rattle.sql_rows.specs.Values.{CoveredRow, BookRow, Group, Kept, Meta, VoucherRow}
+use Rattle.sql_rows.specs.Values.{BookRow, Group, Kept, Meta, VoucherRow}
 use Rattle.sql_rules.specs.Columns.{is_moment, is_numbering, is_some_money, is_in_bounds}
 use Rattle.sql_rules.specs.Ruled.{AreInRules, IsInRules, is_account, is_answer, is_book, is_bucket}
 use Rattle.sql_rules.specs.Ruled.{is_charge, is_counter, is_group, is_session, is_voucher}
@@ -278,7 +279,7 @@ module _ (shelf : Shelf) (a : List ℕ) (r : TableRows) (in' : AreInRules shelf 
     covered = is;
   }
 
-  pub covered_kept : (x : CoveredRow) → nat_lt 0 x.blocks ≡ true
+  pub covered_kept : (x : CoveredColumns) → nat_lt 0 x.blocks ≡ true
       → AreInRules shelf a (with_covered x r)
   covered_kept x some =
       covered_put _ (λ n. chosen (λ y. nat_lt 0 y ≡ true) (nat_eq x.number n) x.blocks

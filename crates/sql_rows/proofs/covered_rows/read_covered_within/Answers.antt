@@ -1,7 +1,6 @@
 use Rattle.std.proofs.Common.{[], ◌∷◌, map, ap, ◌∙◌}
 use Rattle.sqlite.specs.Values.{bound_value}
 use Rattle.sqlite_value.specs.declared.value.Value.TheVariants.{Text}
-use Rattle.sql_rows.specs.Texts.{covered_row}
 use Rattle.sql_tables.proofs.Telling.{reads_as}
 use Rattle.sql_rows.proofs.ReadCovered.{read_covered_text, read_covered_plain, covered_read}
 use Rattle.sql_rows.proofs.covered_rows.read_covered_within.Goals as goal
@@ -16,5 +15,4 @@ returns-clause-reads g c =
     (λ i. map bound_value ((c.text-of_account.ensures ∙ ap Text c.as_str.ensures.value) i
     ∷ c.whole-beyond.ensures i ∷ c.whole-up_to.ensures i ∷ []))
     c.deref.ensures.value c.covered_rows_from.ensures.cells
-    (λ xs. covered_read c.args.account.now c.args.after c.args.last _ _ _
-    (map covered_row xs.items))
+    (λ xs. covered_read c.args.account.now c.args.after c.args.last _ _ _ xs.items)
