@@ -21,7 +21,7 @@ use Rattle.sql_rows.specs.Content.{with_covered}
 use Rattle.sql_rows.specs.Content.{with_voucher_row, without_covered}
 use Rattle.sql_rows.specs.Each.{with_counters, with_sessions}
 use Rattle.sql_rows.specs.Makes.{Makes, MakesIfOpen, Turns}
-use Rattle.sql_rows.specs.Values.{VoucherRow}
+use Rattle.sql_rows.specs.declared.voucher_rows.VoucherColumns.{VoucherColumns}
 use Rattle.sql_keeper.specs.Additions.{with_addition_put}
 use Rattle.sql_keeper.specs.Commits.{with_money}
 use Rattle.sql_keeper.specs.Content.{Names}
@@ -223,7 +223,7 @@ module _ {A B C E : Type 0} (a : List ℕ) (p q r s : State) (x : A) (y : B) (z 
 
 -- the moment unless it is there, and a voucher that no account has redeemed
 pub puts_addition : {A B E : Type 0} (stands : Bool) (code k : List ℕ) (terms : VoucherTerms)
-    (t : ℕ) (v : VoucherRow) (a b c : State) (x : A) (r : Result B E) → k ≡ code
+    (t : ℕ) (v : VoucherColumns) (a b c : State) (x : A) (r : Result B E) → k ≡ code
     → v ≡ voucher_row (unspent terms)
     → Attempts {A = A} {E = E} (MakesIfOpen (with_moment_put stands t)) a b (Ok x)
     → Attempts {A = B} {E = E} (Makes (with_voucher_row k v)) b c r

@@ -28,7 +28,8 @@ use Rattle.voucher_rules.specs.declared.voucher.Voucher.{Voucher}
 use Rattle.keepers.specs.declared.kept_answer.KeptAnswer.{KeptAnswer}
 use Rattle.keepers.specs.Tables.{Head, GroupRow, Rows, Tables}
 use Rattle.sql_rows.specs.declared.head.HeadColumns.{HeadColumns}
-use Rattle.sql_rows.specs.Values.{Meta, Group, PeriodNames, Kept, VoucherRow}
+use Rattle.sql_rows.specs.declared.voucher_rows.VoucherColumns.{VoucherColumns}
+use Rattle.sql_rows.specs.Values.{Meta, Group, PeriodNames, Kept}
 use Rattle.sql_rows.specs.Values.{request_kind, reference_kind}
 use Rattle.sql_rows.specs.Content.{TableRows, TablesContent}
 
@@ -154,7 +155,7 @@ answer_in a k r = option_and_then (kept_in a) (texts_of_key k r)
 -- ---- vouchers
 
 -- the voucher of a row
-abbrev pub voucher_in : VoucherRow → Voucher
+abbrev pub voucher_in : VoucherColumns → Voucher
 voucher_in v = record {
   terms = record { amount = v.amount; days = v.days; scope = v.scope };
   redeemer = v.account;

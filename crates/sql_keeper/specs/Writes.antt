@@ -30,7 +30,8 @@ use Rattle.sql_tables.specs.Schema.{latest}
 use Rattle.sql_tables.specs.declared.reading.ReadFault.{ReadFault}
 use Rattle.sql_tables.specs.declared.reading.ReadFault.TheVariants.{Memory, Rules}
 use Rattle.sql_rows.specs.declared.head.HeadColumns.{HeadColumns}
-use Rattle.sql_rows.specs.Values.{Meta, Group, PeriodNames, Kept, VoucherRow}
+use Rattle.sql_rows.specs.declared.voucher_rows.VoucherColumns.{VoucherColumns}
+use Rattle.sql_rows.specs.Values.{Meta, Group, PeriodNames, Kept}
 use Rattle.sql_rows.specs.Values.{request_kind, reference_kind, plain_bucket, plain_charge}
 use Rattle.sql_rows.specs.Content.{TablesContent, TableRows, with_rows, with_meta, with_account}
 use Rattle.sql_rows.specs.Content.{with_group_row, with_last_moment}
@@ -178,7 +179,7 @@ with_all_charged a = with_each (with_charged a)
 -- ---- vouchers
 
 -- the row of a voucher
-abbrev pub voucher_row : Voucher → VoucherRow
+abbrev pub voucher_row : Voucher → VoucherColumns
 voucher_row v = record {
   amount = v.terms.amount;
   days = v.terms.days;

@@ -4,7 +4,6 @@ ghost use Rattle.std.specs.Prelude.{◌≡◌, IfOk, option_map};
 ghost use Rattle.sql_keeper.specs.Asks.{Asks};
 ghost use Rattle.sql_keeper.specs.Content.{voucher_in};
 ghost use Rattle.sql_rows.specs.Content.{tables_content};
-ghost use Rattle.sql_rows.specs.Texts.{voucher_of};
 ghost use Rattle.sql_tables.specs.Statements.{HasIdleBook, Reads};
 ghost use Rattle.sqlite.specs.Held.{state};
 ghost use Rattle.sql_keeper.specs.Calls.{AsksTables};
@@ -36,7 +35,7 @@ fn terms_of(amount: u64, days: Option<u32>, scope: Option<u32>) -> Result<Vouche
 
 /// The voucher of a row. It is out of the rules where its terms are.
 fn voucher_from(row: VoucherColumns) -> Result<Voucher, ReadFault>
-    ensures { IfOk result (λ v. v ≡ voucher_in (voucher_of row)) }
+    ensures { IfOk result (λ v. v ≡ voucher_in row) }
 {
     let VoucherColumns {
         amount,
@@ -53,7 +52,7 @@ fn voucher_from(row: VoucherColumns) -> Result<Voucher, ReadFault>
 
 /// The voucher where there is a row.
 fn voucher_where(row: Option<VoucherColumns>) -> Result<Option<Voucher>, ReadFault>
-    ensures { IfOk result (λ o. o ≡ option_map voucher_in (option_map voucher_of row)) }
+    ensures { IfOk result (λ o. o ≡ option_map voucher_in row) }
 {
     match row {
         None => Ok(None),

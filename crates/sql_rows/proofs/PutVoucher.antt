@@ -30,7 +30,8 @@ use Rattle.sql_tables.proofs.Steps.{or_false}
 use Rattle.sql_tables.proofs.Tabled.{puts_table}
 use Rattle.sql_tables.proofs.Ties.{agree_ties}
 use Rattle.sql_tables.proofs.Upserts.{pick}
-use Rattle.sql_rows.specs.Values.{nat, VoucherRow, voucher_cells, voucher_values, voucher_key}
+use Rattle.sql_rows.specs.declared.voucher_rows.VoucherColumns.{VoucherColumns}
+use Rattle.sql_rows.specs.Values.{nat, voucher_cells, voucher_values, voucher_key}
 use Rattle.sql_rows.specs.Values.{voucher_in_row, optional_in, optional_text_in}
 use Rattle.sql_rows.specs.Content.{with_voucher_row, tables_content}
 use Rattle.sql_rows.specs.Makes.{Makes}
@@ -59,7 +60,7 @@ put_plain : IsPlain (understood book_schema put_voucher_text)
 unfolding understood everything
 put_plain = (refl, refl)
 
-pub voucher_told : (v : Value) (row : VoucherRow) → voucher_in_row (v ∷ voucher_cells row) ≡ row
+pub voucher_told : (v : Value) (row : VoucherColumns) → voucher_in_row (v ∷ voucher_cells row) ≡ row
 voucher_told v row = λ i. record {
   amount = row.amount;
   days = number_told row.days i;
@@ -75,7 +76,7 @@ voucher_told v row = λ i. record {
     text_told None = refl
     text_told (Some t) = refl
 
-module _ (code : List ℕ) (row : VoucherRow) where
+module _ (code : List ℕ) (row : VoucherColumns) where
   abbrev values : Row
   values = voucher_values code row
 

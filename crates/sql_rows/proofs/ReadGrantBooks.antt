@@ -23,11 +23,12 @@ use Rattle.sql_tables.proofs.Selected.{select_from, told}
 use Rattle.sql_tables.proofs.Steps.{and_apart}
 use Rattle.sql_rows.specs.Values.{nat, nat_in, group_key, grant_book_in}
 use Rattle.sql_rows.specs.Content.{rows_in}
-use Rattle.sql_rows.specs.Lists.{GrantBookAt, grant_book_cells, AreGrantBooks}
+use Rattle.sql_rows.specs.declared.grant_book_rows.GrantBook.{GrantBook}
+use Rattle.sql_rows.specs.Lists.{grant_book_cells, AreGrantBooks}
 use Rattle.sql_rows.proofs.OfSession.{of_session, by_group, is_of_session, is_of_group, splits}
 
 -- a stored row as one of the list
-abbrev at_in : Row → GrantBookAt
+abbrev at_in : Row → GrantBook
 at_in v = record { group = nat_in (column v 2); book = grant_book_in v }
 
 abbrev project : List Term
@@ -43,7 +44,7 @@ same_columns : (r : Row) → at_in (drop 1 r) ≡ at_in (Null ∷ Null ∷ colum
 same_columns [] = refl
 same_columns (v ∷ vs) = refl
 
-back : (x : GrantBookAt) (r : Row) → grant_book_cells x ≡ columns r → at_in (drop 1 r) ≡ x
+back : (x : GrantBook) (r : Row) → grant_book_cells x ≡ columns r → at_in (drop 1 r) ≡ x
 back x r is = same_columns r ∙ ap (λ w. at_in (Null ∷ Null ∷ w)) (sym is) ∙ refl
 
 abbrev pub read_grant_books_text : List ℕ
@@ -62,21 +63,21 @@ unfolding understood everything
 read_grant_books_plain = (refl, refl)
 
 books_only : (o : Option Row) →
-    option_map (λ (x : GrantBookAt). x.book) (option_map at_in o) ≡ option_map grant_book_in o
+    option_map (λ (x : GrantBook). x.book) (option_map at_in o) ≡ option_map grant_book_in o
 books_only None = refl
 books_only (Some v) = refl
 
 module _ (a s : List ℕ) where
-  wanted : (g : ℕ) (x : GrantBookAt) (r : Row) → grant_book_cells x ≡ columns r →
+  wanted : (g : ℕ) (x : GrantBook) (r : Row) → grant_book_cells x ≡ columns r →
       is_of_group g r ≡ nat_eq x.group g
   wanted g x r is =
       ap (λ (w : Row). is_eq (value_cmp (nat g) (column w 0))) (sym is) ∙ int_tie x.group g
 
-  pub grant_books_read : (old new : State) (rows : List Row) (xs : List GrantBookAt)
+  pub grant_books_read : (old new : State) (rows : List Row) (xs : List GrantBook)
       → Answers read_grant_books_text (Text a ∷ Text s ∷ []) old new rows
       → map grant_book_cells xs ≡ rows → AreGrantBooks (rows_in old.now.trees a) s xs
   grant_books_read old new rows xs got is g =
-      ap (option_map (λ (x : GrantBookAt). x.book))
+      ap (option_map (λ (x : GrantBook). x.book))
       (listed_told grant_books
       (inr (inr (inr (inr (inr (inr (inr (inr (inr (inr (inr (inl refl))))))))))))
       (inr (inr (inr (inr (inr (inr (inr (inr (inr (inr (inr (inr (inr (inl refl))))))))))))))

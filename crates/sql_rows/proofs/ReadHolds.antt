@@ -28,10 +28,11 @@ use Rattle.sql_tables.proofs.Selections.{meets}
 use Rattle.sql_tables.proofs.Steps.{and_apart, and_true}
 use Rattle.sql_rows.specs.Values.{nat, nat_in, hold_key, hold_in}
 use Rattle.sql_rows.specs.Content.{rows_in}
-use Rattle.sql_rows.specs.Lists.{HoldAt, hold_cells, AreHolds}
+use Rattle.sql_rows.specs.declared.hold_rows.HeldColumns.{HeldColumns}
+use Rattle.sql_rows.specs.Lists.{hold_cells, AreHolds}
 
 -- a stored row as one of the list
-abbrev at_in : Row → HoldAt
+abbrev at_in : Row → HeldColumns
 at_in v = record { group = nat_in (column v 2); bucket = nat_in (column v 3); amount = hold_in v }
 
 abbrev project : List Term
@@ -47,7 +48,7 @@ same_columns : (r : Row) → at_in (drop 1 r) ≡ at_in (Null ∷ Null ∷ colum
 same_columns [] = refl
 same_columns (v ∷ vs) = refl
 
-back : (x : HoldAt) (r : Row) → hold_cells x ≡ columns r → at_in (drop 1 r) ≡ x
+back : (x : HeldColumns) (r : Row) → hold_cells x ≡ columns r → at_in (drop 1 r) ≡ x
 back x r is = same_columns r ∙ ap (λ w. at_in (Null ∷ Null ∷ w)) (sym is) ∙ refl
 
 abbrev pub read_holds_text : List ℕ
@@ -74,7 +75,7 @@ unfolding understood everything
 read_holds_plain = (refl, refl)
 
 amounts_only : (o : Option Row) →
-    option_map (λ (x : HoldAt). x.amount) (option_map at_in o) ≡ option_map hold_in o
+    option_map (λ (x : HeldColumns). x.amount) (option_map at_in o) ≡ option_map hold_in o
 amounts_only None = refl
 amounts_only (Some v) = refl
 
@@ -98,18 +99,18 @@ module _ (a s : List ℕ) where
       ∙ and_apart (equal Binary (column r 1) (Text a))
       (equal Binary (column r 2) (Text s)) (rest g n r)
 
-  wanted : (g n : ℕ) (x : HoldAt) (r : Row) → hold_cells x ≡ columns r → rest g n r ≡
+  wanted : (g n : ℕ) (x : HeldColumns) (r : Row) → hold_cells x ≡ columns r → rest g n r ≡
       (nat_eq x.group g && nat_eq x.bucket n)
   wanted g n x r is =
       ap₂ ◌&&◌ (ap (λ (w : Row). is_eq (value_cmp (nat g) (column w 0))) (sym is)
       ∙ int_tie x.group g)
       (ap (λ (w : Row). is_eq (value_cmp (nat n) (column w 1))) (sym is) ∙ int_tie x.bucket n)
 
-  pub holds_read : (old new : State) (rows : List Row) (xs : List HoldAt) → Answers read_holds_text
+  pub holds_read : (old new : State) (rows : List Row) (xs : List HeldColumns) → Answers read_holds_text
       (Text a ∷ Text s ∷ []) old new rows
       → map hold_cells xs ≡ rows → AreHolds (rows_in old.now.trees a) s xs
   holds_read old new rows xs got is g n =
-      ap (option_map (λ (x : HoldAt). x.amount))
+      ap (option_map (λ (x : HeldColumns). x.amount))
       (listed_told holds (inr (inr (inr (inr (inr (inr (inl refl)))))))
       (inr (inr (inr (inr (inr (inr (inl refl))))))) refl old.now.trees got.fits
       (got.book.stored.1.1.1.1.1.1.0) at_in hold_cells columns

@@ -24,7 +24,8 @@ use Rattle.sql_tables.specs.Statements.{Answers}
 use Rattle.sql_tables.proofs.ByKey.{one_told}
 use Rattle.sql_tables.proofs.Selected.{select_from, told}
 use Rattle.sql_tables.proofs.Ties.{agree_ties_at}
-use Rattle.sql_rows.specs.Values.{VoucherRow, voucher_key, voucher_in_row, voucher_cells}
+use Rattle.sql_rows.specs.declared.voucher_rows.VoucherColumns.{VoucherColumns}
+use Rattle.sql_rows.specs.Values.{voucher_key, voucher_in_row, voucher_cells}
 use Rattle.sql_rows.specs.Content.{tables_content}
 use Rattle.sql_rows.proofs.PutVoucher.{voucher_told}
 
@@ -60,7 +61,7 @@ same_columns : (r : Row) → voucher_in_row (drop 1 r) ≡ voucher_in_row (Null 
 same_columns [] = refl
 same_columns (v ∷ vs) = refl
 
-back : (x : VoucherRow) (r : Row) → voucher_cells x ≡ columns r → voucher_in_row (drop 1 r) ≡ x
+back : (x : VoucherColumns) (r : Row) → voucher_cells x ≡ columns r → voucher_in_row (drop 1 r) ≡ x
 back x r is = same_columns r ∙ ap (λ w. voucher_in_row (Null ∷ w)) (sym is) ∙ voucher_told Null x
 
 module _ (code : List ℕ) where
@@ -72,7 +73,7 @@ module _ (code : List ℕ) where
   abbrev test : Row → Bool
   test r = eq_by_cmp row_cmp (key_of places r) (voucher_key code)
 
-  pub voucher_read : (old new : State) (rows : List Row) (o : Option VoucherRow)
+  pub voucher_read : (old new : State) (rows : List Row) (o : Option VoucherColumns)
       → Answers read_voucher_text (voucher_key code) old new rows
       → rows ≡ map voucher_cells (one_or_none o) → o ≡ (tables_content old.now.trees).vouchers code
   voucher_read old new rows o got is =

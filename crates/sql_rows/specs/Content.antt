@@ -19,7 +19,8 @@ use Rattle.sql_tables.specs.Schema.{holds, answers, vouchers, charges, books, gr
 use Rattle.sql_tables.specs.Schema.{allowance_buckets, covered}
 use Rattle.sql_rows.specs.declared.covered_rows.CoveredColumns.{CoveredColumns}
 use Rattle.sql_rows.specs.declared.head.HeadColumns.{HeadColumns}
-use Rattle.sql_rows.specs.Values.{Meta, Group, Kept, VoucherRow, meta_key, head_key, bucket_key}
+use Rattle.sql_rows.specs.declared.voucher_rows.VoucherColumns.{VoucherColumns}
+use Rattle.sql_rows.specs.Values.{Meta, Group, Kept, meta_key, head_key, bucket_key}
 use Rattle.sql_rows.specs.Values.{counter_key, session_key, group_key, hold_key, answer_key}
 use Rattle.sql_rows.specs.Values.{voucher_key, charge_key, meta_in, head_in, bucket_in_row}
 use Rattle.sql_rows.specs.Values.{counter_in_row}
@@ -59,7 +60,7 @@ pub record TablesContent : Type 0 where
   -- by account
   pub rows : AccountName → TableRows
   -- by code
-  pub vouchers : VoucherCode → Option VoucherRow
+  pub vouchers : VoucherCode → Option VoucherColumns
   -- the books after the first, by number
   pub books : BookNumber → Option BookRow
   -- how many accounts there are
@@ -180,7 +181,7 @@ without_covered n r = record r { covered = λ m. if nat_eq n m then None else r.
 abbrev pub with_book_row : BookNumber → BookRow → TablesContent → TablesContent
 with_book_row n x c = record c { books = λ m. if nat_eq n m then Some x else c.books m }
 
-abbrev pub with_voucher_row : VoucherCode → VoucherRow → TablesContent → TablesContent
+abbrev pub with_voucher_row : VoucherCode → VoucherColumns → TablesContent → TablesContent
 with_voucher_row code x c =
     record c { vouchers = λ k. if same_name code k then Some x else c.vouchers k }
 

@@ -9,7 +9,7 @@ use Rattle.std.specs.Cmp.Lexicographic.{slice_cmp}
 use Rattle.std.specs.List.{find}
 use Rattle.units.specs.Words.{GroupId, CycleNumber, BookNumber}
 use Rattle.identifiers.specs.Words.{SessionName, AccountName}
-use Rattle.buckets.specs.Words.{BucketNumber, BucketAmount}
+use Rattle.buckets.specs.Words.{BucketNumber}
 use Rattle.ledger.specs.Words.{ChargeNumber}
 use Rattle.sqlite_value.specs.declared.value.Value.TheVariants.{Text}
 use Rattle.sqlite_value.specs.Order.{Row as Values}
@@ -25,7 +25,9 @@ use Rattle.sql_rows.specs.Values.{BookRow, Group, book_values, flag_number}
 use Rattle.sql_rows.specs.Values.{counter_cells, group_cells, head_cells, nat}
 use Rattle.sql_rows.specs.Content.{TablesContent, TableRows}
 use Rattle.sql_rows.specs.declared.covered_rows.CoveredColumns.{CoveredColumns}
+use Rattle.sql_rows.specs.declared.grant_book_rows.GrantBook.{GrantBook}
 use Rattle.sql_rows.specs.declared.head.HeadColumns.{HeadColumns}
+use Rattle.sql_rows.specs.declared.hold_rows.HeldColumns.{HeldColumns}
 
 abbrev pub is_live_bucket : BucketRow → Bool
 is_live_bucket b = nat_lt 0 b.available || nat_lt 0 b.reserved
@@ -121,25 +123,19 @@ abbrev pub AreGroups : TableRows → SessionName → List GroupAt → Type 0
 AreGroups rows s xs = (g : GroupId) →
     option_map (λ (x : GroupAt). x.row) (find (λ x. nat_eq x.group g) xs) ≡ rows.groups s g
 
--- what is held for a session's rating group of a bucket, in micro-units
-pub record HoldAt : Type 0 where
-  pub group : GroupId
-  pub bucket : BucketNumber
-  pub amount : BucketAmount
-
--- by the rating group, and within one by the bucket
-abbrev pub hold_before : HoldAt → HoldAt → Bool
+-- what is held for a session: by the rating group, and within one by the bucket
+abbrev pub hold_before : HeldColumns → HeldColumns → Bool
 hold_before x y =
     nat_lt x.group y.group || (nat_eq x.group y.group && nat_lt x.bucket y.bucket)
 
-abbrev pub hold_cells : HoldAt → Values
+abbrev pub hold_cells : HeldColumns → Values
 hold_cells h = nat h.group ∷ nat h.bucket ∷ nat h.amount ∷ []
 
 -- all that is held for the session
-abbrev pub AreHolds : TableRows → SessionName → List HoldAt → Type 0
+abbrev pub AreHolds : TableRows → SessionName → List HeldColumns → Type 0
 AreHolds rows s xs = (g : GroupId) (n : BucketNumber) →
-    option_map (λ (x : HoldAt). x.amount) (find (λ x. nat_eq x.group g && nat_eq x.bucket n) xs)
-    ≡ rows.holds s g n
+    option_map (λ (x : HeldColumns). x.amount)
+    (find (λ x. nat_eq x.group g && nat_eq x.bucket n) xs) ≡ rows.holds s g n
 
 -- what is held for a session of an account
 pub record SessionHoldAt : Type 0 where
@@ -189,21 +185,17 @@ AreAllGrantBooks rows xs = (s : List ℕ) (g : ℕ) →
     option_map (λ (x : SessionBookAt). x.book) (find (is_book_of s g) xs) ≡ rows.grant_books s g
 
 -- the number of the book of a session's reservation in a rating group
-pub record GrantBookAt : Type 0 where
-  pub group : GroupId
-  pub book : BookNumber
-
-abbrev pub grant_book_cells : GrantBookAt → Values
+abbrev pub grant_book_cells : GrantBook → Values
 grant_book_cells x = nat x.group ∷ nat x.book ∷ []
 
 -- by the rating group
-abbrev pub grant_book_before : GrantBookAt → GrantBookAt → Bool
+abbrev pub grant_book_before : GrantBook → GrantBook → Bool
 grant_book_before x y = nat_lt x.group y.group
 
 -- those of all reservations of the session
-abbrev pub AreGrantBooks : TableRows → SessionName → List GrantBookAt → Type 0
+abbrev pub AreGrantBooks : TableRows → SessionName → List GrantBook → Type 0
 AreGrantBooks rows s xs = (g : GroupId) →
-    option_map (λ (x : GrantBookAt). x.book) (find (λ x. nat_eq x.group g) xs)
+    option_map (λ (x : GrantBook). x.book) (find (λ x. nat_eq x.group g) xs)
     ≡ rows.grant_books s g
 
 -- a book after the first under its number

@@ -13,22 +13,19 @@ use Rattle.buckets.specs.declared.bucket.columns.Columns.{Columns as BucketColum
 pub use Rattle.buckets.specs.Columns.{row_of_columns as bucket_row}
 use Rattle.sql_rows.specs.declared.answer_rows.KeptTexts.{KeptTexts}
 use Rattle.sql_rows.specs.declared.book_rows.BookColumns.{BookColumns}
-use Rattle.sql_rows.specs.declared.grant_book_rows.GrantBook.{GrantBook}
 use Rattle.sql_rows.specs.declared.group_rows.GroupColumns.{GroupColumns}
 use Rattle.sql_rows.specs.declared.group_rows.PeriodTexts.{PeriodTexts}
 use Rattle.sql_rows.specs.declared.group_rows.PutNames.{PutNames}
-use Rattle.sql_rows.specs.declared.hold_rows.HeldColumns.{HeldColumns}
 use Rattle.sql_rows.specs.declared.meta_rows.MetaColumns.{MetaColumns}
 use Rattle.sql_rows.specs.declared.open_group_rows.OpenGroup.{OpenGroup}
 use Rattle.sql_rows.specs.declared.reserved_rows.ReservedColumns.{ReservedColumns}
 use Rattle.sql_rows.specs.declared.session_book_rows.SessionBook.{SessionBook}
 use Rattle.sql_rows.specs.declared.session_hold_rows.SessionHold.{SessionHold}
-use Rattle.sql_rows.specs.declared.voucher_rows.VoucherColumns.{VoucherColumns}
 use Rattle.sql_tables.specs.Statements.{Reads, ReadsWithin}
 use Rattle.sql_rows.specs.Content.{rows_in}
-use Rattle.sql_rows.specs.Lists.{AreBuckets, BookAt, GrantBookAt, GroupAt, HoldAt, OpenGroupAt}
-use Rattle.sql_rows.specs.Lists.{ReservedAt, SessionBookAt, SessionHoldAt}
-use Rattle.sql_rows.specs.Values.{Kept, Meta, PeriodNames, VoucherRow}
+use Rattle.sql_rows.specs.Lists.{AreBuckets, BookAt, GroupAt, OpenGroupAt, ReservedAt}
+use Rattle.sql_rows.specs.Lists.{SessionBookAt, SessionHoldAt}
+use Rattle.sql_rows.specs.Values.{Kept, Meta, PeriodNames}
 
 abbrev pub kept_of : KeptTexts → Kept
 kept_of k = record { content = string_bytes k.content; answer = string_bytes k.answer }
@@ -47,9 +44,6 @@ abbrev pub ReadsBucketsWithin : {E : Type 0} → (BucketRow → Bool) → Accoun
     Result (Vec BucketColumns Global) E → Type 0
 ReadsBucketsWithin test account =
     ReadsWithin (λ trees bs. AreBuckets test (rows_in trees account) (map bucket_row bs.items))
-
-abbrev pub voucher_of : VoucherColumns → VoucherRow
-voucher_of v = record { amount = v.amount; days = v.days; scope = v.scope; account = v.account }
 
 abbrev pub names_of : PeriodTexts → PeriodNames
 names_of p = record { before = string_bytes p.before; after = string_bytes p.after }
@@ -86,17 +80,11 @@ session_book_at x = record {
   book = x.columns.book;
 }
 
-abbrev pub hold_at : HeldColumns → HoldAt
-hold_at h = record { group = h.group; bucket = h.bucket; amount = h.amount }
-
 abbrev pub book_at : BookColumns → BookAt
 book_at b = record {
   number = b.number;
   row = record { starts = b.starts; content = string_bytes b.content };
 }
-
-abbrev pub grant_book_at : GrantBook → GrantBookAt
-grant_book_at x = record { group = x.group; book = x.book }
 
 abbrev pub reserved_at : ReservedColumns → ReservedAt
 reserved_at x = record {

@@ -2,8 +2,8 @@
 -- Source: profile.
 use Rattle.std.specs.Prelude.{ℕ, zero, suc, pos, negsuc, Bool, List, [], ◌∷◌, Option, Some, None}
 use Rattle.std.specs.Prelude.{is_some, if◌then◌else◌, ◌==◌}
-use Rattle.units.specs.Words.{Moment, DayCount, Micros, UnitCount, BlockCount, GroupId, CycleNumber}
-use Rattle.units.specs.Words.{BookNumber, CcRequestNumber}
+use Rattle.units.specs.Words.{Moment, UnitCount, BlockCount, GroupId, CycleNumber, BookNumber}
+use Rattle.units.specs.Words.{CcRequestNumber}
 use Rattle.identifiers.specs.Words.{SessionName, AccountName, VoucherCode}
 use Rattle.buckets.specs.Words.{BucketNumber, BucketAmount}
 use Rattle.ledger.specs.Words.{ChargeNumber}
@@ -23,6 +23,7 @@ use Rattle.reserving.specs.declared.session.Counter.{Counter}
 use Rattle.ledger.specs.declared.charge.ChargeRow.{ChargeRow}
 use Rattle.sql_rows.specs.declared.covered_rows.CoveredColumns.{CoveredColumns}
 use Rattle.sql_rows.specs.declared.head.HeadColumns.{HeadColumns}
+use Rattle.sql_rows.specs.declared.voucher_rows.VoucherColumns.{VoucherColumns}
 
 -- ---- one value; what isn't of its kind reads as nothing
 
@@ -269,25 +270,18 @@ answer_in_row v = record { content = text_in (column v 4); answer = text_in (col
 
 -- ---- `vouchers`
 
-pub record VoucherRow : Type 0 where
-  pub amount : Micros
-  pub days : Option DayCount
-  pub scope : Option GroupId
-  -- the account that redeemed it
-  pub account : Option AccountName
-
 abbrev pub voucher_key : VoucherCode → Values
 voucher_key code = Text code ∷ []
 
 -- the columns after the key
-abbrev pub voucher_cells : VoucherRow → Values
+abbrev pub voucher_cells : VoucherColumns → Values
 voucher_cells r =
     nat r.amount ∷ or_null nat r.days ∷ or_null nat r.scope ∷ or_null Text r.account ∷ []
 
-abbrev pub voucher_values : VoucherCode → VoucherRow → Values
+abbrev pub voucher_values : VoucherCode → VoucherColumns → Values
 voucher_values code r = Text code ∷ voucher_cells r
 
-abbrev pub voucher_in_row : Values → VoucherRow
+abbrev pub voucher_in_row : Values → VoucherColumns
 voucher_in_row v = record {
   amount = nat_in (column v 1);
   days = optional_in (column v 2);

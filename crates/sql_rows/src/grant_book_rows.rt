@@ -3,7 +3,6 @@
 ghost use Rattle.std.specs.Prelude.{◌≡◌, map, IfOk};
 ghost use Rattle.sql_rows.specs.Content.{rows_in, with_grant_book, with_rows, without_grant_book};
 ghost use Rattle.sql_rows.specs.Lists.{AreGrantBooks, Ascends, grant_book_before, grant_book_cells};
-ghost use Rattle.sql_rows.specs.Texts.{grant_book_at};
 ghost use Rattle.sql_rows.specs.Makes.{Makes};
 ghost use Rattle.sql_tables.specs.Statements.{HasBook, HasIdleBook, Reads, AttemptsOver};
 ghost use Rattle.sqlite.specs.Held.{state};
@@ -79,7 +78,7 @@ pub fn remove_grant_book<S: Alter>(
 }
 
 impl InOrder for GrantBook {
-    ghost before = { λ x y. grant_book_before (grant_book_at x) (grant_book_at y) };
+    ghost before = { grant_book_before };
 
     fn is_before(&self, other: &GrantBook) -> bool {
         self.group < other.group
@@ -99,9 +98,9 @@ pub fn read_grant_books<S: Alter>(
 ) -> Result<Vec<GrantBook>, ReadFault>
     requires idle { HasIdleBook (state S.Store conn.old) }
     ensures reads { Reads (λ trees xs.
-        AreGrantBooks (rows_in trees account.now) session.now (map grant_book_at xs.items))
+        AreGrantBooks (rows_in trees account.now) session.now xs.items)
         (state S.Store conn.old) (state S.Store conn.new) result }
-    ensures order { IfOk result (λ xs. Ascends grant_book_before (map grant_book_at xs.items)) }
+    ensures order { IfOk result (λ xs. Ascends grant_book_before xs.items) }
 {
     let rows = read(
         conn,
@@ -113,9 +112,8 @@ pub fn read_grant_books<S: Alter>(
 }
 
 fn grant_books_from(alloc: Global, rows: &[Row]) -> Result<Vec<GrantBook>, ReadFault>
-    ensures cells { IfOk result
-        (λ xs. map grant_book_cells (map grant_book_at xs.items) ≡ rows.now) }
-    ensures order { IfOk result (λ xs. Ascends grant_book_before (map grant_book_at xs.items)) }
+    ensures cells { IfOk result (λ xs. map grant_book_cells xs.items ≡ rows.now) }
+    ensures order { IfOk result (λ xs. Ascends grant_book_before xs.items) }
 {
     let mut books = Vec::new(alloc);
     'rows: for row in rows {
@@ -129,7 +127,7 @@ fn grant_books_from(alloc: Global, rows: &[Row]) -> Result<Vec<GrantBook>, ReadF
 }
 
 fn grant_book_from(row: &Row) -> Result<GrantBook, ReadFault>
-    ensures { IfOk result (λ x. row.now ≡ grant_book_cells (grant_book_at x)) }
+    ensures { IfOk result (λ x. row.now ≡ grant_book_cells x) }
 {
     has_columns(row, 2)?;
     let group = small_at(row, 0)?;

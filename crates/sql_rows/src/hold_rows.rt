@@ -4,7 +4,6 @@ ghost use Rattle.std.specs.Prelude.{◌≡◌, map, IfOk};
 ghost use Rattle.sql_rows.specs.Content.{rows_in, with_hold_row, with_rows, without_holds};
 ghost use Rattle.sql_rows.specs.Each.{with_holds};
 ghost use Rattle.sql_rows.specs.Lists.{AreHolds, Ascends, hold_before, hold_cells};
-ghost use Rattle.sql_rows.specs.Texts.{hold_at};
 ghost use Rattle.sql_rows.specs.Makes.{Makes, MakesIfOpen};
 ghost use Rattle.sql_tables.specs.Statements.{HasBook, HasIdleBook, IsInside, Reads};
 ghost use Rattle.sql_tables.specs.Statements.{AttemptsOver};
@@ -29,7 +28,7 @@ pub struct HeldColumns {
 }
 
 impl InOrder for HeldColumns {
-    ghost before = { λ x y. hold_before (hold_at x) (hold_at y) };
+    ghost before = { hold_before };
 
     fn is_before(&self, other: &HeldColumns) -> bool {
         self.group < other.group || self.group == other.group && self.bucket < other.bucket
@@ -105,9 +104,9 @@ pub fn read_holds<S: Alter>(
 ) -> Result<Vec<HeldColumns>, ReadFault>
     requires idle { HasIdleBook (state S.Store conn.old) }
     ensures reads { Reads (λ trees xs.
-        AreHolds (rows_in trees account.now) session.now (map hold_at xs.items))
+        AreHolds (rows_in trees account.now) session.now xs.items)
         (state S.Store conn.old) (state S.Store conn.new) result }
-    ensures order { IfOk result (λ xs. Ascends hold_before (map hold_at xs.items)) }
+    ensures order { IfOk result (λ xs. Ascends hold_before xs.items) }
 {
     let rows = read(
         conn,
@@ -119,8 +118,8 @@ pub fn read_holds<S: Alter>(
 }
 
 fn helds_from(alloc: Global, rows: &[Row]) -> Result<Vec<HeldColumns>, ReadFault>
-    ensures cells { IfOk result (λ xs. map hold_cells (map hold_at xs.items) ≡ rows.now) }
-    ensures order { IfOk result (λ xs. Ascends hold_before (map hold_at xs.items)) }
+    ensures cells { IfOk result (λ xs. map hold_cells xs.items ≡ rows.now) }
+    ensures order { IfOk result (λ xs. Ascends hold_before xs.items) }
 {
     let mut helds = Vec::new(alloc);
     'rows: for row in rows {
@@ -134,7 +133,7 @@ fn helds_from(alloc: Global, rows: &[Row]) -> Result<Vec<HeldColumns>, ReadFault
 }
 
 fn held_from(row: &Row) -> Result<HeldColumns, ReadFault>
-    ensures { IfOk result (λ h. row.now ≡ hold_cells (hold_at h)) }
+    ensures { IfOk result (λ h. row.now ≡ hold_cells h) }
 {
     has_columns(row, 3)?;
     let group = small_at(row, 0)?;

@@ -1,10 +1,9 @@
 //! Rows of vouchers.
 
-ghost use Rattle.std.specs.Prelude.{◌≡◌, map, option_copied, option_map, IfOk};
+ghost use Rattle.std.specs.Prelude.{◌≡◌, map, option_copied, IfOk};
 ghost use Rattle.sqlite_value.specs.Value.{owned};
 ghost use Rattle.sqlite_value.specs.declared.value.Value.TheVariants.{Text};
 ghost use Rattle.sql_rows.specs.Content.{tables_content, with_voucher_row};
-ghost use Rattle.sql_rows.specs.Texts.{voucher_of};
 ghost use Rattle.sql_rows.specs.Values.{voucher_cells};
 ghost use Rattle.sql_rows.specs.Makes.{Makes};
 ghost use Rattle.sql_tables.specs.Statements.{HasBook, HasIdleBook, Reads, AttemptsOver};
@@ -94,8 +93,7 @@ pub fn read_voucher<S: Alter>(
     code: &str,
 ) -> Result<Option<VoucherColumns>, ReadFault>
     requires idle { HasIdleBook (state S.Store conn.old) }
-    ensures reads { Reads (λ trees o.
-        option_map voucher_of o ≡ (tables_content trees).vouchers code.now)
+    ensures reads { Reads (λ trees o. o ≡ (tables_content trees).vouchers code.now)
         (state S.Store conn.old) (state S.Store conn.new) result }
 {
     let of_code = text(code);
@@ -108,8 +106,7 @@ pub fn read_voucher<S: Alter>(
 }
 
 fn voucher_among(alloc: Global, rows: &[Row]) -> Result<Option<VoucherColumns>, ReadFault>
-    ensures { IfOk result
-        (λ o. rows.now ≡ map voucher_cells (one_or_none (option_map voucher_of o))) }
+    ensures { IfOk result (λ o. rows.now ≡ map voucher_cells (one_or_none o)) }
 {
     let row = one_of(rows)?;
     match row {
@@ -119,7 +116,7 @@ fn voucher_among(alloc: Global, rows: &[Row]) -> Result<Option<VoucherColumns>, 
 }
 
 fn voucher_from(alloc: Global, row: &Row) -> Result<VoucherColumns, ReadFault>
-    ensures { IfOk result (λ v. row.now ≡ voucher_cells (voucher_of v)) }
+    ensures { IfOk result (λ v. row.now ≡ voucher_cells v) }
 {
     has_columns(row, 4)?;
     let amount = number_at(row, 0)?;

@@ -12,6 +12,7 @@ use Rattle.ledger.specs.declared.charge.ChargeRow.{ChargeRow}
 use Rattle.ledger.proofs.Holds.{same_from}
 use Rattle.sql_rows.specs.declared.covered_rows.CoveredColumns.{CoveredColumns}
 use Rattle.sql_rows.specs.declared.head.HeadColumns.{HeadColumns}
+use Rattle.sql_rows.specs.declared.voucher_rows.VoucherColumns.{VoucherColumns}
 use Rattle.sql_rows.specs.Content.{TablesContent, TableRows, with_account, with_allowance}
 use Rattle.sql_rows.specs.Content.{with_answer}
 use Rattle.sql_rows.specs.Content.{with_book_row}
@@ -20,7 +21,7 @@ use Rattle.sql_rows.specs.Content.{with_grant_book, with_group_row, with_head, w
 use Rattle.sql_rows.specs.Content.{with_meta}
 use Rattle.sql_rows.specs.Content.{with_rows, with_session_row, with_voucher_row, without_allowance}
 use Rattle.sql_rows.specs.Content.{without_covered, without_grant_book, without_holds}
-use Rattle.sql_rows.specs.Values.{BookRow, Group, Kept, Meta, VoucherRow}
+use Rattle.sql_rows.specs.Values.{BookRow, Group, Kept, Meta}
 use Rattle.sql_rules.specs.Columns.{is_moment, is_numbering, is_some_money, is_in_bounds}
 use Rattle.sql_rules.specs.Ruled.{AreInRules, IsInRules, is_account, is_answer, is_book, is_bucket}
 use Rattle.sql_rules.specs.Ruled.{is_charge, is_counter, is_group, is_session, is_voucher}
@@ -340,7 +341,7 @@ module _ (shelf : Shelf) (c : TablesContent) (in' : IsInRules shelf c) where
     books = in'.books;
   }
 
-  pub voucher_kept : (code : List ℕ) (x : VoucherRow) → is_voucher code x ≡ true
+  pub voucher_kept : (code : List ℕ) (x : VoucherColumns) → is_voucher code x ≡ true
       → IsInRules shelf (with_voucher_row code x c)
   voucher_kept code x rule = record {
     once = in'.once;

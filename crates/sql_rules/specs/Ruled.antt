@@ -14,8 +14,9 @@ use Rattle.reserving.specs.declared.session.Counter.{Counter}
 use Rattle.ledger.specs.declared.charge.ChargeRow.{ChargeRow}
 use Rattle.sql_rows.specs.Words.{KeyKind, KeyName, KeyNumber}
 use Rattle.sql_rows.specs.declared.head.HeadColumns.{HeadColumns}
+use Rattle.sql_rows.specs.declared.voucher_rows.VoucherColumns.{VoucherColumns}
 use Rattle.sql_rows.specs.Content.{TablesContent, TableRows}
-use Rattle.sql_rows.specs.Values.{BookRow, Group, Kept, Meta, VoucherRow, answer_values}
+use Rattle.sql_rows.specs.Values.{BookRow, Group, Kept, Meta, answer_values}
 use Rattle.sql_rows.specs.Values.{book_values, counter_cells, covered_cells, grant_book_values}
 use Rattle.sql_rows.specs.Values.{group_cells, head_values, hold_values, meta_values, money_cells}
 use Rattle.sql_rows.specs.Values.{number_cells, priced_cells, session_cells, voucher_values}
@@ -68,7 +69,7 @@ is_book_of books n = is_ruled_book_of books (Null ∷ grant_book_values [] [] 0 
 abbrev pub is_answer : AccountName → KeyKind → KeyName → KeyNumber → Kept → Bool
 is_answer a kind name number k = is_ruled_answer (Null ∷ answer_values a kind name number k)
 
-abbrev pub is_voucher : VoucherCode → VoucherRow → Bool
+abbrev pub is_voucher : VoucherCode → VoucherColumns → Bool
 is_voucher code x = is_ruled_voucher (Null ∷ voucher_values code x)
 
 abbrev pub is_charge : ChargeRow → Bool
@@ -108,6 +109,6 @@ pub record IsInRules (shelf : Shelf) (c : TablesContent) : Type 0 where
   pub once : c.kept ≤ 1
   pub meta : (m : Meta) → c.meta ≡ Some m → IsTrue (is_meta m)
   pub rows : (a : List ℕ) → AreInRules shelf a (c.rows a)
-  pub vouchers : (code : List ℕ) (x : VoucherRow) → c.vouchers code ≡ Some x
+  pub vouchers : (code : List ℕ) (x : VoucherColumns) → c.vouchers code ≡ Some x
       → IsTrue (is_voucher code x)
   pub books : (n : ℕ) (x : BookRow) → c.books n ≡ Some x → IsTrue (is_book n x)

@@ -1,7 +1,6 @@
 use Rattle.std.proofs.Common.{[], ◌∷◌, map, ap, ◌∙◌}
 use Rattle.sqlite.specs.Values.{bound_value}
 use Rattle.sqlite_value.specs.declared.value.Value.TheVariants.{Text}
-use Rattle.sql_rows.specs.Texts.{grant_book_at}
 use Rattle.sql_tables.proofs.Telling.{reads_as}
 use Rattle.sql_rows.proofs.ReadGrantBooks.{read_grant_books_text, read_grant_books_plain}
 use Rattle.sql_rows.proofs.ReadGrantBooks.{grant_books_read}
@@ -17,5 +16,4 @@ returns-clause-reads g c =
     (λ i. map bound_value ((c.text.ensures ∙ ap Text c.as_str.ensures.value) i ∷
     (c.text-2.ensures ∙ ap Text c.as_str-2.ensures.value) i ∷ []))
     c.deref.ensures.value c.grant_books_from.ensures.cells
-    (λ xs. grant_books_read c.args.account.now c.args.session.now _ _ _
-    (map grant_book_at xs.items))
+    (λ xs. grant_books_read c.args.account.now c.args.session.now _ _ _ xs.items)

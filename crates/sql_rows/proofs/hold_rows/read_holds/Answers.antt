@@ -1,7 +1,6 @@
 use Rattle.std.proofs.Common.{[], ◌∷◌, map, ap, ◌∙◌}
 use Rattle.sqlite.specs.Values.{bound_value}
 use Rattle.sqlite_value.specs.declared.value.Value.TheVariants.{Text}
-use Rattle.sql_rows.specs.Texts.{hold_at}
 use Rattle.sql_tables.proofs.Telling.{reads_as}
 use Rattle.sql_rows.proofs.ReadHolds.{read_holds_text, read_holds_plain, holds_read}
 use Rattle.sql_rows.proofs.hold_rows.read_holds.Goals as goal
@@ -16,4 +15,4 @@ returns-clause-reads g c =
     (λ i. map bound_value ((c.text.ensures ∙ ap Text c.as_str.ensures.value) i ∷
     (c.text-2.ensures ∙ ap Text c.as_str-2.ensures.value) i ∷ []))
     c.deref.ensures.value c.helds_from.ensures.cells
-    (λ xs. holds_read c.args.account.now c.args.session.now _ _ _ (map hold_at xs.items))
+    (λ xs. holds_read c.args.account.now c.args.session.now _ _ _ xs.items)

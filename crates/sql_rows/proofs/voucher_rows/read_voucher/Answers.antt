@@ -1,7 +1,5 @@
 use Rattle.std.proofs.Common.{[], ◌∷◌, map}
 use Rattle.sqlite.specs.Values.{bound_value}
-use Rattle.std.specs.Prelude.{option_map}
-use Rattle.sql_rows.specs.Texts.{voucher_of}
 use Rattle.sql_tables.proofs.Telling.{reads_as}
 use Rattle.sql_rows.proofs.ReadVoucher.{read_voucher_text, read_voucher_plain, voucher_read}
 use Rattle.sql_rows.proofs.voucher_rows.read_voucher.Goals as goal
@@ -15,5 +13,5 @@ returns g c = record {
       c.read.ensures.stops c.in_ok-rows.ensures.answers
       (λ i. map bound_value (c.text-of_code.ensures i ∷ []))
       c.deref.ensures.value c.voucher_among.ensures
-      (λ o. voucher_read c.args.code.now _ _ _ (option_map voucher_of o));
+      (voucher_read c.args.code.now _ _ _);
 }
