@@ -1,11 +1,14 @@
 pub mod AccountsApart
 pub mod AddCharge
+pub mod AddGroup
+pub mod AddSession
 pub mod Adds
 pub mod BookRules
 pub mod BucketRules
 pub mod ChargeBlocks
 pub mod Dead
 pub mod Each
+pub mod Inserts
 pub mod MetaRules
 pub mod NamedTexts
 pub mod NamesPut

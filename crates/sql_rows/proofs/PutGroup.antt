@@ -49,7 +49,7 @@ put_group_text =
     ++ codes "reserved = excluded.reserved, period_before = excluded.period_before, "
     ++ codes "period_after = excluded.period_after"
 
-abbrev terms : List Term
+abbrev pub terms : List Term
 terms = lit Null ∷ col 0 0 ∷ col 0 1 ∷ col 0 2 ∷ col 0 3 ∷ col 0 4 ∷ col 0 5 ∷ col 0 6 ∷ []
 
 abbrev project : List Term
@@ -81,16 +81,16 @@ group_told v w g row = go row.periods refl
     go (Some p) e = rw e refl
 
 module _ (a s : List ℕ) (g : ℕ) (row : Group) where
-  abbrev values : Row
+  abbrev pub values : Row
   values = group_values a s g row
 
-  again : (id : ℤ) → cast_row session_groups (Int id ∷ values) ≡ Int id ∷ values
+  pub again : (id : ℤ) → cast_row session_groups (Int id ∷ values) ≡ Int id ∷ values
   again id = simp (cast_int, cast_or_text)
 
-  unset : cast_row session_groups (Null ∷ values) ≡ Null ∷ values
+  pub unset : cast_row session_groups (Null ∷ values) ≡ Null ∷ values
   unset = simp (cast_int, cast_or_text, cast_null)
 
-  meets : (id : ℤ) (other : Row) →
+  pub meets : (id : ℤ) (other : Row) →
       conflicts (Some places) book_schema.indexes session_groups (Int id ∷ values) other
       ≡ eq_by_cmp row_cmp (key_of places other) (key_of places (Int id ∷ values))
   meets id other = or_false (agree plain places other places (Int id ∷ values))
@@ -106,7 +106,7 @@ module _ (a s : List ℕ) (g : ℕ) (row : Group) where
       put_group_text terms project 8 7 put_is put_plain values (λ olds new. refl) again unset
       (λ id met r. refl) (λ id met. refl) refl (λ v. refl) (λ id. (refl, (refl, (refl, tt)))) meets
 
-  turns : (old new : Trees) → Changes session_groups values old new
+  pub turns : (old new : Trees) → Changes session_groups values old new
       → tables_content new ≡ with_rows a (with_group_row s g row) (tables_content old)
   turns old new c =
       only_changed 10 old new c.others

@@ -50,7 +50,7 @@ put_session_text =
     ++ codes
     "last_number = excluded.last_number, touched = excluded.touched, state = excluded.state"
 
-abbrev terms : List Term
+abbrev pub terms : List Term
 terms = lit Null ∷ col 0 0 ∷ col 0 1 ∷ col 0 2 ∷ col 0 3 ∷ col 0 4 ∷ []
 
 abbrev project : List Term
@@ -81,16 +81,16 @@ session_told v row = go row.state refl
     go NeverOpened e = rw e refl
 
 module _ (a : List ℕ) (row : Session) where
-  abbrev values : Row
+  abbrev pub values : Row
   values = session_values a row
 
-  again : (id : ℤ) → cast_row sessions (Int id ∷ values) ≡ Int id ∷ values
+  pub again : (id : ℤ) → cast_row sessions (Int id ∷ values) ≡ Int id ∷ values
   again id = simp (cast_int)
 
-  unset : cast_row sessions (Null ∷ values) ≡ Null ∷ values
+  pub unset : cast_row sessions (Null ∷ values) ≡ Null ∷ values
   unset = simp (cast_int, cast_null)
 
-  meets : (id : ℤ) (other : Row) →
+  pub meets : (id : ℤ) (other : Row) →
       conflicts (Some places) book_schema.indexes sessions (Int id ∷ values) other
       ≡ eq_by_cmp row_cmp (key_of places other) (key_of places (Int id ∷ values))
   meets id other = or_false (agree plain places other places (Int id ∷ values))
@@ -106,7 +106,7 @@ module _ (a : List ℕ) (row : Session) where
       put_session_text terms project 6 5 put_is put_plain values (λ olds new. refl) again unset
       (λ id met r. refl) (λ id met. refl) refl (λ v. refl) (λ id. (refl, (refl, tt))) meets
 
-  turns : (old new : Trees) → Changes sessions values old new
+  pub turns : (old new : Trees) → Changes sessions values old new
       → tables_content new ≡ with_rows a (with_session_row row) (tables_content old)
   turns old new c =
       only_changed 8 old new c.others

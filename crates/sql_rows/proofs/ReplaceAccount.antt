@@ -69,7 +69,8 @@ module _ (a : List ℕ) (h : HeadColumns) where
   pub replaces_account : (params : Row) → params ≡ values a h
       → (old new : State) (count : ℕ) → HasBook old
       → Attempts {A = ℕ} {E = Error}
-      (λ old new. ExecutesInside 0 replace_account_text params old new (Ok count)) old new (Ok count)
+      (λ old new. ExecutesInside 0 replace_account_text params old new (Ok count)) old new
+      (Ok count)
       → ReplacesIfSome {E = Error} (has_account a) (with_account a h) old new (Ok (count == 1))
   replaces_account = replaces accounts (values a h) (has_account a) (with_account a h)
       (λ trees. is_some_map head_in _) (turns a h) (plain_account a h) replace_account_text runs
@@ -77,7 +78,8 @@ module _ (a : List ℕ) (h : HeadColumns) where
   pub rules_account_replaced : (params : Row) → params ≡ values a h
       → (old new : State) (count : ℕ) → HasBook old
       → Attempts {A = ℕ} {E = Error}
-      (λ old new. ExecutesInside 0 replace_account_text params old new (Ok count)) old new (Ok count)
+      (λ old new. ExecutesInside 0 replace_account_text params old new (Ok count)) old new
+      (Ok count)
       → HasRules new
   rules_account_replaced = rules_replaced accounts (values a h) (has_account a) (with_account a h)
       (λ trees. is_some_map head_in _) (turns a h) (plain_account a h) replace_account_text runs

@@ -2,8 +2,8 @@
 -- has the new values, or there is none.
 use Rattle.std.proofs.Common.{◌≡◌, ◌≢◌, ◌⊎◌, inl, inr, ℕ, ℤ, List, [], ◌∷◌, map, filter, length}
 use Rattle.std.proofs.Common.{slice_get, Bool, true, false, Some, None, Option, Ok, Err, Result}
-use Rattle.std.proofs.Common.{IsTrue, OnOk, OnErr, is_eq, refl, sym, ap, subst, ◌∙◌, ◌+◌, ◌==◌, suc, drop}
-use Rattle.std.proofs.Common.{eq-eqb, true-eqb, ap₂, arith}
+use Rattle.std.proofs.Common.{IsTrue, OnOk, OnErr, is_eq, refl, sym, ap, subst, ◌∙◌, ◌+◌, ◌==◌}
+use Rattle.std.proofs.Common.{suc, drop, eq-eqb, true-eqb, ap₂, arith}
 use Rattle.std.specs.Prelude.{IfOk, is_some, if◌then◌else◌, unwrap_or}
 use Rattle.std.proofs.lemmas.Bool.{and_parts, not-true}
 use Rattle.std.proofs.lemmas.Cmp.{tied_itself}
@@ -164,13 +164,15 @@ module _ (table : Table) (tabled : Has book_schema.tables table)
     number : (r : Row) → Has rows_in r → rowid r ≡ Int (id_in (rowid r))
     number r has = int_is (rowid r) (all_has _ rows_in r stored.1 has)
 
-    cast_made : (r : Row) → Has rows_in r → cast_row table (rowid r ∷ values) ≡ made (id_in (rowid r))
+    cast_made : (r : Row) → Has rows_in r
+        → cast_row table (rowid r ∷ values) ≡ made (id_in (rowid r))
     cast_made r has = ap (λ v. cast_row table (v ∷ values)) (number r has)
         ∙ again (id_in (rowid r))
 
     -- a row that is selected is there anew
     is_put : (x : Row) (more : List Row) (next : Trees) (r : Row) → Has rows_in r
-        → Has (x ∷ more) (columns r) → Settling book_schema Enforced db (edit_by (x ∷ more)) (Ok next)
+        → Has (x ∷ more) (columns r)
+        → Settling book_schema Enforced db (edit_by (x ∷ more)) (Ok next)
         → Has (next table.tree) (made (id_in (rowid r))) × Fits book_schema next
     is_put x more next r has picked h =
         let edit = edit_by (x ∷ more) in

@@ -118,10 +118,18 @@ with_session_row x r = record r {
   sessions = λ s. if same_name x.id s then Some x else r.sessions s;
 }
 
+-- whether an account has a session of a name, or a recorded event
+abbrev pub has_session : AccountName → SessionName → TablesContent → Bool
+has_session a s c = is_some ((c.rows a).sessions s)
+
 abbrev pub with_group_row : SessionName → GroupId → Group → TableRows → TableRows
 with_group_row s g x r = record r {
   groups = λ t h. if same_name s t && nat_eq g h then Some x else r.groups t h;
 }
+
+-- whether a session has anything of a rating group
+abbrev pub has_group : AccountName → SessionName → GroupId → TablesContent → Bool
+has_group a s g c = is_some ((c.rows a).groups s g)
 
 abbrev pub with_hold_row : SessionName → GroupId → BucketNumber → BucketAmount → TableRows →
     TableRows

@@ -1,6 +1,6 @@
 -- What a statement does to a connection, by the content of the tables.
 -- Source: profile.
-use Rattle.std.specs.Prelude.{◌≡◌, Bool, true, not, IsTrue, Result, IfOk, if◌then◌else◌}
+use Rattle.std.specs.Prelude.{◌≡◌, Bool, true, false, not, IsTrue, Result, IfOk, if◌then◌else◌}
 use Rattle.sqlite_trees.specs.Objects.{catalog_tree}
 use Rattle.sqlite_trees.specs.Tree.{Trees}
 use Rattle.sqlite.specs.State.{State, HasCleanDisk, Shows}
@@ -27,6 +27,12 @@ pub record Makes (change : TablesContent → TablesContent) (old new : State) : 
 pub record MakesIfOpen (change : TablesContent → TablesContent) (old new : State) : Type 0 where
   pub was_open : IsTrue new.is_open → IsTrue old.is_open
   pub made : IsTrue old.is_open → Makes change old new
+
+-- nothing was in the place of the change, and it is made
+pub record Adds (stands : TablesContent → Bool) (change : TablesContent → TablesContent)
+    (old new : State) : Type 0 where
+  pub makes : Makes change old new
+  pub none : stands (tables_content old.now.trees) ≡ false
 
 -- the change is made where nothing was in its place, and it is said whether anything was
 pub record AddsIfNone {E : Type 0} (stands : TablesContent → Bool)

@@ -3,10 +3,10 @@
 ghost use Rattle.std.specs.Prelude.{◌≡◌, map, option_map, IfOk};
 ghost use Rattle.sqlite_value.specs.Value.{owned};
 ghost use Rattle.sqlite_value.specs.declared.value.Value.TheVariants.{Text};
-ghost use Rattle.sql_rows.specs.Content.{rows_in, with_group_row, with_rows};
+ghost use Rattle.sql_rows.specs.Content.{has_group, rows_in, with_group_row, with_rows};
 ghost use Rattle.sql_rows.specs.Lists.{AreGroups, Ascends, group_at_before, group_at_cells};
 ghost use Rattle.sql_rows.specs.Texts.{ArePeriods, group_at, names_put};
-ghost use Rattle.sql_rows.specs.Makes.{Makes};
+ghost use Rattle.sql_rows.specs.Makes.{Adds, Makes};
 ghost use Rattle.sql_tables.specs.Statements.{HasBook, HasIdleBook, Reads, AttemptsOver};
 ghost use Rattle.sqlite.specs.Held.{state};
 ghost use Rattle.sqlite.specs.Values.{bound_value, or_null};
@@ -133,6 +133,41 @@ pub fn put_group<S: Alter>(
          rating_group = excluded.rating_group, used = excluded.used, \
          reserved = excluded.reserved, period_before = excluded.period_before, \
          period_after = excluded.period_after",
+        &[
+            of_account, of_session, of_group, units, reserved, at_grant, at_switch,
+        ],
+    )
+}
+
+/// Adds what `put_group` puts, where the session has nothing of the rating group. That costs less
+/// than to put what may be there.
+///
+/// # Errors
+/// As of `put_group`, and an error of the store where the session has something of it.
+pub fn add_group<S: Alter>(
+    tx: &mut Transaction<'_, S>,
+    account: &AccountNumber,
+    session: &SessionId,
+    group: u32,
+    used: u64,
+    periods: Option<PutNames<'_>>,
+) -> Result<usize, Error>
+    requires book { HasBook (state S.Store tx.old.conn.now) }
+    ensures { AttemptsOver S.Store (Adds (has_group account.now session.now group)
+        (with_rows account.now (with_group_row session.now group
+        (record { used = used; periods = option_map names_put periods.entry }))))
+        tx.old.conn tx.new.conn result }
+{
+    let of_account = text(account.as_str());
+    let of_session = text(session.as_str());
+    let of_group = whole(group);
+    let units = checked(used as u128, 4)?;
+    let reserved = flag(periods.is_some());
+    let at_grant = before_or_null(periods);
+    let at_switch = after_or_null(periods);
+    write(
+        tx,
+        "INSERT INTO session_groups VALUES (?1, ?2, ?3, ?4, ?5, ?6, ?7)",
         &[
             of_account, of_session, of_group, units, reserved, at_grant, at_switch,
         ],

@@ -39,7 +39,9 @@ pub use crate::counter_lists::read_counters_in;
 pub use crate::counter_rows::{put_counter, put_counters, read_counter};
 pub use crate::covered_rows::{CoveredColumns, put_covered, read_covered_within, remove_covered};
 pub use crate::grant_book_rows::{GrantBook, put_grant_book, read_grant_books, remove_grant_book};
-pub use crate::group_rows::{GroupColumns, PeriodTexts, PutNames, put_group, read_groups};
+pub use crate::group_rows::{
+    GroupColumns, PeriodTexts, PutNames, add_group, put_group, read_groups,
+};
 pub use crate::head::HeadColumns;
 pub use crate::head_counter_rows::{HeadCounters, read_head_counters};
 pub use crate::hold_rows::{HeldColumns, put_hold, put_holds, read_holds, remove_holds};
@@ -52,7 +54,8 @@ pub use crate::session_book_rows::{
 };
 pub use crate::session_hold_rows::{SessionHold, read_holds_all, read_holds_all_within};
 pub use crate::session_rows::{
-    put_session, put_sessions, read_session, read_sessions_open, read_sessions_open_within,
+    add_session, add_sessions, put_session, put_sessions, read_session, read_sessions_open,
+    read_sessions_open_within,
 };
 pub use crate::voucher_rows::{VoucherColumns, put_voucher, read_voucher};
 pub use buckets::Columns as BucketColumns;

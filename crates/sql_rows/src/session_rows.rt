@@ -1,12 +1,12 @@
 //! Rows of sessions.
 
 ghost use Rattle.std.specs.Prelude.{◌≡◌, map, None, IfOk};
-ghost use Rattle.sql_rows.specs.Content.{rows_in, with_rows, with_session_row};
+ghost use Rattle.sql_rows.specs.Content.{has_session, rows_in, with_rows, with_session_row};
 ghost use Rattle.sql_rows.specs.Values.{session_cells, state_number};
 ghost use Rattle.sql_rows.specs.Lists.{AreSessions, Ascends, HasNoGroups};
 ghost use Rattle.reserving.specs.Sessions.{is_open, session_before};
 ghost use Rattle.sql_rows.specs.Each.{with_sessions};
-ghost use Rattle.sql_rows.specs.Makes.{Makes, MakesIfOpen};
+ghost use Rattle.sql_rows.specs.Makes.{Adds, Makes, MakesIfOpen};
 ghost use Rattle.sql_tables.specs.Statements.{HasBook, HasIdleBook, HasRules, IsInside};
 ghost use Rattle.sql_tables.specs.Statements.{Reads, ReadsWithin, AttemptsOver};
 ghost use Rattle.sql_tables.specs.Selects.{one_or_none};
@@ -55,6 +55,33 @@ pub fn put_session<S: Alter>(
          ON CONFLICT (account, session) DO UPDATE SET \
          account = excluded.account, session = excluded.session, \
          last_number = excluded.last_number, touched = excluded.touched, state = excluded.state",
+        &[of_account, name, last_number, touched, state],
+    )
+}
+
+/// Adds a session of an account, or a recorded event, where the account has none of its name. That
+/// costs less than to put one that may be there.
+///
+/// # Errors
+/// An error of the store, as where the account has one of the name. Then nothing is committed.
+pub fn add_session<S: Alter>(
+    tx: &mut Transaction<'_, S>,
+    account: &AccountNumber,
+    session: &Session,
+) -> Result<usize, Error>
+    requires book { HasBook (state S.Store tx.old.conn.now) }
+    ensures { AttemptsOver S.Store (Adds (has_session account.now session.now.id)
+        (with_rows account.now (with_session_row session.now)))
+        tx.old.conn tx.new.conn result }
+{
+    let of_account = text(account.as_str());
+    let name = text(session.id.as_str());
+    let last_number = whole(session.last_number);
+    let touched = large(session.touched.seconds());
+    let state = whole(state_number(session.state));
+    write(
+        tx,
+        "INSERT INTO sessions VALUES (?1, ?2, ?3, ?4, ?5)",
         &[of_account, name, last_number, touched, state],
     )
 }
@@ -207,6 +234,26 @@ pub fn put_sessions<S: Alter>(
 {
     'rows: for row in rows {
         put_session(tx, account, row)?;
+    }
+    Ok(())
+}
+
+/// Adds each session in turn.
+///
+/// # Errors
+/// The first error of a row, as `add_session` answers it. Then nothing is committed.
+pub fn add_sessions<S: Alter>(
+    tx: &mut Transaction<'_, S>,
+    account: &AccountNumber,
+    rows: &[Session],
+) -> Result<(), Error>
+    requires open { IsInside (state S.Store tx.old.conn.now) }
+    requires book { HasBook (state S.Store tx.old.conn.now) }
+    ensures { AttemptsOver S.Store (MakesIfOpen (with_sessions account.now rows.now))
+        tx.old.conn tx.new.conn result }
+{
+    'rows: for row in rows {
+        add_session(tx, account, row)?;
     }
     Ok(())
 }
