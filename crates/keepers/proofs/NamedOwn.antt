@@ -2,13 +2,14 @@
 -- has changed.
 use Rattle.std.proofs.Common.{◌≡◌, ℕ, Bool, true, false, cond, List, [], ◌∷◌, refl, sym, ap, subst}
 use Rattle.std.proofs.Common.{◌∙◌, Option, Some, None}
-use Rattle.std.specs.Prelude.{not, ◌||◌, ◌==◌, filter, if◌then◌else◌}
+use Rattle.std.specs.Prelude.{not, ◌||◌, ◌==◌, filter}
 use Rattle.std.specs.List.{list_any}
 use Rattle.std.specs.Cmp.Lexicographic.{pointwise}
 use Rattle.std.proofs.lemmas.Bool.{and_parts}
 use Rattle.identifiers.proofs.Equality.{equal_names}
-use Rattle.buckets.specs.Row.{IsBalanced}
+use Rattle.buckets.specs.Row.{BucketRow, IsBalanced}
 use Rattle.buckets.specs.declared.holds.HeldAmount.{HeldAmount}
+use Rattle.reserving.specs.declared.session.Counter.{Counter}
 use Rattle.reserving.specs.declared.session.Session.{Session}
 use Rattle.reserving.specs.declared.session.SessionState.{SessionState}
 use Rattle.reserving.specs.declared.session.SessionState.TheVariants.{Open, Ended, NeverOpened}
@@ -19,7 +20,7 @@ use Rattle.ledger.specs.Ledger.{is_same}
 use Rattle.reserving.specs.Left.{differing}
 use Rattle.ledger.specs.Lists.{EachIn}
 use Rattle.reserving.specs.Sessions.{is_session, session_in}
-use Rattle.reserving.specs.Earlier.{AreEarlier, rows_in, earlier_of}
+use Rattle.reserving.specs.Earlier.{AreEarlier, rows_in, earlier_of, own_stored}
 use Rattle.reserving.specs.Stored.{StoredRows, IsStored}
 use Rattle.reserving.specs.Others.{own_sessions, own_groups, other_sessions, other_groups}
 use Rattle.ledger.proofs.Names.{is_same-refl, number_same}
@@ -30,7 +31,7 @@ use Rattle.reserving.proofs.LeftTests.{each_filter, each_passes, apart_filter}
 use Rattle.keepers.specs.Keyed.{same_bucket, same_session, same_group, same_counter}
 use Rattle.keepers.specs.Differing.{equal_session, equal_group, equal_hold, equal_terms}
 use Rattle.keepers.specs.Differing.{equal_reservation, same_state, named_rows, named_rows_of}
-use Rattle.keepers.specs.Differing.{equal_bucket, equal_counter, changed_session, named_for}
+use Rattle.keepers.specs.Differing.{equal_bucket, equal_counter, is_changed, named_for}
 use Rattle.keepers.specs.Naming.{IsNamed}
 use Rattle.keepers.proofs.Found.{distinct_apart}
 use Rattle.keepers.proofs.PartsKept.{each_in}
@@ -207,26 +208,42 @@ named_earlier (Some s) before after = λ i. record after {
 
 -- ---- what is named of one session
 
-changed_is : (was is : Option Session) →
-    changed_session was is ≡ differing equal_session (rows_in was) (rows_in is)
-changed_is was None = refl
-changed_is None (Some x) = refl
-changed_is (Some y) (Some x) = at (equal_session x y)
+differs : (was : Option Session) (x : Session) →
+    is_changed was x ≡ not (list_any (equal_session x) (rows_in was))
+differs None x = refl
+differs (Some y) x = at (equal_session x y)
   where
-    at : (t : Bool) → (if not t then x ∷ [] else []) ≡ cond (not (t || false)) (x ∷ []) []
+    at : (t : Bool) → not t ≡ not (t || false)
     at true = refl
     at false = refl
 
-pub session_named : (s : List ℕ) (before after : StoredRows) (new : List Session)
-    (was is : Option Session) → AreEarlier before → IsStored after →
-    new ≡ changed_session was is →
-    was ≡ session_in s before.sessions → is ≡ session_in s after.sessions →
-    new ≡ differing equal_session (own_sessions s before.sessions) (own_sessions s after.sessions)
-session_named s before after new was is first next told e f =
-    told ∙ changed_is was is
-    ∙ (λ i. differing equal_session (rows_in (e i)) (rows_in (f i)))
-    ∙ (λ i. differing equal_session (sym (own_row s before.sessions first.sessions) i)
-    (sym (own_row s after.sessions next.sessions) i))
+pub session_named : (s : List ℕ) (before : StoredRows) (new own : List Session)
+    (was : Option Session) → AreEarlier before → new ≡ filter (is_changed was) own →
+    was ≡ session_in s before.sessions →
+    new ≡ differing equal_session (own_sessions s before.sessions) own
+session_named s before new own was first told e =
+    told ∙ (λ i. filter (λ r. differs was r i) own)
+    ∙ (λ i. differing equal_session (rows_in (e i)) own)
+    ∙ (λ i. differing equal_session (sym (own_row s before.sessions first.sessions) i) own)
+
+-- of an account's rows, of which those of other sessions were given up
+pub own_told : (s : List ℕ) (before after own : StoredRows) (buckets : List BucketRow)
+    (counters : List Counter) (sessions : List Session) (groups mine : List SessionGroup)
+    (was : Option Session) → AreEarlier before → own ≡ own_stored s after →
+    buckets ≡ differing equal_bucket before.buckets own.buckets →
+    counters ≡ differing equal_counter before.counters own.counters →
+    sessions ≡ filter (is_changed was) own.sessions → was ≡ session_in s before.sessions →
+    groups ≡ differing equal_group mine own.groups → mine ≡ own_groups s before.groups →
+    record own { buckets = buckets; counters = counters; groups = groups; sessions = sessions }
+    ≡ named_rows_of s before after
+own_told s before after own buckets counters sessions groups mine was first e b c d f g h =
+    λ i. record (e i) {
+      buckets = (b ∙ (λ j. differing equal_bucket before.buckets (e j).buckets)) i;
+      counters = (c ∙ (λ j. differing equal_counter before.counters (e j).counters)) i;
+      sessions = (session_named s before sessions own.sessions was first d f
+          ∙ (λ j. differing equal_session (own_sessions s before.sessions) (e j).sessions)) i;
+      groups = (g ∙ (λ j. differing equal_group (h j) (e j).groups)) i;
+    }
 
 pub own_kept : (s : List ℕ) (before after : StoredRows) → IsStored after →
     IsNamed (named_rows_of s before after)

@@ -1,7 +1,7 @@
 -- Rows that differ from those before: a change names them alone.
 -- Source: profile.
 use Rattle.std.specs.Prelude.{◌≡◌, ◌==◌, ◌&&◌, Bool, true, false, Option, Some}
-use Rattle.std.specs.Prelude.{None, List, [], ◌∷◌, not, if◌then◌else◌}
+use Rattle.std.specs.Prelude.{None, not}
 use Rattle.std.specs.Cmp.Lexicographic.{pointwise}
 use Rattle.units.specs.Words.{GroupId, CycleNumber}
 use Rattle.identifiers.specs.Words.{SessionName}
@@ -105,14 +105,10 @@ abbrev pub named_for : Option SessionName → StoredRows → StoredRows → Stor
 named_for None = named_rows
 named_for (Some s) = named_rows_of s
 
--- the row of a session, where it differs from what it was
+-- whether the row of a session differs from what it was
 abbrev pub is_changed : Option Session → Session → Bool
 is_changed None x = true
 is_changed (Some y) x = not (equal_session x y)
-
-abbrev pub changed_session : Option Session → Option Session → List Session
-changed_session before None = []
-changed_session before (Some x) = if is_changed before x then x ∷ [] else []
 
 -- rows that were loaded are there
 pub record AreThere (before : StoredRows) (r : Rows) : Type 0 where

@@ -57,14 +57,14 @@ fn named_for(
     alloc: Global,
     own: Option<&SessionId>,
     before: &EarlierRows,
-    after: &StoredAccount,
+    after: StoredAccount,
 ) -> Result<NamedRows, AllocError>
     ensures { IfOk result
-        (λ named. named ≡ named_for (option_copied own.entry) before.now after.now) }
+        (λ named. named ≡ named_for (option_copied own.entry) before.now after) }
 {
     match own {
         Some(session) => NamedRows::differing_of(alloc, session, before, after),
-        None => NamedRows::differing(alloc, before, after),
+        None => NamedRows::differing(alloc, before, &after),
     }
 }
 
@@ -98,7 +98,7 @@ impl Loaded<'_> {
         } = self;
         let moment = account.as_of();
         let after = account.into_stored();
-        let rows = named_for(alloc, own, &before, &after)?;
+        let rows = named_for(alloc, own, &before, after)?;
         Ok(Change {
             moment,
             number,

@@ -1,11 +1,10 @@
 //! The rows that a change names: those that differ from the ones that were loaded.
 
-ghost use Rattle.std.specs.Prelude.{◌≡◌, IfOk, not, option_copied};
+ghost use Rattle.std.specs.Prelude.{◌≡◌, IfOk, filter, not, option_copied};
 ghost use Rattle.std.specs.List.{list_any};
 ghost use Rattle.reserving.specs.Left.{differing};
-ghost use Rattle.reserving.specs.Others.{own_sessions};
 ghost use Rattle.keepers.specs.Differing.{equal_bucket, equal_counter, equal_session, equal_group};
-ghost use Rattle.keepers.specs.Differing.{named_rows, named_rows_of, is_changed, changed_session};
+ghost use Rattle.keepers.specs.Differing.{named_rows, named_rows_of, is_changed};
 ghost use Rattle.keepers.specs.Naming.{IsNamed};
 
 use crate::differing::{
@@ -13,7 +12,7 @@ use crate::differing::{
 };
 use buckets::Bucket;
 use identifiers::SessionId;
-use reserving::{Counter, EarlierRows, Session, SessionGroup, StoredAccount};
+use reserving::{Counter, EarlierRows, GivenRows, Session, SessionGroup, StoredAccount};
 use std::alloc::{AllocError, Global};
 use std::marker::Model;
 use units::Moment;
@@ -72,7 +71,7 @@ impl NamedRows {
     }
 
     /// The rows of one session that differ from what they were, beside buckets and counters: no row
-    /// of another session is looked at.
+    /// of another session is looked at, and those of this one aren't copied.
     ///
     /// # Errors
     /// Out of memory.
@@ -80,21 +79,32 @@ impl NamedRows {
         alloc: Global,
         session: &SessionId,
         before: &EarlierRows,
-        after: &StoredAccount,
+        after: StoredAccount,
     ) -> Result<NamedRows, AllocError>
-        ensures { IfOk result (λ named. named ≡ named_rows_of session.now before.now after.now) }
+        ensures { IfOk result (λ named. named ≡ named_rows_of session.now before.now after) }
     {
-        // For the prover alone: looking at the value makes known here what its type keeps.
+        // For the prover alone: looking at the values makes known here what their types keep.
+        let _before = before.rows();
         let _kept = after.as_of();
+        let GivenRows {
+            as_of,
+            barred,
+            purse,
+            counters,
+            sessions,
+            groups,
+            next_bucket,
+            next_charge,
+        } = after.into_own(session);
         Ok(NamedRows {
-            as_of: after.as_of(),
-            barred: after.is_barred(),
-            next_bucket: after.next_bucket(),
-            next_charge: after.next_charge(),
-            buckets: new_buckets(alloc, before, after.purse().buckets())?,
-            counters: new_counters(alloc, before, after.counters())?,
-            sessions: changed_sessions(alloc, session, before, after)?,
-            groups: changed_groups(alloc, before.groups_of(session), after.groups_of(session))?,
+            as_of,
+            barred,
+            next_bucket,
+            next_charge,
+            buckets: new_buckets(alloc, before, purse.buckets())?,
+            counters: new_counters(alloc, before, &counters)?,
+            sessions: changed_sessions(before.session(session), sessions),
+            groups: changed_groups(before.groups_of(session), groups),
         })
     }
 
@@ -260,41 +270,13 @@ fn is_changed(before: Option<&Session>, row: &Session) -> bool
     }
 }
 
-/// The row of a session, where it differs from what it was.
-fn changed_session(
-    alloc: Global,
-    before: Option<&Session>,
-    after: Option<&Session>,
-) -> Result<Vec<Session>, AllocError>
-    ensures { IfOk result (λ new. new.items
-        ≡ changed_session (option_copied before.entry) (option_copied after.entry)) }
+/// Of a session's rows those that differ from what it was.
+fn changed_sessions(before: Option<&Session>, rows: Vec<Session>) -> Vec<Session>
+    ensures { result.items ≡ filter (is_changed (option_copied before.entry)) rows.items }
 {
-    let mut new = Vec::new(alloc);
-    let Some(row) = after else {
-        return Ok(new);
-    };
-    if !is_changed(before, row) {
-        return Ok(new);
-    }
-    new.push(copy_of_session(row)?)?;
-    Ok(new)
-}
-
-/// The rows of one session that differ from what they were: its only one, or none.
-fn changed_sessions(
-    alloc: Global,
-    session: &SessionId,
-    before: &EarlierRows,
-    after: &StoredAccount,
-) -> Result<Vec<Session>, AllocError>
-    ensures { IfOk result (λ new. new.items
-        ≡ differing equal_session (own_sessions session.now before.now.sessions)
-        (own_sessions session.now after.now.sessions)) }
-{
-    // For the prover alone: looking at the values makes known here what their types keep.
-    let _before = before.rows();
-    let _kept = after.as_of();
-    changed_session(alloc, before.session(session), after.session(session))
+    let mut rows = rows;
+    rows.retain(|row| is_changed(before, row));
+    rows
 }
 
 /// Whether what a session has of a group differs from all of these.
@@ -305,18 +287,10 @@ fn is_other_group(before: &[SessionGroup], row: &SessionGroup) -> bool
 }
 
 /// What a session has of groups that differs from all that it had.
-fn changed_groups(
-    alloc: Global,
-    before: &[SessionGroup],
-    rows: &[SessionGroup],
-) -> Result<Vec<SessionGroup>, AllocError>
-    ensures { IfOk result (λ new. new.items ≡ differing equal_group before.now rows.now) }
+fn changed_groups(before: &[SessionGroup], rows: Vec<SessionGroup>) -> Vec<SessionGroup>
+    ensures { result.items ≡ differing equal_group before.now rows.items }
 {
-    let mut new = Vec::new(alloc);
-    'rows: for row in rows {
-        if is_other_group(before, row) {
-            new.push(copy_of_group(row)?)?;
-        }
-    }
-    Ok(new)
+    let mut rows = rows;
+    rows.retain(|row| is_other_group(before, row));
+    rows
 }
