@@ -108,14 +108,16 @@ found_next shelf k a b c u so f = (
 )
 
 pub found_not : {A B : Type 0} (shelf : Shelf) (v k : ℕ) (a b c : State) (e : OpenFault)
-    (r : Result B OpenFault) → r ≡ Err e → k < length (schema_at v).tables → FoundTo shelf k a b
-    → Tells {A = A} (IsRuledAt shelf k) b c (Err e) → Tells (AreRuled shelf v) a c r
+    (r : Result B OpenFault) → r ≡ Err e → (HasCleanDisk a → k < length (schema_at v).tables)
+    → FoundTo shelf k a b → Tells {A = A} (IsRuledAt shelf k) b c (Err e)
+    → Tells (AreRuled shelf v) a c r
 found_not shelf v k a b c e r is low so f = subst (Tells (AreRuled shelf v) a c) (sym is) (record {
   found = λ clean. tt;
   means = λ clean rules all.
       let here = so.1 (omega (arith, f.survives.clean, clean)) in
+      let under = low (omega (arith, so.0.clean, f.survives.clean, clean)) in
       f.means clean rules
-      (subst (λ (d : Database). IsRuledAt shelf k d.trees) (sym here.0.0.now_is) (all k low));
+      (subst (λ (d : Database). IsRuledAt shelf k d.trees) (sym here.0.0.now_is) (all k under));
   told = f.told;
   spares = λ clean. spares_then a b c (so.1 (omega (arith, f.survives.clean, clean))).0
       (f.spares clean);
@@ -135,10 +137,13 @@ none_found_not shelf v a c e r is low f = subst (Tells (AreRuled shelf v) a c) (
 })
 
 pub found_all : {A : Type 0} (shelf : Shelf) (v k : ℕ) (a b : State) (u : A)
-    → k ≡ length (schema_at v).tables → FoundTo shelf k a b → Tells (AreRuled shelf v) a b (Ok u)
+    → (HasCleanDisk a → k ≡ length (schema_at v).tables) → FoundTo shelf k a b
+    → Tells (AreRuled shelf v) a b (Ok u)
 found_all shelf v k a b u end so = record {
-  found = λ clean. let here = so.1 clean in
-      (here.0, subst (λ n. AreRuledTo shelf n b.now.trees) end here.1);
+  found = λ clean.
+      let here = so.1 clean in
+      let all = end (omega (arith, so.0.clean, clean)) in
+      (here.0, subst (λ n. AreRuledTo shelf n b.now.trees) all here.1);
   means = λ clean. tt;
   told = tt;
   spares = λ clean. inl (so.1 clean).0;

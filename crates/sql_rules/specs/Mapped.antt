@@ -1,13 +1,14 @@
 -- Rows that are in their rules, each under its key: what a statement that puts or removes rows
 -- keeps.
 -- Source: profile.
-use Rattle.std.specs.Prelude.{◌≡◌, ◌<◌, ℕ, ◌∷◌, Bool, Some, IsTrue}
+use Rattle.std.specs.Prelude.{◌≡◌, ◌<◌, ℕ, ◌∷◌, Bool, Some, IsTrue, length}
 use Rattle.shelves.specs.Shelves.{Shelf}
 use Rattle.sqlite_value.specs.declared.value.Value.TheVariants.{Null}
 use Rattle.sqlite_value.specs.Order.{Row}
 use Rattle.sqlite_trees.specs.Tree.{Trees}
 use Rattle.sqlite_schema.specs.declared.schema.Table.{Table}
 use Rattle.sql_tables.specs.Keyed.{look}
+use Rattle.sql_tables.specs.Schema.{book_schema}
 use Rattle.sql_rules.specs.Rules.{rule_at}
 use Rattle.sql_rules.specs.Tables.{table_at}
 
@@ -18,4 +19,5 @@ IsMapped rule table trees =
 
 -- in each table of the latest version
 abbrev pub AreMapped : Shelf → Trees → Type 0
-AreMapped shelf trees = (at : ℕ) → at < 14 → IsMapped (rule_at shelf at) (table_at at) trees
+AreMapped shelf trees = (at : ℕ) → at < length book_schema.tables
+    → IsMapped (rule_at shelf at) (table_at at) trees

@@ -1,7 +1,8 @@
 //! Whether a row is in the rules of its table.
 
-ghost use Rattle.std.specs.Prelude.{◌≡◌, ◌<◌, IfOk};
+ghost use Rattle.std.specs.Prelude.{◌≡◌, ◌<◌, length, IfOk};
 ghost use Rattle.sqlite_value.specs.Order.{column};
+ghost use Rattle.sql_tables.specs.Schema.{book_schema};
 ghost use Rattle.sql_rules.specs.Columns.{is_moment, is_next, is_numbering, is_small, number_at};
 ghost use Rattle.sql_rules.specs.Rules.{are_periods, is_answer_key, is_period, is_ruled_account};
 ghost use Rattle.sql_rules.specs.Rules.{is_ruled_allowance, is_ruled_answer, is_ruled_book};
@@ -17,6 +18,9 @@ use crate::periods::is_period_name;
 use shelves::TariffShelf;
 use sqlite::Row;
 use std::alloc::{AllocError, Global};
+
+/// How many tables there are, those of all versions.
+pub(crate) const TABLES: usize = 14;
 
 fn is_small(number: u64) -> bool
     ensures { result ≡ is_small number }
@@ -190,7 +194,7 @@ pub(crate) fn is_ruled(
     at: usize,
     row: &Row,
 ) -> Result<bool, AllocError>
-    requires { at < 14 }
+    requires { at < length book_schema.tables }
     ensures { IfOk result (λ b. b ≡ rule_at shelf.now at row.now) }
 {
     match at {

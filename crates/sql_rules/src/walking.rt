@@ -8,7 +8,7 @@ ghost use Rattle.sqlite.specs.Given.{IsPlain};
 ghost use Rattle.sqlite.specs.Held.{Held, state};
 ghost use Rattle.sqlite.specs.Listing.{understood};
 ghost use Rattle.sqlite.specs.State.{HasCleanDisk, IsUnchanged, Shown, Survives};
-ghost use Rattle.sql_tables.specs.Schema.{schema_at};
+ghost use Rattle.sql_tables.specs.Schema.{book_schema, schema_at};
 ghost use Rattle.sql_tables.specs.Opens.{IsVersion};
 ghost use Rattle.sql_tables.specs.Rises.{IsAbove};
 ghost use Rattle.sql_tables.specs.Statements.{Spares};
@@ -78,7 +78,7 @@ fn with_row(
     walk: Walk,
     row: &Row,
 ) -> Result<Walk, Error>
-    requires { at < 14 }
+    requires { at < length book_schema.tables }
     ensures { IfOk result (λ w. (given : List Values)
         → Walks (rule_at shelf.now at) walk.passes walk.last given
         → Walks (rule_at shelf.now at) w.passes w.last (given ++ row.now ∷ [])) }
@@ -100,7 +100,7 @@ fn do_pass<S: Alter>(
 ) -> Result<bool, Error>
     requires plain { HasCleanDisk (state S.Store conn.old) →
         IsPlain (understood conn.old.schema sql.now) }
-    requires place { at < 14 }
+    requires place { at < length book_schema.tables }
     ensures walk { HasCleanDisk (state S.Store conn.new) →
         IfOk result (λ passes. (was : Held S) × (rows : List Values)
         × IsUnchanged (state S.Store conn.old) (state S.Store was)
@@ -147,8 +147,9 @@ pub(crate) fn table_passes<S: Alter>(
     at: usize,
 ) -> Result<(), OpenFault>
     requires known { IsVersion version }
-    requires place { at < length (schema_at version).tables }
-    requires most { at < 14 }
+    requires place { at < length book_schema.tables }
+    requires most { HasCleanDisk (state S.Store conn.old) →
+        at < length (schema_at version).tables }
     requires ours { HasCleanDisk (state S.Store conn.old) → conn.old.schema ≡ schema_at version }
     ensures { Tells (IsRuledAt shelf.now at) (state S.Store conn.old) (state S.Store conn.new)
         result }

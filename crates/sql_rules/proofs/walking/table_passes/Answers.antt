@@ -14,8 +14,8 @@ use Rattle.sql_rules.proofs.walking.table_passes.Goals as goal
 
 pub do_pass-requires-clause-plain : goal.do_pass-requires-clause-plain
 do_pass-requires-clause-plain g c clean =
-    let is = text_at c.args.version c.args.at c.rows_text.result.now c.requires.known c.requires.place
-    c.rows_text.ensures in
+    let is = text_at c.args.version c.args.at c.rows_text.result.now c.requires.known
+    (c.requires.most clean) c.rows_text.ensures in
     subst (λ (s : Schema). IsPlain (understood s c.rows_text.result.now))
     (sym (c.requires.ours clean)) is.plain
 
@@ -27,7 +27,7 @@ returns-in-Ok-true g c = record {
       let was : HasCleanDisk (state g.S.Store c.args.conn.now) =
       omega (arith, c.in-Ok-true.ensures.crash.clean, clean) in
       let is = text_at c.args.version c.args.at c.rows_text.result.now c.requires.known
-      c.requires.place c.rows_text.ensures in
+      (c.requires.most was) c.rows_text.ensures in
       let here = table_stands g.S.Store c.args.shelf.now c.args.version c.args.at
       c.rows_text.result.now is c.args.conn.now walk.0 (state g.S.Store c.do_pass.new.conn) walk.1
       walk.2 walk.3 (c.requires.ours was) (walk.4 c.in-Ok-true.field-0-test) in (
@@ -49,7 +49,7 @@ returns-in-Ok-false g c = record {
       let was : HasCleanDisk (state g.S.Store c.args.conn.now) =
       omega (arith, c.in-Ok-false.ensures.crash.clean, clean) in
       let is = text_at c.args.version c.args.at c.rows_text.result.now c.requires.known
-      c.requires.place c.rows_text.ensures in
+      (c.requires.most was) c.rows_text.ensures in
       let pass : Pass (rule_at c.args.shelf.now c.args.at) walk.1 =
       table_passes g.S.Store c.args.shelf.now c.args.version c.args.at c.rows_text.result.now is
       c.args.conn.now walk.0 (state g.S.Store c.do_pass.new.conn) walk.1 walk.2 walk.3
