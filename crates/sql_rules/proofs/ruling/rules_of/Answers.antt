@@ -6,7 +6,7 @@ use Rattle.sqlite.specs.State.{HasCleanDisk}
 use Rattle.sqlite_schema.specs.declared.schema.Schema.{Schema}
 use Rattle.sqlite_schema.specs.declared.schema.Table.{Table}
 use Rattle.sql_tables.specs.Opens.{IsVersion}
-use Rattle.sql_tables.specs.Schema.{book_schema, schema_at}
+use Rattle.sql_tables.specs.Schema.{schema_at}
 use Rattle.sql_rules.proofs.Steps.{found_all, found_first, found_next, found_not, none_found_not}
 use Rattle.sql_rules.proofs.Steps.{still_ours}
 use Rattle.sql_tables.proofs.OpeningTexts.{at_least, at_most}
@@ -84,7 +84,7 @@ pub returns : goal.returns
 returns g c =
     let least = at_least c.args.version c.requires.known in
     let end : HasCleanDisk (state g.S.Store c.args.conn.now)
-        → c.tables.at ≡ length (schema_at c.args.version).tables =
+    → c.tables.at ≡ length (schema_at c.args.version).tables =
     λ was.
     let count = counted c.args.conn.now.schema c.args.version c.len.result c.min-count.result
     c.schema.result.now.tables c.requires.known c.len.ensures
