@@ -5,6 +5,7 @@ use Rattle.std.proofs.Common.{append-nil, take-append-drop, refl, sym, ap, subst
 use Rattle.std.proofs.Common.{Option, Some, None, IfSome, IfNone}
 use Rattle.std.specs.Prelude.{Vec, min}
 use Rattle.std.specs.Global.{Global}
+use Rattle.std.specs.Io.KnownBytes.{Keeps, Consumes}
 use Rattle.std.proofs.Math.Seq.{take-add, drop-append_seam}
 use Rattle.std.proofs.lemmas.Bool.Decides.{Decides-eqb}
 use Rattle.std.proofs.lemmas.List.{take-append-le}
@@ -137,6 +138,23 @@ is_before shown part rest left e =
 pub is_alone : (shown part rest : List ℕ) → first_part shown ≡ whole part rest →
     first_part part ≡ whole part []
 is_alone shown part rest e = ap first_part (sym (append-nil part)) ∙ is_before shown part rest [] e
+
+taken_after_kept : (old mid new : Option (List ℕ)) (bytes : List ℕ) → Keeps old mid →
+    Consumes mid new bytes → Consumes old new bytes
+taken_after_kept None mid new bytes kept taken = tt
+taken_after_kept (Some stream) None new bytes kept taken = absurd kept
+taken_after_kept (Some stream) (Some rest) None bytes kept taken = absurd taken
+taken_after_kept (Some stream) (Some rest) (Some left) bytes kept taken = sym kept ∙ taken
+
+-- nothing was taken before
+pub taken_since : (old mid new : Option (List ℕ)) (start before after : List ℕ) → Keeps old mid →
+    before ≡ start → TakesHead before after mid new → TakesHead start after old new
+taken_since old mid new start before after kept same takes = record {
+  part = takes.part;
+  is_head = takes.is_head;
+  joined = takes.joined ∙ ap (λ l. l ++ takes.part) same;
+  taken = taken_after_kept old mid new takes.part kept takes.taken;
+}
 
 pub whole_taken : (old new : Option (List ℕ)) (before : List ℕ) (part : Vec ℕ Global) →
     before ≡ [] → TakesHead before part.items old new →

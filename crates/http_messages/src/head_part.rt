@@ -7,7 +7,7 @@ ghost use Rattle.http_messages.specs.Parts.{first_part, whole, IsHeadPart, IsSho
 
 use memchr::memmem;
 use std::io::{BufRead, ErrorKind};
-use texts::{StreamFault, take_piece};
+use texts::{MAX_ATTEMPTS, StreamFault, take_piece};
 
 /// The longest head part, in bytes, with the empty line that ends it.
 pub const MAX_HEAD_PART: usize = 8192;
@@ -42,7 +42,8 @@ fn shown_length(shown: &[u8]) -> Option<usize>
 /// whole one; else nothing is taken.
 ///
 /// # Errors
-/// `Memory` where the growth was refused, `Read` where the reader failed.
+/// `Memory` where the growth was refused, `Read` where the reader failed, or was interrupted 100
+/// times.
 fn take_shown<R: BufRead>(reader: &mut R, part: &mut Vec<u8>) -> Result<bool, StreamFault>
     ensures taken { IfOk result (λ taken. taken ≡ true → TakesHead part.old.items part.new.items
         (R.remaining reader.old) (R.remaining reader.new)) }
@@ -50,17 +51,20 @@ fn take_shown<R: BufRead>(reader: &mut R, part: &mut Vec<u8>) -> Result<bool, St
         × Keeps (R.remaining reader.old) (R.remaining reader.new)) }
     ensures fault { IsErrOf result StreamFault.Write → ⊥ }
 {
-    let shown = match reader.fill_buf() {
-        Ok(shown) => shown,
-        Err(error) if error.kind() == ErrorKind::Interrupted => return Ok(false),
-        Err(_) => return Err(StreamFault::Read),
-    };
-    let Some(length) = shown_length(shown) else {
-        return Ok(false);
-    };
-    part.extend_from_slice(&shown[..length])?;
-    reader.consume(length);
-    Ok(true)
+    for _attempt in 0..MAX_ATTEMPTS {
+        let shown = match reader.fill_buf() {
+            Ok(shown) => shown,
+            Err(error) if error.kind() == ErrorKind::Interrupted => continue,
+            Err(_) => return Err(StreamFault::Read),
+        };
+        let Some(length) = shown_length(shown) else {
+            return Ok(false);
+        };
+        part.extend_from_slice(&shown[..length])?;
+        reader.consume(length);
+        return Ok(true);
+    }
+    Err(StreamFault::Read)
 }
 
 /// Takes the next head part off a stream (RFC 9112 section 2.1; its greatest length: profile), into
