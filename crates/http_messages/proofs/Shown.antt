@@ -5,7 +5,7 @@ use Rattle.std.proofs.Common.{append-nil, take-append-drop, refl, sym, ap, subst
 use Rattle.std.proofs.Common.{Option, Some, None, IfSome, IfNone}
 use Rattle.std.specs.Prelude.{Vec, min}
 use Rattle.std.specs.Global.{Global}
-use Rattle.std.specs.Io.KnownBytes.{Keeps, Consumes}
+use Rattle.std.specs.Io.KnownBytes.{Keeps, IsAtEnd}
 use Rattle.std.proofs.Math.Seq.{take-add, drop-append_seam}
 use Rattle.std.proofs.lemmas.Bool.Decides.{Decides-eqb}
 use Rattle.std.proofs.lemmas.List.{take-append-le}
@@ -139,23 +139,6 @@ pub is_alone : (shown part rest : List ℕ) → first_part shown ≡ whole part 
     first_part part ≡ whole part []
 is_alone shown part rest e = ap first_part (sym (append-nil part)) ∙ is_before shown part rest [] e
 
-taken_after_kept : (old mid new : Option (List ℕ)) (bytes : List ℕ) → Keeps old mid →
-    Consumes mid new bytes → Consumes old new bytes
-taken_after_kept None mid new bytes kept taken = tt
-taken_after_kept (Some stream) None new bytes kept taken = absurd kept
-taken_after_kept (Some stream) (Some rest) None bytes kept taken = absurd taken
-taken_after_kept (Some stream) (Some rest) (Some left) bytes kept taken = sym kept ∙ taken
-
--- nothing was taken before
-pub taken_since : (old mid new : Option (List ℕ)) (start before after : List ℕ) → Keeps old mid →
-    before ≡ start → TakesHead before after mid new → TakesHead start after old new
-taken_since old mid new start before after kept same takes = record {
-  part = takes.part;
-  is_head = takes.is_head;
-  joined = takes.joined ∙ ap (λ l. l ++ takes.part) same;
-  taken = taken_after_kept old mid new takes.part kept takes.taken;
-}
-
 pub whole_taken : (old new : Option (List ℕ)) (before : List ℕ) (part : Vec ℕ Global) →
     before ≡ [] → TakesHead before part.items old new →
     IfSome old (λ stream. IsHeadPart (first_part stream) (head_part.Whole part) new)
@@ -174,3 +157,23 @@ short_taken old new before after none takes =
     let same : after ≡ takes.part = takes.joined ∙ ap (λ l. l ++ takes.part) none in
     subst (λ l. length l ≤ 8192) (sym same)
     (is_shortest takes.part takes.part [] takes.is_head).few
+
+-- ---- where the stream ends
+
+-- nothing is shown: the stream is at its end
+pub none_shown : (old : Option (List ℕ)) (shown : List ℕ) →
+    IfSome old (λ stream. length shown ≡ 0 → stream ≡ []) → length shown ≡ 0 → IsAtEnd old
+none_shown None shown end none = tt
+none_shown (Some stream) shown end none = end none
+
+-- it was at its end before what kept it
+pub at_end_before : (old new : Option (List ℕ)) → Keeps old new → IsAtEnd new → IsAtEnd old
+at_end_before None new kept end = tt
+at_end_before (Some stream) None kept end = absurd kept
+at_end_before (Some stream) (Some rest) kept end = sym kept ∙ end
+
+pub ended : (old new : Option (List ℕ)) → IsAtEnd old →
+    IfSome old (λ stream. IsHeadPart (first_part stream) head_part.Ended new)
+ended None new end = tt
+ended (Some stream) new end =
+    subst (λ s. IsHeadPart (first_part s) head_part.Ended new) (sym end) tt

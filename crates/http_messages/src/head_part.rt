@@ -1,8 +1,8 @@
 //! The bytes of a head, taken off a stream.
 
-ghost use Rattle.std.specs.Prelude.{◌≡◌, ◌≢◌, ◌≤◌, List, ℕ, length, take, drop, true, false};
+ghost use Rattle.std.specs.Prelude.{◌≡◌, ◌≢◌, ◌≤◌, List, ℕ, length, take, drop, true, false, Some};
 ghost use Rattle.std.specs.Prelude.{IfOk, IsErrOf, IfSome, IfNone};
-ghost use Rattle.std.specs.Io.KnownBytes.{Keeps};
+ghost use Rattle.std.specs.Io.KnownBytes.{Keeps, IsAtEnd};
 ghost use Rattle.http_messages.specs.Parts.{first_part, whole, IsHeadPart, IsShort, TakesHead};
 
 use memchr::memmem;
@@ -38,31 +38,59 @@ fn shown_length(shown: &[u8]) -> Option<usize>
     Some(at + END_OF_HEAD.len())
 }
 
-/// Adds the head part that a stream's buffer shows to these bytes, and answers whether it shows a
-/// whole one; else nothing is taken.
+/// What a stream's buffer shows.
+enum Shown {
+    /// A whole head part, which was taken.
+    Whole,
+    /// Some bytes, and no whole head part. Nothing was taken.
+    Short,
+    /// The stream's end.
+    End,
+}
+
+/// Adds the head part that a stream's buffer shows to these bytes, if it shows a whole one; None
+/// where the reader was interrupted.
+fn take_shown<R: BufRead>(reader: &mut R, part: &mut Vec<u8>) -> Result<Option<Shown>, StreamFault>
+    ensures taken { IfOk result (λ shown. shown ≡ Some Shown.Whole → TakesHead part.old.items
+        part.new.items (R.remaining reader.old) (R.remaining reader.new)) }
+    ensures kept { IfOk result (λ shown. shown ≢ Some Shown.Whole →
+        (part.new.items ≡ part.old.items) × Keeps (R.remaining reader.old) (R.remaining reader.new)) }
+    ensures end { IfOk result (λ shown. shown ≡ Some Shown.End → IsAtEnd (R.remaining reader.old)) }
+    ensures fault { IsErrOf result StreamFault.Write → ⊥ }
+{
+    let shown = match reader.fill_buf() {
+        Ok(shown) => shown,
+        Err(error) if error.kind() == ErrorKind::Interrupted => return Ok(None),
+        Err(_) => return Err(StreamFault::Read),
+    };
+    if shown.is_empty() {
+        return Ok(Some(Shown::End));
+    }
+    let Some(length) = shown_length(shown) else {
+        return Ok(Some(Shown::Short));
+    };
+    part.extend_from_slice(&shown[..length])?;
+    reader.consume(length);
+    Ok(Some(Shown::Whole))
+}
+
+/// The same, tried again where the reader was interrupted.
 ///
 /// # Errors
 /// `Memory` where the growth was refused, `Read` where the reader failed, or was interrupted 100
 /// times.
-fn take_shown<R: BufRead>(reader: &mut R, part: &mut Vec<u8>) -> Result<bool, StreamFault>
-    ensures taken { IfOk result (λ taken. taken ≡ true → TakesHead part.old.items part.new.items
-        (R.remaining reader.old) (R.remaining reader.new)) }
-    ensures kept { IfOk result (λ taken. taken ≡ false → (part.new.items ≡ part.old.items)
-        × Keeps (R.remaining reader.old) (R.remaining reader.new)) }
+fn take_whole<R: BufRead>(reader: &mut R, part: &mut Vec<u8>) -> Result<Shown, StreamFault>
+    ensures taken { IfOk result (λ shown. shown ≡ Shown.Whole → TakesHead part.old.items
+        part.new.items (R.remaining reader.old) (R.remaining reader.new)) }
+    ensures kept { IfOk result (λ shown. shown ≢ Shown.Whole →
+        (part.new.items ≡ part.old.items) × Keeps (R.remaining reader.old) (R.remaining reader.new)) }
+    ensures end { IfOk result (λ shown. shown ≡ Shown.End → IsAtEnd (R.remaining reader.old)) }
     ensures fault { IsErrOf result StreamFault.Write → ⊥ }
 {
     for _attempt in 0..MAX_ATTEMPTS {
-        let shown = match reader.fill_buf() {
-            Ok(shown) => shown,
-            Err(error) if error.kind() == ErrorKind::Interrupted => continue,
-            Err(_) => return Err(StreamFault::Read),
-        };
-        let Some(length) = shown_length(shown) else {
-            return Ok(false);
-        };
-        part.extend_from_slice(&shown[..length])?;
-        reader.consume(length);
-        return Ok(true);
+        if let Some(shown) = take_shown(reader, part)? {
+            return Ok(shown);
+        }
     }
     Err(StreamFault::Read)
 }
@@ -71,7 +99,8 @@ fn take_shown<R: BufRead>(reader: &mut R, part: &mut Vec<u8>) -> Result<bool, St
 /// the memory of these bytes, which are dropped.
 ///
 /// # Errors
-/// `Memory` where a growth was refused, `Read` where the reader failed.
+/// `Memory` where a growth was refused, `Read` where the reader failed, or was interrupted 100
+/// times.
 pub fn next_head_part<R: BufRead>(reader: &mut R, room: Vec<u8>) -> Result<HeadPart, StreamFault>
     ensures part { IfOk result (λ part. IfSome (R.remaining reader.old)
         (λ stream. IsHeadPart (first_part stream) part (R.remaining reader.new))) }
@@ -80,8 +109,10 @@ pub fn next_head_part<R: BufRead>(reader: &mut R, room: Vec<u8>) -> Result<HeadP
 {
     let mut part = room;
     part.clear();
-    if take_shown(reader, &mut part)? {
-        return Ok(HeadPart::Whole(part));
+    match take_whole(reader, &mut part)? {
+        Shown::Whole => return Ok(HeadPart::Whole(part)),
+        Shown::End => return Ok(HeadPart::Ended),
+        Shown::Short => {}
     }
     for _turn in 0..MAX_HEAD_PART {
         let left = MAX_HEAD_PART - part.len();

@@ -4,7 +4,7 @@ use Rattle.http_messages.specs.declared.head_part.HeadPart.TheVariants as head_p
 use Rattle.http_messages.specs.Parts.{first_part, part_after, ends_head, IsHeadPart, too_long}
 use Rattle.texts.proofs.PieceLemmas.{piece_length}
 use Rattle.http_messages.proofs.Pieces.{IsKnown, goes_on, ends_whole}
-use Rattle.http_messages.proofs.Shown.{whole_taken, short_taken}
+use Rattle.http_messages.proofs.Shown.{ended, whole_taken, short_taken}
 use Rattle.http_messages.proofs.head_part.next_head_part.Goals.{else-loop-turn-test}
 use Rattle.http_messages.proofs.head_part.next_head_part.Goals.{then-loop-turn-test+then-left-eq0}
 use Rattle.http_messages.proofs.head_part.next_head_part.Goals as goal
@@ -21,17 +21,21 @@ told_too_long (Some stream) left taken h known =
     subst (λ p. IsHeadPart p head_part.TooLong left)
     (sym (known.2 ∙ full_is_too_long taken known.0 h)) tt
 
-pub returns-then-branch-clause-part : goal.returns-then-branch-clause-part
-returns-then-branch-clause-part g c =
-    whole_taken (g.R.Read.remaining c.args.reader.now) (g.R.Read.remaining c.take_shown.new.reader)
-    _ c.take_shown.new.part c.clear.ensures.items
-    (c.in_ok-take_shown.ensures.taken c.if-branch.true)
+pub returns-in-Whole-clause-part : goal.returns-in-Whole-clause-part
+returns-in-Whole-clause-part g c =
+    whole_taken (g.R.Read.remaining c.args.reader.now) (g.R.Read.remaining c.take_whole.new.reader)
+    _ c.take_whole.new.part c.clear.ensures.items (c.in_ok-take_whole.ensures.taken c.in-Whole.is)
 
-pub returns-then-branch-clause-short : goal.returns-then-branch-clause-short
-returns-then-branch-clause-short g c =
-    short_taken (g.R.Read.remaining c.args.reader.now) (g.R.Read.remaining c.take_shown.new.reader)
-    _ c.take_shown.new.part.items c.clear.ensures.items
-    (c.in_ok-take_shown.ensures.taken c.if-branch.true)
+pub returns-in-Whole-clause-short : goal.returns-in-Whole-clause-short
+returns-in-Whole-clause-short g c =
+    short_taken (g.R.Read.remaining c.args.reader.now) (g.R.Read.remaining c.take_whole.new.reader)
+    _ c.take_whole.new.part.items c.clear.ensures.items
+    (c.in_ok-take_whole.ensures.taken c.in-Whole.is)
+
+pub returns-in-End-clause-part : goal.returns-in-End-clause-part
+returns-in-End-clause-part g c =
+    ended (g.R.Read.remaining c.args.reader.now) (g.R.Read.remaining c.take_whole.new.reader)
+    (c.in_ok-take_whole.ensures.end c.in-End.is)
 
 pub returns-then-ends_with-clause-part : goal.returns-then-ends_with-clause-part
 returns-then-ends_with-clause-part g c =

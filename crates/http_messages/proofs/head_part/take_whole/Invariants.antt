@@ -1,6 +1,6 @@
 use Rattle.std.proofs.Common.{◌≡◌}
 use Rattle.std.specs.Io.KnownBytes.{Keeps}
-use Rattle.http_messages.proofs.head_part.take_shown.Given as goal
+use Rattle.http_messages.proofs.head_part.take_whole.Given as goal
 
 -- nothing is taken
 abbrev pub invariant-loop-attempt : goal.invariant-loop-attempt
