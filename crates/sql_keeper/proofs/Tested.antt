@@ -30,7 +30,7 @@ use Rattle.sql_keeper.specs.LiveGroups.{Gathers}
 use Rattle.sql_keeper.specs.Seen.{IsStanding, IsUnknown, is_unknown, stands_open}
 use Rattle.sql_keeper.specs.Tests.{is_as, is_beside, are_beside, IsSettled, AreSettled}
 use Rattle.sql_keeper.specs.Tests.{AreFound, AreNewGroups, AreWritable, IsChangeFound, IsFound}
-use Rattle.sql_keeper.specs.Tests.{AreNumbered, IsTested, are_among, first_number}
+use Rattle.sql_keeper.specs.Tests.{AreNumbered, AreUnknown, IsTested, are_among, first_number}
 use Rattle.sql_keeper.specs.declared.seen.Standing.{Standing}
 use Rattle.sql_keeper.specs.declared.seen.Standing.TheVariants.{Unknown, Open, Over}
 use Rattle.sql_keeper.specs.declared.settling.NamedSessions.{NamedSessions}
@@ -101,9 +101,10 @@ found_new {E} a groups x y old new stands gone =
     (have_gathered {A = Standing} {E = E} (λ trees z. IsStanding (rows_in trees a) x.id z) old new
     y stands)
     (λ clean on.
-    let nothing : HasNoGroups (rows_in old.now.trees a) x.id =
-    (of_none (rows_in old.now.trees a) x.id y (stands.found clean on) gone).groups in record {
-      settled = λ t. inr (λ g z there free. absurd (no_some z (sym (nothing.groups g) ∙ there)));
+    let nothing : IsUnknown (rows_in old.now.trees a) x.id =
+    of_none (rows_in old.now.trees a) x.id y (stands.found clean on) gone in record {
+      settled = λ t. inr (λ g z there free.
+          absurd (no_some z (sym (nothing.groups.groups g) ∙ there)));
       new = λ t. nothing;
     })
   where
@@ -171,7 +172,7 @@ pub record HasFound (groups : List SessionGroup) (a : List ℕ) (xs : List Sessi
   pub settled : HasCleanDisk new → IsTrue new.is_open →
       EachIn (IsSettled groups (rows_in old.now.trees a)) xs
   pub news : HasCleanDisk new → IsTrue new.is_open → IsTrue are_new →
-      EachIn (λ (x : Session). HasNoGroups (rows_in old.now.trees a) x.id) xs
+      AreUnknown (rows_in old.now.trees a) xs
   pub reads : HaveRead old new
 
 pub none_found : (groups : List SessionGroup) (a : List ℕ) (s : State) → HasIdleBook s →
@@ -201,9 +202,9 @@ next_found {E} groups a xs i x are next y old mid new less is passes next_is bef
       news = λ clean on t.
           let after = here.only.still clean on in
           let both = and_parts are y.are_new (sym next_is ∙ t) in
-          each_append (λ (z : Session). HasNoGroups (rows_in old.now.trees a) z.id) (take i xs)
+          each_append (λ (z : Session). IsUnknown (rows_in old.now.trees a) z.id) (take i xs)
           (x ∷ []) (before.news (here.only.cleanness clean) after.was_open both.0) (
-            told_before (λ trees. HasNoGroups (rows_in trees a) x.id) old mid new
+            told_before (λ trees. IsUnknown (rows_in trees a) x.id) old mid new
                 before.reads.only here.only clean on ((here.found clean on).new both.1),
             tt,
           );
@@ -249,15 +250,15 @@ sessions_found {E} groups a xs i are old new end h =
       settled = λ t. settled_each xs groups (rows_in old.now.trees a)
           (subst (EachIn (IsSettled groups (rows_in old.now.trees a))) (take_all i xs end)
           (h.settled clean on));
-      new = λ t. subst (EachIn (λ (x : Session). HasNoGroups (rows_in old.now.trees a) x.id))
-          (take_all i xs end) (h.news clean on t);
+      new = λ t. subst (AreUnknown (rows_in old.now.trees a)) (take_all i xs end)
+          (h.news clean on t);
     })
 
 -- ---- a change
 
 -- groups of new sessions are new
 new_groups : (r : TableRows) (sessions : List Session) (groups : List SessionGroup) →
-    EachIn (λ (x : Session). HasNoGroups r x.id) sessions → are_among sessions groups ≡ true →
+    AreUnknown r sessions → are_among sessions groups ≡ true →
     AreNewGroups r groups
 new_groups r sessions [] each among = tt
 new_groups r sessions (g ∷ gs) each among =
@@ -270,8 +271,8 @@ new_groups r sessions (g ∷ gs) each among =
     at (Some x) e there =
         subst (HasNoGroups r)
         (name_from x.id g.session (find-passes (is_session g.session) sessions x e))
-        (EachIn-found (λ (y : Session). HasNoGroups r y.id) (is_session g.session) sessions x each
-        e)
+        (EachIn-found (λ (y : Session). IsUnknown r y.id) (is_session g.session) sessions x each
+        e).groups
 
 pub change_unsettled : {E : Type 0} (names : Names) (change : Change) (o : Option HeadColumns)
     (z : NamedSessions) (old new : State) → IsUnsettled z → Gathers {A = Option HeadColumns} {E = E}
@@ -287,6 +288,7 @@ change_unsettled {E} names change o z old new is reads =
     (λ clean on. record {
       made = λ t. absurd (not_so z is t);
       new = λ t. absurd (not_new z is t);
+      unknown = λ t. absurd (not_new z is t);
     })
 
 -- the sessions and groups are those of the change
@@ -333,9 +335,14 @@ change_found {E} names change o xs ys y z old mid new same_xs same_ys is one wri
           (sym (ap (λ (w : NamedSessions). w.are_new) is) ∙ t) in
           subst (AreNewGroups (rows_in old.now.trees change.number)) same_ys
           (new_groups (rows_in old.now.trees change.number) xs ys
-          (told_before (λ trees. EachIn
-          (λ (x : Session). HasNoGroups (rows_in trees change.number) x.id) xs) old mid new one.only
+          (told_before (λ trees. AreUnknown (rows_in trees change.number) xs) old mid new one.only
           two.only clean on ((two.found clean on).new both.1)) both.0);
+      unknown = λ t.
+          let both = and_parts (are_among xs ys) y.are_new
+          (sym (ap (λ (w : NamedSessions). w.are_new) is) ∙ t) in
+          subst (AreUnknown (rows_in old.now.trees change.number)) same_xs
+          (told_before (λ trees. AreUnknown (rows_in trees change.number) xs) old mid new one.only
+          two.only clean on ((two.found clean on).new both.1));
     })
 
 -- covered blocks are beside a charge, since their key is one of charges
@@ -369,6 +376,7 @@ tested {E} names change y r old new passes idle live h =
     so (Ok b) t s found beside = record {
       made = found.made t.0;
       new = λ u. found.new (sym t.1 ∙ u);
+      unknown = λ u. found.unknown (sym t.1 ∙ u);
       covered = beside;
     }
     so (Err e) t s found beside = tt

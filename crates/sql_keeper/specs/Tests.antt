@@ -24,6 +24,7 @@ use Rattle.sql_rows.specs.Lists.{AreCoveredBeside, GroupAt, HasNoGroups}
 use Rattle.sql_rows.specs.Content.{TableRows}
 use Rattle.sql_keeper.specs.Content.{Names, names_numbered}
 use Rattle.sql_keeper.specs.RuledRows.{is_ruled_change}
+use Rattle.sql_keeper.specs.Seen.{IsUnknown}
 use Rattle.sql_keeper.specs.Writes.{name_at}
 use Rattle.sql_keeper.specs.declared.settling.NamedSessions.{NamedSessions}
 
@@ -93,13 +94,17 @@ are_beside groups s xs = list_all (is_beside groups s) xs
 pub record IsFound (groups : List SessionGroup) (r : TableRows) (x : Session)
     (y : NamedSessions) : Type 0 where
   pub settled : IsTrue y.are_settled → IsSettled groups r x
-  pub new : IsTrue y.are_new → HasNoGroups r x.id
+  pub new : IsTrue y.are_new → IsUnknown r x.id
+
+-- the sessions have no row, and nothing of rating groups
+abbrev pub AreUnknown : TableRows → List Session → Type 0
+AreUnknown r sessions = EachIn (λ (x : Session). IsUnknown r x.id) sessions
 
 -- and of all of them
 pub record AreFound (sessions : List Session) (groups : List SessionGroup) (r : TableRows)
     (y : NamedSessions) : Type 0 where
   pub settled : IsTrue y.are_settled → AreSettled sessions groups r
-  pub new : IsTrue y.are_new → EachIn (λ (x : Session). HasNoGroups r x.id) sessions
+  pub new : IsTrue y.are_new → AreUnknown r sessions
 
 -- each group is of one of the sessions
 abbrev pub are_among : List Session → List SessionGroup → Bool
@@ -119,16 +124,18 @@ pub record MayBeMade (names : Names) (change : Change) (r : TableRows) : Type 0 
   pub settled : AreSettled change.rows.sessions change.rows.groups r
   pub ruled : IsTrue (is_ruled_change names change)
 
--- what is found of a change: whether it may be made, and whether its groups are new
+-- what is found of a change: whether it may be made, and whether its sessions and groups are new
 pub record IsChangeFound (names : Names) (change : Change) (r : TableRows) (y : NamedSessions)
     : Type 0
   where
     pub made : IsTrue y.are_settled → MayBeMade names change r
     pub new : IsTrue y.are_new → AreNewGroups r change.rows.groups
+    pub unknown : IsTrue y.are_new → AreUnknown r change.rows.sessions
 
--- it may be made, and whether its groups are new; covered blocks are beside a charge
+-- it may be made, and whether its sessions and groups are new; covered blocks are beside a charge
 pub record IsTested (names : Names) (change : Change) (r : TableRows) (are_new : Bool)
     : Type 0 where
   pub made : MayBeMade names change r
   pub new : IsTrue are_new → AreNewGroups r change.rows.groups
+  pub unknown : IsTrue are_new → AreUnknown r change.rows.sessions
   pub covered : AreCoveredBeside r

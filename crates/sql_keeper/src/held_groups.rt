@@ -20,7 +20,9 @@ use identifiers::AccountNumber;
 use ledger::Terms;
 use reserving::SessionGroup;
 use shelves::TariffShelf;
-use sql_rows::{PutNames, put_grant_book, put_group, put_holds, remove_grant_book, remove_holds};
+use sql_rows::{
+    PutNames, add_group, put_grant_book, put_group, put_holds, remove_grant_book, remove_holds,
+};
 use sqlite::{Alter, Error, Transaction};
 
 /// The name of a period in the book of a number; the empty text for one that it doesn't have, or
@@ -177,6 +179,29 @@ fn put_new_number<S: Alter>(
     }
 }
 
+/// Puts what a session has of a rating group of which nothing was there, but what is held there.
+fn add_columns<S: Alter>(
+    tx: &mut Transaction<'_, S>,
+    account: &AccountNumber,
+    books: &TariffShelf,
+    row: &SessionGroup,
+) -> Result<usize, Error>
+    requires book { HasBook (state S.Store tx.old.conn.now) }
+    ensures same_reference { tx.new.conn.ghost_name ≡ tx.old.conn.ghost_name }
+    ensures makes { Attempts (Makes (with_rows account.now
+        (with_group_row row.now.session row.now.group (columns_of (shelf_names books.now)
+        row.now))))
+        (state S.Store tx.old.conn.now) (state S.Store tx.new.conn.now) result }
+{
+    match &row.reservation {
+        None => add_group(tx, account, &row.session, row.group, row.used, None),
+        Some(reservation) => {
+            let names = names_of(books, reservation.terms);
+            add_group(tx, account, &row.session, row.group, row.used, Some(names))
+        }
+    }
+}
+
 /// Puts what a session has of a rating group of which nothing was there, with what its reservation
 /// holds.
 fn put_new_group<S: Alter>(
@@ -190,7 +215,7 @@ fn put_new_group<S: Alter>(
     ensures makes { Attempts (Makes (with_new_group account.now (shelf_names books.now) row.now))
         (state S.Store tx.old.conn.now) (state S.Store tx.new.conn.now) result }
 {
-    put_columns(tx, account, books, row)?;
+    add_columns(tx, account, books, row)?;
     put_new_number(tx, account, row)?;
     put_held(tx, account, row)
 }

@@ -2,7 +2,9 @@
 
 ghost use Rattle.std.specs.Prelude.{◌≡◌, option_map};
 ghost use Rattle.commands.specs.Keys.{key_of};
-ghost use Rattle.sql_tables.specs.Statements.{Attempts, HasBook, HasRules, IsInside};
+ghost use Rattle.sql_tables.specs.Statements.{Attempts, AttemptsOver, HasBook, HasRules};
+ghost use Rattle.sql_tables.specs.Statements.{IsInside};
+ghost use Rattle.sql_rows.specs.Each.{with_sessions};
 ghost use Rattle.sql_rows.specs.Makes.{Makes, MakesIfOpen};
 ghost use Rattle.sql_rows.specs.Texts.{kept_of};
 ghost use Rattle.sql_keeper.specs.Content.{shelf_names};
@@ -20,10 +22,11 @@ use crate::voucher_puts::put_redeemed;
 use commands::{Content, KeyRef};
 use identifiers::AccountNumber;
 use keepers::{Change, KeptAnswer, NamedRows};
-use reserving::EarlierRows;
+use reserving::{EarlierRows, Session};
 use shelves::TariffShelf;
 use sql_rows::{
-    HeadColumns, KeptTexts, put_account, put_answer, put_counters, put_last_moment, put_sessions,
+    HeadColumns, KeptTexts, add_sessions, put_account, put_answer, put_counters, put_last_moment,
+    put_sessions,
 };
 use sqlite::{Alter, Error, Transaction};
 use units::Moment;
@@ -70,6 +73,24 @@ fn put_named_money<S: Alter>(
     put_counters(tx, account, rows.counters())
 }
 
+/// Puts the sessions of an account that are named, or adds them where none of them was there.
+fn put_sessions_of<S: Alter>(
+    tx: &mut Transaction<'_, S>,
+    account: &AccountNumber,
+    are_new: bool,
+    rows: &[Session],
+) -> Result<(), Error>
+    requires open { IsInside (state S.Store tx.old.conn.now) }
+    requires book { HasBook (state S.Store tx.old.conn.now) }
+    ensures { AttemptsOver S.Store (MakesIfOpen (with_sessions account.now rows.now))
+        tx.old.conn tx.new.conn result }
+{
+    match are_new {
+        true => add_sessions(tx, account, rows),
+        false => put_sessions(tx, account, rows),
+    }
+}
+
 /// Puts an account and its rows that are named.
 fn put_named<S: Alter>(
     tx: &mut Transaction<'_, S>,
@@ -86,7 +107,7 @@ fn put_named<S: Alter>(
         (state S.Store tx.old.conn.now) (state S.Store tx.new.conn.now) result }
 {
     put_named_money(tx, account, rows)?;
-    put_sessions(tx, account, rows.sessions())?;
+    put_sessions_of(tx, account, are_new, rows.sessions())?;
     put_groups_of(tx, account, books, are_new, seen, rows.groups())
 }
 
@@ -179,7 +200,8 @@ pub(crate) fn put_moment<S: Alter>(
 
 /// Puts all that a change names: the moment unless it is there already, the account and its rows,
 /// the charges, the texts of what is kept, and the voucher that is redeemed. Where nothing was
-/// there of its groups, nothing of them is removed, nor where what was seen of them stays.
+/// there of its sessions and groups, these are added, and nothing of them is removed; nor is it
+/// where what was seen of them stays.
 pub(crate) fn put_change<S: Alter>(
     tx: &mut Transaction<'_, S>,
     books: &TariffShelf,

@@ -289,7 +289,7 @@ fn found_with(found: NamedSessions, sessions: &[Session], groups: &[SessionGroup
 }
 
 /// Looks whether a change may be made: what is written reads as the change, and as nothing else;
-/// and whether nothing is there of its groups.
+/// and whether nothing is there of its sessions and groups.
 fn find_change<S: Alter>(
     conn: &mut Connection<S>,
     alloc: Global,
@@ -313,7 +313,7 @@ fn find_change<S: Alter>(
     Ok(found_with(found, sessions, groups))
 }
 
-/// What is said of a change that may be made, or may not: whether its groups are new.
+/// What is said of a change that may be made, or may not: whether its sessions and groups are new.
 fn told(found: NamedSessions) -> Result<bool, ReadFault>
     ensures { IfOk result (λ new. IsTrue found.are_settled × (new ≡ found.are_new)) }
 {
@@ -324,8 +324,8 @@ fn told(found: NamedSessions) -> Result<bool, ReadFault>
     }
 }
 
-/// Tests a change; whether nothing is there of its groups. It is out of the rules where it may not
-/// be made.
+/// Tests a change; whether nothing is there of its sessions and groups. It is out of the rules
+/// where it may not be made.
 pub(crate) fn test_change<S: Alter>(
     conn: &mut Connection<S>,
     alloc: Global,

@@ -18,13 +18,13 @@ returns-clause-makes g c =
     let held = with_holds a r.session r.group (holds_in r.reservation) in
     makes_all_then (λ x. book (columns x)) held _ _ _ c.in_ok-put_new_number.field-0
     c.put_held.result
-    (makes_all_then columns book _ _ _ c.in_ok-put_columns.field-0
-    (Ok c.in_ok-put_new_number.field-0) c.in_ok-put_columns.ensures.makes
+    (makes_all_then columns book _ _ _ c.in_ok-add_columns.field-0
+    (Ok c.in_ok-put_new_number.field-0) c.in_ok-add_columns.ensures.makes
     c.in_ok-put_new_number.ensures.makes) c.put_held.ensures.makes
 
 pub returns-in_err-put_new_number-clause-makes : goal.returns-in_err-put_new_number-clause-makes
 returns-in_err-put_new_number-clause-makes g c =
     let p = err_from_is_err_and c.from_residual-in_err-put_new_number.result
     c.from_residual-in_err-put_new_number.ensures.1 in
-    rw p.1 (makes_failed _ _ _ _ _ _ c.in_ok-put_columns.field-0 _ _
-    c.in_ok-put_columns.ensures.makes c.in_err-put_new_number.ensures.makes)
+    rw p.1 (makes_failed _ _ _ _ _ _ c.in_ok-add_columns.field-0 _ _
+    c.in_ok-add_columns.ensures.makes c.in_err-put_new_number.ensures.makes)

@@ -8,17 +8,17 @@ use Rattle.sql_keeper.proofs.putting.put_named.Goals as goal
 pub returns-clause-makes : goal.returns-clause-makes
 returns-clause-makes g c =
     let a = c.args.account.now in
-    puts_groups a _ _ _ _ c.in_ok-put_named_money.field-0 c.in_ok-put_sessions.field-0
+    puts_groups a _ _ _ _ c.in_ok-put_named_money.field-0 c.in_ok-put_sessions_of.field-0
     c.put_groups_of.result (with_money a c.args.rows.now)
     (with_groups_put a (shelf_names c.args.books.now) c.args.are_new c.args.seen.now)
     c.sessions.result.now
     c.args.rows.now.sessions c.groups.result.now c.args.rows.now.groups c.sessions.ensures
-    c.groups.ensures c.in_ok-put_named_money.ensures.makes c.in_ok-put_sessions.ensures.makes
+    c.groups.ensures c.in_ok-put_named_money.ensures.makes c.in_ok-put_sessions_of.ensures.makes
     c.put_groups_of.ensures.makes
 
-pub returns-in_err-put_sessions-clause-makes : goal.returns-in_err-put_sessions-clause-makes
-returns-in_err-put_sessions-clause-makes g c =
-    let p = err_from_is_err_and c.from_residual-in_err-put_sessions.result
-    c.from_residual-in_err-put_sessions.ensures.1 in
+pub returns-in_err-put_sessions_of-clause-makes : goal.returns-in_err-put_sessions_of-clause-makes
+returns-in_err-put_sessions_of-clause-makes g c =
+    let p = err_from_is_err_and c.from_residual-in_err-put_sessions_of.result
+    c.from_residual-in_err-put_sessions_of.ensures.1 in
     rw p.1 (makes_failed _ _ _ _ _ _ c.in_ok-put_named_money.field-0 _ _
-    c.in_ok-put_named_money.ensures.makes c.in_err-put_sessions.ensures.makes)
+    c.in_ok-put_named_money.ensures.makes c.in_err-put_sessions_of.ensures.makes)
