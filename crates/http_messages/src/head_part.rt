@@ -54,7 +54,8 @@ fn take_shown<R: BufRead>(reader: &mut R, part: &mut Vec<u8>) -> Result<Option<S
     ensures taken { IfOk result (λ shown. shown ≡ Some Shown.Whole → TakesHead part.old.items
         part.new.items (R.remaining reader.old) (R.remaining reader.new)) }
     ensures kept { IfOk result (λ shown. shown ≢ Some Shown.Whole →
-        (part.new.items ≡ part.old.items) × Keeps (R.remaining reader.old) (R.remaining reader.new)) }
+        (part.new.items ≡ part.old.items)
+        × Keeps (R.remaining reader.old) (R.remaining reader.new)) }
     ensures end { IfOk result (λ shown. shown ≡ Some Shown.End → IsAtEnd (R.remaining reader.old)) }
     ensures fault { IsErrOf result StreamFault.Write → ⊥ }
 {
@@ -83,7 +84,8 @@ fn take_whole<R: BufRead>(reader: &mut R, part: &mut Vec<u8>) -> Result<Shown, S
     ensures taken { IfOk result (λ shown. shown ≡ Shown.Whole → TakesHead part.old.items
         part.new.items (R.remaining reader.old) (R.remaining reader.new)) }
     ensures kept { IfOk result (λ shown. shown ≢ Shown.Whole →
-        (part.new.items ≡ part.old.items) × Keeps (R.remaining reader.old) (R.remaining reader.new)) }
+        (part.new.items ≡ part.old.items)
+        × Keeps (R.remaining reader.old) (R.remaining reader.new)) }
     ensures end { IfOk result (λ shown. shown ≡ Shown.End → IsAtEnd (R.remaining reader.old)) }
     ensures fault { IsErrOf result StreamFault.Write → ⊥ }
 {
