@@ -7,15 +7,15 @@ use crate::tests::row_writers::push;
 use buckets::HeldAmount;
 use identifiers::{AccountNumber, SessionId};
 use sql_rows::{
-    GroupColumns, HeldColumns, PutNames, put_group, put_hold, put_holds, read_groups, read_holds,
-    remove_holds,
+    GroupColumns, HeldColumns, PutNames, add_group, put_group, put_hold, put_holds, read_groups,
+    read_holds, remove_holds,
 };
 use sqlite::{Alter, Connection};
 use std::alloc::Global;
 use std::process::Abort;
 
-/// A reservation of a rating group: 5 of the first bucket; and of the second 7, and then 9 in its
-/// place.
+/// A reservation of a new rating group: 5 of the first bucket; and of the second 7, and then 9 in
+/// its place.
 pub(crate) fn keep_reserved<S: Alter>(
     rt: &impl Abort,
     conn: &mut Connection<S>,
@@ -41,7 +41,7 @@ pub(crate) fn keep_reserved<S: Alter>(
         before: "day",
         after: "night",
     };
-    put_group(&mut tx, account, session, group, 60, Some(names)).expect(rt, "a row");
+    add_group(&mut tx, account, session, group, 60, Some(names)).expect(rt, "a row");
     put_holds(&mut tx, account, session, group, &[first, second]).expect(rt, "holds");
     put_hold(&mut tx, account, session, group, &again).expect(rt, "a hold");
     tx.commit().expect(rt, "a commit");

@@ -13,15 +13,15 @@ use identifiers::AccountNumber;
 use ledger::ChargeRow;
 use reserving::{Counter, Session};
 use sql_rows::{
-    put_bucket, put_buckets, put_charge, put_charges, put_counter, put_counters, put_session,
-    put_sessions, read_buckets_all, read_buckets_dead, read_buckets_live, read_charges_within,
+    add_sessions, put_bucket, put_buckets, put_charge, put_charges, put_counter, put_counters,
+    put_session, read_buckets_all, read_buckets_dead, read_buckets_live, read_charges_within,
     read_counter, read_counters_in, read_session, read_sessions_open,
 };
 use sqlite::{Alter, Connection};
 use std::alloc::Global;
 use std::process::Abort;
 
-/// Puts all rows, by the statements of many.
+/// Puts all rows, by the statements of many; the sessions are new.
 pub(crate) fn keep_rows<S: Alter>(
     rt: &impl Abort,
     conn: &mut Connection<S>,
@@ -34,7 +34,7 @@ pub(crate) fn keep_rows<S: Alter>(
     let mut tx = conn.transaction();
     put_buckets(&mut tx, account, &given.buckets).expect(rt, "buckets");
     put_counters(&mut tx, account, &given.counters).expect(rt, "counters");
-    put_sessions(&mut tx, account, &given.sessions).expect(rt, "sessions");
+    add_sessions(&mut tx, account, &given.sessions).expect(rt, "sessions");
     put_charges(&mut tx, account, &given.charges).expect(rt, "charges");
     tx.commit().expect(rt, "a commit");
 }
