@@ -58,6 +58,22 @@ fault_told r (Ok x) fault told_as was gives e = absurd gives
 fault_told r (Err told_fault) fault told_as was gives e =
     was ∙ ap (λ f. Err f) (same_fault fault told_as (sym gives ∙ ap error_of e))
 
+-- memory was refused
+pub is_memory : {B : Type 0} (q : Result B ServeFault) → IsErrAnd q (λ e. e ≡ serve.Memory) →
+    q ≡ Err serve.Memory
+is_memory (Ok x) gives = absurd gives
+is_memory (Err e) gives = ap (λ f. Err f) gives
+
+abbrev fault_of : {A : Type 0} → Result A StreamFault → StreamFault
+fault_of (Ok x) = stream.Memory
+fault_of (Err e) = e
+
+pub memory_told : {A B : Type 0} (r : Result A StreamFault) (q : Result B ServeFault) →
+    r ≡ Err stream.Memory → IsErrAnd q (λ e. e ≡ serve_fault (fault_of r)) →
+    q ≡ Err serve.Memory
+memory_told r q is gives =
+    is_memory q (subst (λ x. IsErrAnd q (λ e. e ≡ serve_fault (fault_of x))) is gives)
+
 -- a fault of the writer is no other
 pub not_memory : {A X : Type 0} (r : Result A StreamFault) → OnErr r (r ≡ Err stream.Write) →
     r ≡ Err stream.Memory → X

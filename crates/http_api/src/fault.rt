@@ -1,5 +1,6 @@
 //! Why a connection wasn't served to its end.
 
+use std::alloc::AllocError;
 use texts::StreamFault;
 use thiserror::Error;
 
@@ -45,5 +46,16 @@ impl From<StreamFault> for ServeFault {
             StreamFault::Read => ServeFault::Read,
             StreamFault::Write => ServeFault::Write,
         }
+    }
+}
+
+impl From<AllocError> for ServeFault {
+    ghost use Rattle.std.specs.Prelude.{◌≡◌};
+    ghost use Rattle.http_api.specs.declared.fault.ServeFault.TheVariants.{Memory};
+
+    ghost from_gives = { λ fault e. e ≡ Memory };
+
+    fn from(_fault: AllocError) -> ServeFault {
+        ServeFault::Memory
     }
 }

@@ -50,12 +50,8 @@ pub fn serve<R: Read, W: Write, K: ChargeSource, C: Clock>(
         (W.contents writer.old) (W.contents writer.new) (K.seen keeper.old) (K.seen keeper.new)
         result }
 {
-    let Ok(router) = known_router(alloc) else {
-        return Err(ServeFault::Memory);
-    };
-    let Ok(mut buffers) = Buffers::empty(alloc) else {
-        return Err(ServeFault::Memory);
-    };
+    let router = known_router(alloc)?;
+    let mut buffers = Buffers::empty(alloc)?;
     let Ok(mut buffered) = BufReader::new(alloc, reader) else {
         return Err(ServeFault::Memory);
     };

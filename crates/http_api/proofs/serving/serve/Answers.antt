@@ -1,9 +1,13 @@
-use Rattle.std.proofs.Common.{◌≡◌, ◌==◌, ℕ, List, [], ap, subst, ◌∙◌, if◌then◌else◌, Option, None}
+use Rattle.std.proofs.Common.{◌≡◌, ◌==◌, ℕ, List, [], ap, subst, sym, ◌∙◌, if◌then◌else◌}
+use Rattle.std.proofs.Common.{Option, None, Result}
 use Rattle.std.specs.declared.io.buffered.BufReader.{BufReader}
 use Rattle.std.specs.Io.Buffered.{reader_remaining, reader_capacity, reader_buffer, reader_inner}
 use Rattle.std.specs.Io.KnownBytes.{prepend_known}
 use Rattle.std.proofs.KnownBytes.{prepend_known-nil}
 use Rattle.http_api.specs.Connections.{ServesConnection}
+use Rattle.http_api.specs.declared.fault.ServeFault.{ServeFault}
+use Rattle.http_api.specs.declared.serving.Served.{Served}
+use Rattle.http_api.proofs.RequestReplies.{is_memory, memory_told}
 use Rattle.http_api.proofs.Taking.{none_served}
 use Rattle.http_api.proofs.serving.serve.Goals as goal
 
@@ -18,18 +22,30 @@ unread r inner remaining capacity empty is =
     ∙ prepend_known-nil (remaining r.inner)
     ∙ ap remaining is
 
+pub returns-in_err-router : goal.returns-in_err-router
+returns-in_err-router g c =
+    subst (λ (r : Result Served ServeFault). ServesConnection g.C.Clock.gives c.args.shelf.now
+    (g.R.Read.remaining c.args.reader.now) c.args.clock.now c.args.clock.now
+    (g.W.Write.contents c.args.writer.now) (g.W.Write.contents c.args.writer.now)
+    (g.K.Keeper.seen c.args.keeper.now) (g.K.Keeper.seen c.args.keeper.now) r)
+    (sym (memory_told _ c.from_residual.result c.in_err-router.ensures.fault
+    c.from_residual.ensures.1))
+    (none_served g.C.Clock.gives c.args.shelf.now (g.R.Read.remaining c.args.reader.now)
+    c.args.clock.now (g.W.Write.contents c.args.writer.now) (g.K.Keeper.seen c.args.keeper.now))
+
+pub returns-in_err-buffers : goal.returns-in_err-buffers
+returns-in_err-buffers g c =
+    subst (λ (r : Result Served ServeFault). ServesConnection g.C.Clock.gives c.args.shelf.now
+    (g.R.Read.remaining c.args.reader.now) c.args.clock.now c.args.clock.now
+    (g.W.Write.contents c.args.writer.now) (g.W.Write.contents c.args.writer.now)
+    (g.K.Keeper.seen c.args.keeper.now) (g.K.Keeper.seen c.args.keeper.now) r)
+    (sym (is_memory c.from_residual-in_err-buffers.result
+    c.from_residual-in_err-buffers.ensures.1))
+    (none_served g.C.Clock.gives c.args.shelf.now (g.R.Read.remaining c.args.reader.now)
+    c.args.clock.now (g.W.Write.contents c.args.writer.now) (g.K.Keeper.seen c.args.keeper.now))
+
 pub returns-in_default : goal.returns-in_default
 returns-in_default g c =
-    none_served g.C.Clock.gives c.args.shelf.now (g.R.Read.remaining c.args.reader.now)
-    c.args.clock.now (g.W.Write.contents c.args.writer.now) (g.K.Keeper.seen c.args.keeper.now)
-
-pub returns-in_default-empty : goal.returns-in_default-empty
-returns-in_default-empty g c =
-    none_served g.C.Clock.gives c.args.shelf.now (g.R.Read.remaining c.args.reader.now)
-    c.args.clock.now (g.W.Write.contents c.args.writer.now) (g.K.Keeper.seen c.args.keeper.now)
-
-pub returns-in_default-new : goal.returns-in_default-new
-returns-in_default-new g c =
     none_served g.C.Clock.gives c.args.shelf.now (g.R.Read.remaining c.args.reader.now)
     c.args.clock.now (g.W.Write.contents c.args.writer.now) (g.K.Keeper.seen c.args.keeper.now)
 
@@ -39,5 +55,5 @@ returns g c =
     c.args.clock.now c.serve_requests.new.clock (g.W.Write.contents c.args.writer.now)
     (g.W.Write.contents c.serve_requests.new.writer) (g.K.Keeper.seen c.args.keeper.now)
     (g.K.Keeper.seen c.serve_requests.new.keeper) c.serve_requests.result)
-    (unread c.in-Ok-new.buffered _ (λ m. g.R.Read.remaining m.now) c.in-Ok-new.ensures.capacity
-    c.in-Ok-new.ensures.empty c.in-Ok-new.ensures.inner) c.serve_requests.ensures
+    (unread c.in-Ok.buffered _ (λ m. g.R.Read.remaining m.now) c.in-Ok.ensures.capacity
+    c.in-Ok.ensures.empty c.in-Ok.ensures.inner) c.serve_requests.ensures
