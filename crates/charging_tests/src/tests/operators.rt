@@ -144,7 +144,7 @@ account: 1767607320 false 2
 49152 account: 1767607380 false 2
 49152 buckets: (180000; 0, 0, 180000, 0)
 49152 counters: 30 0 2;
-49152 sessions: x1 0 1767607380 NeverOpened; e1 0 1767607380 NeverOpened;
+49152 sessions: e1 0 1767607380 NeverOpened; x1 0 1767607380 NeverOpened;
 49152 charges: 1 at 1767607380 of e1 30 2 180000 180000 0;
 
 1767607440 sweep

@@ -34,7 +34,7 @@ fn push_counters(rt: &impl Abort, text: &mut String, rows: &[Counter]) {
     }
 }
 
-/// Each session's name, last number, last moment and state. Those that were left come first.
+/// Each session's name, last number, last moment and state.
 fn push_sessions(rt: &impl Abort, text: &mut String, rows: &[Session]) {
     push(rt, text, "sessions:");
     for row in rows {
@@ -94,12 +94,14 @@ fn push_account(rt: &impl Abort, text: &mut String, account: &Account) {
     write!(text, "account: {at} {barred} {}", account.next_charge()).expect(rt, "memory");
 }
 
-/// The rows of an account but its charges, its buckets in the order of use, each line after this
-/// word.
+/// The rows of an account but its charges, its buckets in the order of use and its sessions in that
+/// of their names, each line after this word.
 fn push_whole(rt: &impl Abort, text: &mut String, whole: &mut WholeAccount, word: &str) {
     let sorted = whole
         .buckets
         .sort_by_key(|bucket| (bucket.until().seconds(), bucket.number()));
+    sorted.expect(rt, "memory");
+    let sorted = whole.sessions.sort_by(|a, b| a.id.cmp(&b.id));
     sorted.expect(rt, "memory");
     push(rt, text, word);
     push_buckets(rt, text, whole.buckets.as_slice());
