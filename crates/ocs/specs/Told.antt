@@ -1,10 +1,12 @@
 -- What the program reports on standard error.
 -- Source: profile.
 use Rattle.std.specs.Prelude.{◌≡◌, ◌≤◌, ◌⊎◌, ◌++◌, ◌∷◌, ℕ, List, [], Option, Some, None, codes}
+use Rattle.std.specs.Fmt.{decimal}
 use Rattle.std.specs.Io.KnownBytes.{Keeps}
 use Rattle.texts.specs.StreamWords.{Bytes}
 use Rattle.texts.specs.declared.streams.StreamFault.{StreamFault}
 use Rattle.clap.specs.Words.{Text}
+use Rattle.sql_tables.specs.Schema.{latest}
 use Rattle.operations.specs.Told.{FaultWords, about_stream, numbered_words, place_told, told_line}
 use Rattle.operations.specs.Written.{WritesBeginning}
 use Rattle.operations.specs.declared.status.Status.{Status}
@@ -52,10 +54,14 @@ invalid_line = codes "ocs: a word is not one that its place takes"
 
 -- ---- what is printed
 
+-- the tables are of the latest version
+abbrev pub version_line : Bytes
+version_line = codes "version " ++ (decimal latest ++ codes "\n")
+
 -- the line of words that print one alone
 abbrev pub line_of : ProgramWords → Option Bytes
 line_of (words.Init init) = Some (codes "ok\n")
-line_of (words.Migrate migrate) = Some (codes "version 3\n")
+line_of (words.Migrate migrate) = Some version_line
 line_of (words.Book book) = Some (codes "ok\n")
 line_of (words.Serve serve) = Some (listening_line serve.port)
 line_of _ = None

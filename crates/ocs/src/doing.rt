@@ -130,8 +130,5 @@ fn once_shelf(alloc: Global, price: u64, block: u64) -> Result<TariffShelf, Allo
     ensures { IfOk result (λ s. s ≡ one_book (once_book price block)) }
 {
     let book = once_book(alloc, price, block)?;
-    let Ok(shelf) = TariffShelf::new(alloc, book) else {
-        return Err(AllocError);
-    };
-    Ok(shelf)
+    TariffShelf::new(alloc, book).map_err(|_| AllocError)
 }

@@ -8,7 +8,7 @@ ghost use Rattle.service.specs.Adding.{IsAdditionFault};
 ghost use Rattle.service.specs.Making.{IsInitFault};
 ghost use Rattle.service.specs.Opening.{IsUnopened};
 ghost use Rattle.ocs.specs.Faults.{IsWriteFault, OnlyDone};
-ghost use Rattle.ocs.specs.Told.{IfStream};
+ghost use Rattle.ocs.specs.Told.{IfStream, version_line};
 
 use crate::fault::ProgramFault;
 use operations::Status;
@@ -61,9 +61,9 @@ pub(crate) fn answer_migrate<O: Write>(
     ensures ended { IfOk result (IsEnded ⊥) }
     ensures reached { IfErr result (OnlyDone IsUnopened) }
     ensures done { OnOk result (Appends (O.contents output.old) (O.contents output.new)
-        (codes "version 3\n")) }
+        version_line) }
     ensures begun { OnErr result (WritesBeginning (O.contents output.old) (O.contents output.new)
-        (codes "version 3\n")) }
+        version_line) }
     ensures unwritten { IfErr result (λ fault.
         IfStream fault (λ _. ⊥) → output.new ≡ output.old) }
 {
