@@ -22,13 +22,11 @@ fn is_named(book: &TariffBook, name: &[u8]) -> bool
     ensures { result ≡ is_some (period_named book.now.periods name.now) }
 {
     'periods: for at in 0..8u8 {
-        match book.period_name(Period(at)) {
-            None => return false,
-            Some(text) => {
-                if is_text(text, name) {
-                    return true;
-                }
-            }
+        let Some(text) = book.period_name(Period(at)) else {
+            return false;
+        };
+        if is_text(text, name) {
+            return true;
         }
     }
     false
@@ -39,13 +37,11 @@ pub(crate) fn is_period_name(shelf: &TariffShelf, name: &[u8]) -> bool
     ensures { result ≡ is_period_name shelf.now name.now }
 {
     'books: for before in 0..shelf.count() {
-        match shelf.book(before + 1) {
-            None => return false,
-            Some(book) => {
-                if is_named(book, name) {
-                    return true;
-                }
-            }
+        let Some(book) = shelf.book(before + 1) else {
+            return false;
+        };
+        if is_named(book, name) {
+            return true;
         }
     }
     false
