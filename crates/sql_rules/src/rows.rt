@@ -13,6 +13,10 @@ ghost use Rattle.sql_rules.specs.Rules.{is_ruled_voucher, rule_at};
 
 use crate::columns::{is_null_at, is_optional_within, is_within, number_at, text_at};
 use crate::kept::are_kept_texts;
+use crate::limits::{
+    END_OF_NUMBERS, GREATEST_NUMBER, LATEST_COMMAND, MOST_COUNTED, MOST_DAYS, MOST_MONEY,
+    MOST_USED, NO_END,
+};
 use crate::names::{is_account_number, is_reference, is_session_id, is_voucher_code};
 use crate::periods::is_period_name;
 use shelves::TariffShelf;
@@ -25,25 +29,25 @@ pub(crate) const TABLES: usize = 14;
 fn is_small(number: u64) -> bool
     ensures { result ≡ is_small number }
 {
-    number <= 4_294_967_295
+    number <= GREATEST_NUMBER
 }
 
 fn is_numbering(number: u64) -> bool
     ensures { result ≡ is_numbering number }
 {
-    is_within(number, 1, 4_294_967_295)
+    is_within(number, 1, GREATEST_NUMBER)
 }
 
 fn is_next(number: u64) -> bool
     ensures { result ≡ is_next number }
 {
-    is_within(number, 1, 4_294_967_296)
+    is_within(number, 1, END_OF_NUMBERS)
 }
 
 fn is_moment(seconds: u64) -> bool
     ensures { result ≡ is_moment seconds }
 {
-    seconds < 4_102_444_800
+    seconds < NO_END
 }
 
 fn is_ruled_meta(row: &Row) -> bool
@@ -67,17 +71,15 @@ fn is_ruled_bucket(row: &Row) -> bool
 {
     is_numbering(number_at(row, 2))
         && is_moment(number_at(row, 3))
-        && is_within(number_at(row, 4), 1, 4_102_444_800)
-        && is_optional_within(row, 5, 0, 4_294_967_295)
-        && number_at(row, 6) <= 1_000_000_000_000_000
+        && is_within(number_at(row, 4), 1, NO_END)
+        && is_optional_within(row, 5, 0, GREATEST_NUMBER)
+        && number_at(row, 6) <= MOST_MONEY
 }
 
 fn is_ruled_counter(row: &Row) -> bool
     ensures { result ≡ is_ruled_counter row.now }
 {
-    is_small(number_at(row, 2))
-        && is_small(number_at(row, 3))
-        && number_at(row, 4) <= 4_000_000_000_000_000_000
+    is_small(number_at(row, 2)) && is_small(number_at(row, 3)) && number_at(row, 4) <= MOST_COUNTED
 }
 
 fn is_ruled_session(row: &Row) -> bool
@@ -111,15 +113,13 @@ fn are_periods(shelf: &TariffShelf, row: &Row) -> bool
 fn is_ruled_group(shelf: &TariffShelf, row: &Row) -> bool
     ensures { result ≡ is_ruled_group shelf.now row.now }
 {
-    is_small(number_at(row, 3))
-        && number_at(row, 4) <= 1_000_000_000_000_000_000
-        && are_periods(shelf, row)
+    is_small(number_at(row, 3)) && number_at(row, 4) <= MOST_USED && are_periods(shelf, row)
 }
 
 fn is_ruled_hold(row: &Row) -> bool
     ensures { result ≡ is_ruled_hold row.now }
 {
-    is_within(number_at(row, 5), 1, 1_000_000_000_000_000)
+    is_within(number_at(row, 5), 1, MOST_MONEY)
 }
 
 fn is_ruled_grant_book(shelf: &TariffShelf, row: &Row) -> bool
@@ -152,9 +152,9 @@ fn is_ruled_voucher(row: &Row) -> bool
     ensures { result ≡ is_ruled_voucher row.now }
 {
     is_voucher_code(text_at(row, 1))
-        && is_within(number_at(row, 2), 1, 1_000_000_000_000_000)
-        && is_optional_within(row, 3, 1, 3650)
-        && is_optional_within(row, 4, 0, 4_294_967_295)
+        && is_within(number_at(row, 2), 1, MOST_MONEY)
+        && is_optional_within(row, 3, 1, MOST_DAYS)
+        && is_optional_within(row, 4, 0, GREATEST_NUMBER)
 }
 
 fn is_ruled_charge(row: &Row) -> bool
@@ -169,7 +169,7 @@ fn is_ruled_charge(row: &Row) -> bool
 fn is_ruled_book(row: &Row) -> bool
     ensures { result ≡ is_ruled_book row.now }
 {
-    is_within(number_at(row, 1), 2, 16) && is_within(number_at(row, 2), 1, 4_102_444_799)
+    is_within(number_at(row, 1), 2, 16) && is_within(number_at(row, 2), 1, LATEST_COMMAND)
 }
 
 fn is_ruled_allowance(row: &Row) -> bool
