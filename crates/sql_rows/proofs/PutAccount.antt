@@ -119,23 +119,21 @@ module _ (a : List ℕ) (h : HeadColumns) where
             (sym (is_some_map head_in (look accounts old (head_key a))))) i;
       })
 
-  pub makes_account : (params : Row) → params ≡ values
-      → (old new : State) (r : Result ℕ Error) → HasBook old
-      → Attempts (λ old new. ExecutesInside 0 put_account_text params old new r) old new r
+  pub makes_account : (old new : State) (r : Result ℕ Error) → HasBook old
+      → Attempts (λ old new. ExecutesInside 0 put_account_text values old new r) old new r
       → Attempts (Makes (with_account a h)) old new r
   makes_account = writes put_account_text values (Puts accounts values) (with_account a h) puts
       (λ old new p. makes_turned (with_account a h) old new
       (turns old.now.trees new.now.trees p.changes p.counts) p.changes.catalog
       (plain_account a h old.now.trees new.now.trees p.changes)
-      p.book p.shows)
+      p.book p.shows) values refl
 
-  pub rules_account : (params : Row) → params ≡ values
-      → (old new : State) (r : Result ℕ Error) → HasBook old
-      → Attempts (λ old new. ExecutesInside 0 put_account_text params old new r) old new r
+  pub rules_account : (old new : State) (r : Result ℕ Error) → HasBook old
+      → Attempts (λ old new. ExecutesInside 0 put_account_text values old new r) old new r
       → OnOk r (HasRules new)
   rules_account =
       rules_after put_account_text values (Puts accounts values) put_is put_plain puts
-      (λ old new p. p.book)
+      (λ old new p. p.book) values refl
 
   -- the parameters, as they are bound
   pub bound_account : (v1 v2 v3 v4 v5 : Value)

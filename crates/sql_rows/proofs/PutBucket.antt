@@ -123,14 +123,13 @@ module _ (a : List ℕ) (b : BucketRow) (counts : b.kind ≡ Money) where
       (same_name a x && (nat_eq b.number n))
       (text_number a x b.number n) ∙ apart_if (same_name a x) (nat_eq b.number n) _ _))
 
-  pub makes_bucket : (params : Row) → params ≡ values
-      → (old new : State) (r : Result ℕ Error) → HasBook old
-      → Attempts (λ old new. ExecutesInside 0 put_bucket_text params old new r) old new r
+  pub makes_bucket : (old new : State) (r : Result ℕ Error) → HasBook old
+      → Attempts (λ old new. ExecutesInside 0 put_bucket_text values old new r) old new r
       → Attempts (Makes (with_rows a (with_bucket b))) old new r
   makes_bucket =
       writes put_bucket_text values (Puts buckets values) (with_rows a (with_bucket b)) puts
       (puts_make buckets values (with_rows a (with_bucket b)) turns
-      (plain_beside buckets values (omega arith) (omega arith) (omega arith)))
+      (plain_beside buckets values (omega arith) (omega arith) (omega arith))) values refl
 
   -- the parameters, as they are bound
   pub bound_bucket : (v1 v2 v3 v4 v5 v6 v7 v8 v9 v10 : Value)

@@ -104,14 +104,13 @@ module _ (a : List ℕ) (k : Counter) where
       (same_name a x && (nat_eq k.group g && nat_eq k.cycle y)) (text_number_number a x k.group g
       k.cycle y) ∙ apart_if (same_name a x) (nat_eq k.group g && nat_eq k.cycle y) _ _)))
 
-  pub makes_counter : (params : Row) → params ≡ values
-      → (old new : State) (r : Result ℕ Error) → HasBook old
-      → Attempts (λ old new. ExecutesInside 0 put_counter_text params old new r) old new r
+  pub makes_counter : (old new : State) (r : Result ℕ Error) → HasBook old
+      → Attempts (λ old new. ExecutesInside 0 put_counter_text values old new r) old new r
       → Attempts (Makes (with_rows a (with_counter_row k))) old new r
   makes_counter =
       writes put_counter_text values (Puts counters values) (with_rows a (with_counter_row k)) puts
       (puts_make counters values (with_rows a (with_counter_row k)) turns
-      (plain_beside counters values (omega arith) (omega arith) (omega arith)))
+      (plain_beside counters values (omega arith) (omega arith) (omega arith))) values refl
 
   -- the parameters, as they are bound
   pub bound_counter : (v1 v2 v3 v4 : Value)

@@ -66,19 +66,17 @@ module _ (a : List ℕ) (h : HeadColumns) where
       means (λ r. refl) (again a h) (λ v. refl) (λ id. (refl, tt))
       (meets a h) 1 refl (λ e. omega arith) replace_account_text set_is set_plain
 
-  pub replaces_account : (params : Row) → params ≡ values a h
-      → (old new : State) (count : ℕ) → HasBook old
+  pub replaces_account : (old new : State) (count : ℕ) → HasBook old
       → Attempts {A = ℕ} {E = Error}
-      (λ old new. ExecutesInside 0 replace_account_text params old new (Ok count)) old new
+      (λ old new. ExecutesInside 0 replace_account_text (values a h) old new (Ok count)) old new
       (Ok count)
       → ReplacesIfSome {E = Error} (has_account a) (with_account a h) old new (Ok (count == 1))
   replaces_account = replaces accounts (values a h) (has_account a) (with_account a h)
       (λ trees. is_some_map head_in _) (turns a h) (plain_account a h) replace_account_text runs
 
-  pub rules_account_replaced : (params : Row) → params ≡ values a h
-      → (old new : State) (count : ℕ) → HasBook old
+  pub rules_account_replaced : (old new : State) (count : ℕ) → HasBook old
       → Attempts {A = ℕ} {E = Error}
-      (λ old new. ExecutesInside 0 replace_account_text params old new (Ok count)) old new
+      (λ old new. ExecutesInside 0 replace_account_text (values a h) old new (Ok count)) old new
       (Ok count)
       → HasRules new
   rules_account_replaced = rules_replaced accounts (values a h) (has_account a) (with_account a h)

@@ -73,10 +73,10 @@ module _ (a : List ℕ) (b : BucketRow) (counts : b.kind ≡ Money) where
       (λ id. (refl, (refl, tt))) (meets a b counts) 2 refl (λ e. omega arith)
       replace_bucket_text set_is set_plain
 
-  pub replaces_bucket : (params : Row) → params ≡ bucket_values a b
-      → (old new : State) (count : ℕ) → HasBook old
+  pub replaces_bucket : (old new : State) (count : ℕ) → HasBook old
       → Attempts {A = ℕ} {E = Error}
-      (λ old new. ExecutesInside 0 replace_bucket_text params old new (Ok count)) old new (Ok count)
+      (λ old new. ExecutesInside 0 replace_bucket_text (bucket_values a b) old new (Ok count))
+      old new (Ok count)
       → ReplacesIfSome {E = Error} (has_bucket a b.number)
       (with_rows a (with_bucket b)) old new (Ok (count == 1))
   replaces_bucket = replaces buckets (bucket_values a b) (has_bucket a b.number)

@@ -71,11 +71,10 @@ module _ (a : List ℕ) (k : Counter) where
       (λ id. (refl, (refl, (refl, tt)))) (meets a k) 3 refl (λ e. omega arith)
       replace_counter_text set_is set_plain
 
-  pub replaces_counter : (params : Row) → params ≡ counter_values a k
-      → (old new : State) (count : ℕ) → HasBook old
+  pub replaces_counter : (old new : State) (count : ℕ) → HasBook old
       → Attempts {A = ℕ} {E = Error}
-      (λ old new. ExecutesInside 0 replace_counter_text params old new (Ok count)) old new
-      (Ok count)
+      (λ old new. ExecutesInside 0 replace_counter_text (counter_values a k) old new (Ok count))
+      old new (Ok count)
       → ReplacesIfSome {E = Error} (has_counter a k.group k.cycle)
       (with_rows a (with_counter_row k)) old new (Ok (count == 1))
   replaces_counter = replaces counters (counter_values a k) (has_counter a k.group k.cycle)

@@ -511,36 +511,33 @@ module _ (table : Table) (values : Row) (stands : TablesContent → Bool)
       (runs : (old new : State) (r : Result ℕ Error) → (IsTrue old.is_open → IsBook old)
       → OnOk r (ExecutesInside 0 text values old new r)
       → IfOk r (ReplacesRow table values old new)) where
-    ran : (params : Row) → params ≡ values → (old new : State) (count : ℕ) → HasBook old
+    ran : (old new : State) (count : ℕ) → HasBook old
         → Attempts {A = ℕ} {E = Error}
-        (λ old new. ExecutesInside 0 text params old new (Ok count)) old new (Ok count)
+        (λ old new. ExecutesInside 0 text values old new (Ok count)) old new (Ok count)
         → HasCleanDisk new → ReplacesRow table values old new count
-    ran params same old new count has a clean =
-        runs old new (Ok count) (has (omega (arith, a.survives.clean, clean)))
-        (subst (λ p. ExecutesInside 0 text p old new (Ok count)) same (a.done clean))
+    ran old new count has a clean =
+        runs old new (Ok count) (has (omega (arith, a.survives.clean, clean))) (a.done clean)
 
-    pub replaces : (params : Row) → params ≡ values → (old new : State) (count : ℕ)
-        → HasBook old
+    pub replaces : (old new : State) (count : ℕ) → HasBook old
         → Attempts {A = ℕ} {E = Error}
-        (λ old new. ExecutesInside 0 text params old new (Ok count)) old new (Ok count)
+        (λ old new. ExecutesInside 0 text values old new (Ok count)) old new (Ok count)
         → ReplacesIfSome {E = Error} stands change old new (Ok (count == 1))
-    replaces params same old new count has a = record {
+    replaces old new count has a = record {
       makes = record {
-        done = λ clean. (told_by old new count (ran params same old new count has a clean)).made;
+        done = λ clean. (told_by old new count (ran old new count has a clean)).made;
         kept = a.kept;
         survives = a.survives;
       };
-      told = λ clean. (told_by old new count (ran params same old new count has a clean)).told;
+      told = λ clean. (told_by old new count (ran old new count has a clean)).told;
     }
 
     -- the tables obey their rules then
-    pub rules_replaced : (params : Row) → params ≡ values → (old new : State) (count : ℕ)
-        → HasBook old
+    pub rules_replaced : (old new : State) (count : ℕ) → HasBook old
         → Attempts {A = ℕ} {E = Error}
-        (λ old new. ExecutesInside 0 text params old new (Ok count)) old new (Ok count)
+        (λ old new. ExecutesInside 0 text values old new (Ok count)) old new (Ok count)
         → HasRules new
-    rules_replaced params same old new count has a = λ clean on.
-        (ran params same old new count has a clean).fits
+    rules_replaced old new count has a = λ clean on.
+        (ran old new count has a clean).fits
 
 -- ---- what is put where none was replaced
 

@@ -37,6 +37,14 @@ writes text values does change runs makes params same old new r has =
     made (Ok count) h = makes old new h
     made (Err e) h = tt
 
+-- the parameters are these values
+pub runs_with : (text : List ℕ) (params values : Row) → params ≡ values
+    → (old new : State) (r : Result ℕ Error)
+    → Attempts (λ old new. ExecutesInside 0 text params old new r) old new r
+    → Attempts (λ old new. ExecutesInside 0 text values old new r) old new r
+runs_with text params values same old new r =
+    subst (λ p. Attempts (λ old new. ExecutesInside 0 text p old new r) old new r) same
+
 -- an upsert leaves tables that obey their rules
 pub rules_after : {at : ℕ} {how : Conflict} {from : Source} {clauses : List Upsert}
     (text : List ℕ) (values : Row) (does : State → State → Type 0)

@@ -2,13 +2,14 @@
 
 ghost use Rattle.std.specs.Prelude.{◌≡◌, map, IfOk, OnOk};
 ghost use Rattle.sql_rows.specs.Content.{has_account, tables_content, rows_in, with_account};
-ghost use Rattle.sql_rows.specs.Values.{head_cells, head_key};
+ghost use Rattle.sql_rows.specs.Values.{head_cells, head_key, head_values};
 ghost use Rattle.sql_rows.specs.Lists.{AreAccounts, Ascends, name_before};
 ghost use Rattle.sql_rows.specs.Makes.{Makes, ReplacesIfSome};
 ghost use Rattle.sql_tables.specs.Statements.{Attempts, HasBook, HasIdleBook, HasRules, Reads};
-ghost use Rattle.sql_tables.specs.Statements.{ReadsWithin};
+ghost use Rattle.sql_tables.specs.Statements.{AttemptsOver, ReadsWithin};
 ghost use Rattle.sql_tables.specs.Selects.{one_or_none};
 ghost use Rattle.sqlite.specs.Held.{state};
+ghost use Rattle.sqlite.specs.State.{ExecutesInside};
 
 use crate::ascending::{InOrder, do_ascend};
 use crate::decoding::{account_at, flag_at, moment_at};
@@ -19,6 +20,29 @@ use sql_tables::{
 };
 use sqlite::{Alter, Connection, Error, Row, Transaction};
 use std::alloc::Global;
+
+/// Runs a statement whose parameters are the columns of an account's row, in their order. It
+/// answers the number of rows.
+///
+/// # Errors
+/// As of `put_account`.
+fn write_account<S: Alter>(
+    tx: &mut Transaction<'_, S>,
+    sql: &str,
+    account: &AccountNumber,
+    head: &HeadColumns,
+) -> Result<usize, Error>
+    ensures { AttemptsOver S.Store (λ old new.
+        ExecutesInside 0 sql.now (head_values account.now head.now) old new result)
+        tx.old.conn tx.new.conn result }
+{
+    let number = text(account.as_str());
+    let barred = flag(head.barred);
+    let as_of = large(head.as_of.seconds());
+    let next_bucket = checked(head.next_bucket as u128, 4)?;
+    let next_charge = checked(head.next_charge as u128, 5)?;
+    write(tx, sql, &[number, barred, as_of, next_bucket, next_charge])
+}
 
 /// Replaces what is kept of an account once, if it is opened, and answers whether it is.
 ///
@@ -36,16 +60,12 @@ fn replace_account<S: Alter>(
     // The rows of the tables obey their rules then.
     ensures rules { OnOk result (HasRules (state S.Store tx.new.conn.now)) }
 {
-    let number = text(account.as_str());
-    let barred = flag(head.barred);
-    let as_of = large(head.as_of.seconds());
-    let next_bucket = checked(head.next_bucket as u128, 4)?;
-    let next_charge = checked(head.next_charge as u128, 5)?;
-    let count = write(
+    let count = write_account(
         tx,
         "UPDATE accounts SET account = ?1, barred = ?2, as_of = ?3, next_bucket = ?4, \
          next_charge = ?5 WHERE account = ?1",
-        &[number, barred, as_of, next_bucket, next_charge],
+        account,
+        head,
     )?;
     Ok(count == 1)
 }
@@ -67,18 +87,14 @@ fn insert_account<S: Alter>(
     // The rows of the tables obey their rules then.
     ensures rules { OnOk result (HasRules (state S.Store tx.new.conn.now)) }
 {
-    let number = text(account.as_str());
-    let barred = flag(head.barred);
-    let as_of = large(head.as_of.seconds());
-    let next_bucket = checked(head.next_bucket as u128, 4)?;
-    let next_charge = checked(head.next_charge as u128, 5)?;
-    write(
+    write_account(
         tx,
         "INSERT INTO accounts VALUES (?1, ?2, ?3, ?4, ?5) \
          ON CONFLICT (account) DO UPDATE SET \
          account = excluded.account, barred = excluded.barred, as_of = excluded.as_of, \
          next_bucket = excluded.next_bucket, next_charge = excluded.next_charge",
-        &[number, barred, as_of, next_bucket, next_charge],
+        account,
+        head,
     )
 }
 

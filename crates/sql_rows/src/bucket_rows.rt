@@ -2,7 +2,7 @@
 
 ghost use Rattle.std.specs.Prelude.{◌≡◌, map, filter, true, IsTrue, IfOk, OnOk};
 ghost use Rattle.sql_rows.specs.Content.{has_bucket, with_bucket, with_rows};
-ghost use Rattle.sql_rows.specs.Values.{bucket_cells, plain_bucket};
+ghost use Rattle.sql_rows.specs.Values.{bucket_cells, bucket_values, plain_bucket};
 ghost use Rattle.sql_rows.specs.Lists.{BucketsRise, Rises, is_dead_bucket};
 ghost use Rattle.sql_rows.specs.Texts.{ReadsBuckets, bucket_row};
 ghost use Rattle.sql_rows.specs.Each.{with_buckets};
@@ -10,6 +10,7 @@ ghost use Rattle.sql_rows.specs.Makes.{Makes, MakesIfOpen, ReplacesIfSome};
 ghost use Rattle.sql_tables.specs.Statements.{HasBook, HasIdleBook, IsInside};
 ghost use Rattle.sql_tables.specs.Statements.{AttemptsOver};
 ghost use Rattle.sqlite.specs.Held.{state};
+ghost use Rattle.sqlite.specs.State.{ExecutesInside};
 
 use crate::decoding::moment_at;
 use buckets::{Bucket, BucketKind, Columns as BucketColumns};
@@ -20,6 +21,41 @@ use sql_tables::{
 };
 use sqlite::{Alter, Connection, Error, Row, Transaction};
 use std::alloc::Global;
+
+/// Runs a statement whose parameters are the columns of an account's bucket, in their order. It
+/// answers the number of rows.
+///
+/// # Errors
+/// An error of the store. Then nothing is committed.
+fn write_bucket<S: Alter>(
+    tx: &mut Transaction<'_, S>,
+    sql: &str,
+    account: &AccountNumber,
+    bucket: &Bucket,
+) -> Result<usize, Error>
+    ensures { AttemptsOver S.Store (λ old new.
+        ExecutesInside 0 sql.now (bucket_values account.now bucket.now) old new result)
+        tx.old.conn tx.new.conn result }
+{
+    let of_account = text(account.as_str());
+    let number = whole(bucket.number());
+    let starts = large(bucket.from().seconds());
+    let ends = large(bucket.until().seconds());
+    let scope = optional(bucket.scope());
+    let credited = large(bucket.credited());
+    let available = large(bucket.available());
+    let reserved = large(bucket.reserved());
+    let charged = large(bucket.charged());
+    let expired = large(bucket.expired());
+    write(
+        tx,
+        sql,
+        &[
+            of_account, number, starts, ends, scope, credited, available, reserved, charged,
+            expired,
+        ],
+    )
+}
 
 /// Replaces the columns of an account's bucket, if it has one of the number, and answers whether it
 /// has.
@@ -37,25 +73,13 @@ fn replace_bucket<S: Alter>(
         (with_rows account.now (with_bucket (plain_bucket bucket.now)))
         (state S.Store tx.old.conn.now) (state S.Store tx.new.conn.now) result }
 {
-    let of_account = text(account.as_str());
-    let number = whole(bucket.number());
-    let starts = large(bucket.from().seconds());
-    let ends = large(bucket.until().seconds());
-    let scope = optional(bucket.scope());
-    let credited = large(bucket.credited());
-    let available = large(bucket.available());
-    let reserved = large(bucket.reserved());
-    let charged = large(bucket.charged());
-    let expired = large(bucket.expired());
-    let count = write(
+    let count = write_bucket(
         tx,
         "UPDATE buckets SET account = ?1, number = ?2, starts = ?3, ends = ?4, scope = ?5, \
          credited = ?6, available = ?7, reserved = ?8, charged = ?9, expired = ?10 \
          WHERE account = ?1 AND number = ?2",
-        &[
-            of_account, number, starts, ends, scope, credited, available, reserved, charged,
-            expired,
-        ],
+        account,
+        bucket,
     )?;
     Ok(count == 1)
 }
@@ -74,17 +98,7 @@ fn insert_bucket<S: Alter>(
         (Makes (with_rows account.now (with_bucket (plain_bucket bucket.now))))
         tx.old.conn tx.new.conn result }
 {
-    let of_account = text(account.as_str());
-    let number = whole(bucket.number());
-    let starts = large(bucket.from().seconds());
-    let ends = large(bucket.until().seconds());
-    let scope = optional(bucket.scope());
-    let credited = large(bucket.credited());
-    let available = large(bucket.available());
-    let reserved = large(bucket.reserved());
-    let charged = large(bucket.charged());
-    let expired = large(bucket.expired());
-    write(
+    write_bucket(
         tx,
         "INSERT INTO buckets VALUES (?1, ?2, ?3, ?4, ?5, ?6, ?7, ?8, ?9, ?10) \
          ON CONFLICT (account, number) DO UPDATE SET \
@@ -92,10 +106,8 @@ fn insert_bucket<S: Alter>(
          ends = excluded.ends, scope = excluded.scope, credited = excluded.credited, \
          available = excluded.available, reserved = excluded.reserved, \
          charged = excluded.charged, expired = excluded.expired",
-        &[
-            of_account, number, starts, ends, scope, credited, available, reserved, charged,
-            expired,
-        ],
+        account,
+        bucket,
     )
 }
 

@@ -3,12 +3,13 @@
 ghost use Rattle.std.specs.Prelude.{◌≡◌, map, IfOk};
 ghost use Rattle.sql_rows.specs.Content.{has_counter, rows_in, with_counter_row, with_rows};
 ghost use Rattle.sql_rows.specs.Each.{with_counters};
-ghost use Rattle.sql_rows.specs.Values.{counter_cells};
+ghost use Rattle.sql_rows.specs.Values.{counter_cells, counter_values};
 ghost use Rattle.sql_rows.specs.Makes.{Makes, MakesIfOpen, ReplacesIfSome};
 ghost use Rattle.sql_tables.specs.Statements.{HasBook, HasIdleBook, IsInside, Reads};
 ghost use Rattle.sql_tables.specs.Statements.{AttemptsOver};
 ghost use Rattle.sql_tables.specs.Selects.{one_or_none};
 ghost use Rattle.sqlite.specs.Held.{state};
+ghost use Rattle.sqlite.specs.State.{ExecutesInside};
 
 use identifiers::AccountNumber;
 use reserving::Counter;
@@ -16,6 +17,28 @@ use sql_tables::{
     ReadFault, checked, has_columns, number_at, one_of, read, small_at, text, whole, write,
 };
 use sqlite::{Alter, Connection, Error, Row, Transaction};
+
+/// Runs a statement whose parameters are the columns of an account's counter, in their order. It
+/// answers the number of rows.
+///
+/// # Errors
+/// As of `put_counter`.
+fn write_counter<S: Alter>(
+    tx: &mut Transaction<'_, S>,
+    sql: &str,
+    account: &AccountNumber,
+    counter: &Counter,
+) -> Result<usize, Error>
+    ensures { AttemptsOver S.Store (λ old new.
+        ExecutesInside 0 sql.now (counter_values account.now counter.now) old new result)
+        tx.old.conn tx.new.conn result }
+{
+    let of_account = text(account.as_str());
+    let group = whole(counter.group);
+    let cycle = whole(counter.cycle);
+    let blocks = checked(counter.blocks as u128, 4)?;
+    write(tx, sql, &[of_account, group, cycle, blocks])
+}
 
 /// Replaces a counter of an account, if it has one of the rating group in the cycle, and answers
 /// whether it has.
@@ -33,15 +56,12 @@ fn replace_counter<S: Alter>(
         (with_rows account.now (with_counter_row counter.now))
         (state S.Store tx.old.conn.now) (state S.Store tx.new.conn.now) result }
 {
-    let of_account = text(account.as_str());
-    let group = whole(counter.group);
-    let cycle = whole(counter.cycle);
-    let blocks = checked(counter.blocks as u128, 4)?;
-    let count = write(
+    let count = write_counter(
         tx,
         "UPDATE counters SET account = ?1, rating_group = ?2, cycle = ?3, blocks = ?4 \
          WHERE account = ?1 AND rating_group = ?2 AND cycle = ?3",
-        &[of_account, group, cycle, blocks],
+        account,
+        counter,
     )?;
     Ok(count == 1)
 }
@@ -59,17 +79,14 @@ fn insert_counter<S: Alter>(
     ensures { AttemptsOver S.Store (Makes (with_rows account.now (with_counter_row counter.now)))
         tx.old.conn tx.new.conn result }
 {
-    let of_account = text(account.as_str());
-    let group = whole(counter.group);
-    let cycle = whole(counter.cycle);
-    let blocks = checked(counter.blocks as u128, 4)?;
-    write(
+    write_counter(
         tx,
         "INSERT INTO counters VALUES (?1, ?2, ?3, ?4) \
          ON CONFLICT (account, rating_group, cycle) DO UPDATE SET \
          account = excluded.account, rating_group = excluded.rating_group, \
          cycle = excluded.cycle, blocks = excluded.blocks",
-        &[of_account, group, cycle, blocks],
+        account,
+        counter,
     )
 }
 

@@ -1,27 +1,10 @@
-use Rattle.std.proofs.Common.{◌∙◌, ap}
-use Rattle.sqlite_value.specs.declared.value.Value.TheVariants.{Text}
-use Rattle.sql_rows.specs.Values.{nat}
-use Rattle.sql_rows.proofs.PutAccount.{makes_account, rules_account, bound_account}
+use Rattle.sql_rows.proofs.PutAccount.{makes_account, rules_account}
 use Rattle.sql_rows.proofs.account_rows.insert_account.Goals as goal
 
 pub returns-clause-makes : goal.returns-clause-makes
-returns-clause-makes g c =
-    makes_account c.args.account.now c.args.head.now _
-    (bound_account c.args.account.now c.args.head.now _ _ _ _ _
-    (c.text-number.ensures ∙ ap Text c.as_str.ensures.value)
-    c.flag-barred.ensures
-    (c.large-as_of.ensures ∙ ap nat c.seconds.ensures.value)
-    c.in_ok-next_bucket.ensures
-    c.in_ok-next_charge.ensures)
-    _ _ c.write.result c.requires.book c.write.ensures.runs
+returns-clause-makes g c = makes_account c.args.account.now c.args.head.now _ _
+    c.write_account.result c.requires.book c.write_account.ensures.makes
 
 pub returns-clause-rules : goal.returns-clause-rules
-returns-clause-rules g c =
-    rules_account c.args.account.now c.args.head.now _
-    (bound_account c.args.account.now c.args.head.now _ _ _ _ _
-    (c.text-number.ensures ∙ ap Text c.as_str.ensures.value)
-    c.flag-barred.ensures
-    (c.large-as_of.ensures ∙ ap nat c.seconds.ensures.value)
-    c.in_ok-next_bucket.ensures
-    c.in_ok-next_charge.ensures)
-    _ _ c.write.result c.requires.book c.write.ensures.runs
+returns-clause-rules g c = rules_account c.args.account.now c.args.head.now _ _
+    c.write_account.result c.requires.book c.write_account.ensures.makes

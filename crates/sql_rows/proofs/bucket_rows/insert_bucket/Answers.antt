@@ -1,24 +1,11 @@
-use Rattle.std.proofs.Common.{rules, refl, ◌∙◌, ap}
-use Rattle.sqlite.specs.Values.{or_null}
-use Rattle.sqlite_value.specs.declared.value.Value.TheVariants.{Text}
-use Rattle.sql_rows.specs.Values.{nat, plain_bucket}
-use Rattle.sql_rows.proofs.PutBucket.{makes_bucket, bound_bucket}
+use Rattle.std.proofs.Common.{refl}
+use Rattle.sql_rows.specs.Values.{plain_bucket}
+use Rattle.sql_rows.proofs.PutBucket.{makes_bucket}
 use Rattle.sql_rows.proofs.bucket_rows.insert_bucket.Goals as goal
 
 pub returns : goal.returns
 returns g c = record {
-  same_reference = search rules;
-  makes = makes_bucket c.args.account.now (plain_bucket c.args.bucket.now) refl _
-      (bound_bucket c.args.account.now (plain_bucket c.args.bucket.now) refl _ _ _ _ _ _ _ _ _ _
-      (c.text-of_account.ensures ∙ ap Text c.as_str.ensures.value)
-      (c.whole-number.ensures ∙ ap nat c.number.ensures)
-      (c.large-starts.ensures ∙ ap nat (c.seconds.ensures.value ∙ c.from.ensures))
-      (c.large-ends.ensures ∙ ap nat (c.seconds-2.ensures.value ∙ c.until.ensures))
-      (c.optional-scope.ensures ∙ ap (or_null nat) c.scope.ensures)
-      (c.large-credited.ensures ∙ ap nat c.credited.ensures.amount)
-      (c.large-available.ensures ∙ ap nat c.available.ensures.amount)
-      (c.large-reserved.ensures ∙ ap nat c.reserved.ensures.amount)
-      (c.large-charged.ensures ∙ ap nat c.charged.ensures.amount)
-      (c.large-expired.ensures ∙ ap nat c.expired.ensures.amount))
-      _ _ c.write.result c.requires.book c.write.ensures.runs;
+  same_reference = c.write_bucket.ensures.same_reference;
+  makes = makes_bucket c.args.account.now (plain_bucket c.args.bucket.now) refl _ _
+      c.write_bucket.result c.requires.book c.write_bucket.ensures.makes;
 }

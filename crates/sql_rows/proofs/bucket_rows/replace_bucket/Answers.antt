@@ -1,23 +1,9 @@
-use Rattle.std.proofs.Common.{refl, ◌∙◌, ap}
-use Rattle.sqlite.specs.Values.{or_null}
-use Rattle.sqlite_value.specs.declared.value.Value.TheVariants.{Text}
-use Rattle.sql_rows.specs.Values.{nat, plain_bucket}
-use Rattle.sql_rows.proofs.PutBucket.{bound_bucket}
+use Rattle.std.proofs.Common.{refl}
+use Rattle.sql_rows.specs.Values.{plain_bucket}
 use Rattle.sql_rows.proofs.ReplaceBucket.{replaces_bucket}
 use Rattle.sql_rows.proofs.bucket_rows.replace_bucket.Goals as goal
 
 pub returns-clause-replaces : goal.returns-clause-replaces
 returns-clause-replaces g c =
-    replaces_bucket c.args.account.now (plain_bucket c.args.bucket.now) refl _
-    (bound_bucket c.args.account.now (plain_bucket c.args.bucket.now) refl _ _ _ _ _ _ _ _ _ _
-    (c.text-of_account.ensures ∙ ap Text c.as_str.ensures.value)
-    (c.whole-number.ensures ∙ ap nat c.number.ensures)
-    (c.large-starts.ensures ∙ ap nat (c.seconds.ensures.value ∙ c.from.ensures))
-    (c.large-ends.ensures ∙ ap nat (c.seconds-2.ensures.value ∙ c.until.ensures))
-    (c.optional-scope.ensures ∙ ap (or_null nat) c.scope.ensures)
-    (c.large-credited.ensures ∙ ap nat c.credited.ensures.amount)
-    (c.large-available.ensures ∙ ap nat c.available.ensures.amount)
-    (c.large-reserved.ensures ∙ ap nat c.reserved.ensures.amount)
-    (c.large-charged.ensures ∙ ap nat c.charged.ensures.amount)
-    (c.large-expired.ensures ∙ ap nat c.expired.ensures.amount))
-    _ _ c.in_ok-count.count c.requires.book c.in_ok-count.ensures.runs
+    replaces_bucket c.args.account.now (plain_bucket c.args.bucket.now) refl _ _
+    c.in_ok-count.count c.requires.book c.in_ok-count.ensures.makes
