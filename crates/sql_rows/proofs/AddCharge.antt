@@ -1,21 +1,15 @@
 -- What the text of `add_charge` does.
 use Rattle.std.specs.Prelude.{codes, is_some, if◌then◌else◌, ◌==◌, not, IfOk}
-use Rattle.std.proofs.Common.{◌≡◌, ◌⊎◌, inl, inr, ℕ, ℤ, List, [], ◌∷◌, ◌++◌, Bool, true, false}
+use Rattle.std.proofs.Common.{◌≡◌, ◌⊎◌, inl, inr, ℕ, List, [], ◌∷◌, ◌++◌, Bool, true, false}
 use Rattle.std.proofs.Common.{Some, None, Ok, Result, OnOk, IsTrue, refl, sym, ap, subst}
 use Rattle.std.proofs.Common.{◌∙◌, arith}
-use Rattle.std.specs.Ordering.{eq_by_cmp}
-use Rattle.sqlite_value.specs.declared.value.Value.TheVariants.{Null, Int}
-use Rattle.sqlite_value.specs.Keys.{plain}
-use Rattle.sqlite_value.specs.Order.{Row, row_cmp}
+use Rattle.sqlite_value.specs.declared.value.Value.TheVariants.{Null}
+use Rattle.sqlite_value.specs.Order.{Row}
 use Rattle.sqlite_trees.specs.Objects.{catalog_tree}
 use Rattle.sqlite_trees.specs.Tree.{Trees}
-use Rattle.sqlite_sql.specs.Term.{Term, lit, col}
 use Rattle.sqlite_schema.specs.declared.command.Source.TheVariants.{Values}
 use Rattle.sqlite_schema.specs.declared.command.Conflict.TheVariants.{Abort}
 use Rattle.sqlite_schema.specs.declared.command.Command.TheVariants.{InsertOr}
-use Rattle.sqlite_schema.specs.Rules.{agree}
-use Rattle.sqlite_rules.specs.Cast.{cast_row}
-use Rattle.sqlite_rules.specs.Keys.{conflicts}
 use Rattle.sqlite_tied.specs.Compute.{everything}
 use Rattle.sqlite.specs.declared.error.Error.{Error}
 use Rattle.sqlite.specs.Listing.{understood}
@@ -25,10 +19,7 @@ use Rattle.ledger.specs.declared.charge.ChargeRow.{ChargeRow}
 use Rattle.sql_tables.specs.Keyed.{key_of, look}
 use Rattle.sql_tables.specs.Schema.{charges, book_schema, key_index}
 use Rattle.sql_tables.specs.Statements.{Attempts, HasBook, IsBook}
-use Rattle.sql_tables.proofs.Casts.{cast_int, cast_null}
 use Rattle.sql_tables.proofs.Found.{is_some_map}
-use Rattle.sql_tables.proofs.Steps.{or_false}
-use Rattle.sql_tables.proofs.Ties.{agree_ties}
 use Rattle.sql_rows.specs.Values.{charge_values, charge_in_row}
 use Rattle.sql_rows.specs.Content.{TablesContent, tables_content, has_charge, with_charge_row}
 use Rattle.sql_rows.specs.Content.{with_rows}
@@ -36,17 +27,13 @@ use Rattle.sql_rows.specs.Makes.{AddsIfNone, Makes}
 use Rattle.sql_rows.specs.Plain.{ArePlain}
 use Rattle.sql_rows.proofs.Adds.{AddsRow, IsAdded, IsThere, adds_table}
 use Rattle.sql_rows.proofs.Plains.{plain_beside}
-use Rattle.sql_rows.proofs.PutCharge.{charge_turns}
+use Rattle.sql_rows.proofs.PutCharge.{terms, keyed, charge_turns}
 use Rattle.sql_rows.proofs.Writes.{makes_turned}
 
 abbrev pub add_charge_text : List ℕ
 add_charge_text =
     codes "INSERT INTO charges VALUES (?1, ?2, ?3, ?4, ?5, ?6, ?7, ?8, ?9) "
     ++ codes "ON CONFLICT (account, number) DO NOTHING"
-
-abbrev terms : List Term
-terms = lit Null ∷ col 0 0 ∷ col 0 1 ∷ col 0 2 ∷ col 0 3 ∷ col 0 4 ∷ col 0 5 ∷ col 0 6 ∷ col 0 7
-    ∷ col 0 8 ∷ []
 
 abbrev places : List ℕ
 places = 1 ∷ 2 ∷ []
@@ -64,18 +51,6 @@ module _ (a : List ℕ) (row : ChargeRow) (none : row.covered.0 ≡ 0) where
   abbrev values : Row
   values = charge_values a row
 
-  again : (id : ℤ) → cast_row charges (Int id ∷ values) ≡ Int id ∷ values
-  again id = simp (cast_int)
-
-  unset : cast_row charges (Null ∷ values) ≡ Null ∷ values
-  unset = simp (cast_int, cast_null)
-
-  meets : (id : ℤ) (other : Row) →
-      conflicts (Some places) book_schema.indexes charges (Int id ∷ values) other
-      ≡ eq_by_cmp row_cmp (key_of places other) (key_of places (Int id ∷ values))
-  meets id other = or_false (agree plain places other places (Int id ∷ values))
-      ∙ agree_ties places other (Int id ∷ values) (refl, (refl, tt))
-
   adds : (old new : State) (r : Result ℕ Error) → (IsTrue old.is_open → IsBook old)
       → OnOk r (ExecutesInside 0 add_charge_text values old new r)
       → IfOk r (AddsRow charges values old new)
@@ -83,8 +58,7 @@ module _ (a : List ℕ) (row : ChargeRow) (none : row.covered.0 ≡ 0) where
       adds_table 9 charges refl (inr (inr (inr (inr (inr (inr (inr (inr (inr (inl refl))))))))))
       (key_index charges) (inr (inr (inr (inr (inr (inr (inr (inr (inr (inl refl))))))))))
       refl refl refl (λ e. omega arith) refl
-      add_charge_text terms 10 add_is add_plain values again unset
-      refl (λ v. refl) (λ id. (refl, (refl, tt))) meets
+      add_charge_text terms 10 add_is add_plain values refl (keyed a row none)
 
   abbrev stands : TablesContent → Bool
   stands c = has_charge a row.number c

@@ -17,7 +17,7 @@ use Rattle.sql_tables.specs.Statements.{Attempts, HasBook, IsBook}
 use Rattle.sql_tables.proofs.Found.{is_some_map}
 use Rattle.sql_rows.specs.Makes.{Adds}
 use Rattle.sql_rows.proofs.Inserts.{InsertsRow, inserts, inserts_row}
-use Rattle.sql_rows.proofs.PutGroup.{terms, values, again, unset, meets, turns}
+use Rattle.sql_rows.proofs.PutGroup.{terms, values, keyed, turns}
 use Rattle.sql_rows.proofs.Writes.{puts_make}
 
 abbrev pub add_group_text : List ℕ
@@ -37,8 +37,7 @@ module _ (a s : List ℕ) (g : ℕ) (row : Group) where
       → OnOk r (InsertsRow session_groups (values a s g row) old new)
   runs = inserts_row 5 session_groups refl (inr (inr (inr (inr (inr (inl refl))))))
       (inr (inr (inr (inr (inr (inl refl)))))) refl (λ e. omega arith) refl
-      add_group_text terms 8 add_is add_plain (values a s g row) (again a s g row)
-      (unset a s g row) refl (λ v. refl) (λ id. (refl, (refl, (refl, tt)))) (meets a s g row)
+      add_group_text terms 8 add_is add_plain (values a s g row) refl (keyed a s g row)
 
   pub adds_group : (params : Row) → params ≡ values a s g row
       → (old new : State) (r : Result ℕ Error) → HasBook old

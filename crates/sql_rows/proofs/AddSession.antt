@@ -18,7 +18,7 @@ use Rattle.sql_tables.specs.Statements.{Attempts, HasBook, IsBook}
 use Rattle.sql_tables.proofs.Found.{is_some_map}
 use Rattle.sql_rows.specs.Makes.{Adds}
 use Rattle.sql_rows.proofs.Inserts.{InsertsRow, inserts, inserts_row}
-use Rattle.sql_rows.proofs.PutSession.{terms, values, again, unset, meets, turns}
+use Rattle.sql_rows.proofs.PutSession.{terms, values, keyed, turns}
 use Rattle.sql_rows.proofs.Writes.{puts_make}
 
 abbrev pub add_session_text : List ℕ
@@ -38,8 +38,7 @@ module _ (a : List ℕ) (row : Session) where
       → OnOk r (InsertsRow sessions (values a row) old new)
   runs = inserts_row 4 sessions refl (inr (inr (inr (inr (inl refl)))))
       (inr (inr (inr (inr (inl refl))))) refl (λ e. omega arith) refl
-      add_session_text terms 6 add_is add_plain (values a row) (again a row) (unset a row) refl
-      (λ v. refl) (λ id. (refl, (refl, tt))) (meets a row)
+      add_session_text terms 6 add_is add_plain (values a row) refl (keyed a row)
 
   pub adds_session : (params : Row) → params ≡ values a row
       → (old new : State) (r : Result ℕ Error) → HasBook old

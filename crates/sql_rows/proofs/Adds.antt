@@ -1,5 +1,5 @@
 -- What INSERT .. ON CONFLICT (key) DO NOTHING of one row makes of its table.
-use Rattle.std.proofs.Common.{◌≡◌, ◌≢◌, ◌⊎◌, inl, inr, ℕ, ℤ, List, [], ◌∷◌, length, slice_get}
+use Rattle.std.proofs.Common.{◌≡◌, ◌≢◌, ◌⊎◌, inl, inr, ℕ, List, [], ◌∷◌, length, slice_get}
 use Rattle.std.proofs.Common.{true, false, ◌/◌, Some, None, Option, Ok, Err}
 use Rattle.std.proofs.Common.{Result, OnOk, IsTrue, refl, sym, ap, subst, ◌∙◌, is_eq}
 use Rattle.std.specs.Prelude.{IfOk, is_some}
@@ -7,16 +7,13 @@ use Rattle.std.proofs.lemmas.Bool.{and_parts, not-true}
 use Rattle.std.proofs.lemmas.Cmp.{tied_back}
 use Rattle.std.specs.FinMap.{get, get-from_entries}
 use Rattle.std.specs.FinMap.Entries.{find as look_in}
-use Rattle.std.specs.List.{AllByRecursion}
 use Rattle.std.specs.Ordering.{eq_by_cmp}
-use Rattle.sqlite_value.specs.declared.value.Value.{Value}
 use Rattle.sqlite_value.specs.declared.value.Value.TheVariants.{Null, Int}
 use Rattle.sqlite_value.specs.Keys.{plain}
-use Rattle.sqlite_value.specs.Order.{Row, column, row_cmp}
+use Rattle.sqlite_value.specs.Order.{Row, row_cmp}
 use Rattle.sqlite_value.proofs.OrderLemmas.{row_cmp_total}
 use Rattle.sqlite_trees.specs.Objects.{catalog_tree}
 use Rattle.sqlite_trees.specs.Tree.{Trees, put_row}
-use Rattle.sqlite_sql.specs.Ops.{is_null}
 use Rattle.sqlite_sql.specs.Term.{Term}
 use Rattle.sqlite_schema.specs.Rules.{Fits, guards}
 use Rattle.sqlite_schema.specs.declared.schema.Index.{Index}
@@ -28,7 +25,6 @@ use Rattle.sqlite_schema.specs.declared.command.Conflict.TheVariants.{Abort}
 use Rattle.sqlite_schema.specs.declared.command.Upsert.{Upsert}
 use Rattle.sqlite_schema.specs.declared.command.Command.TheVariants.{InsertOr}
 use Rattle.sqlite_rules.specs.declared.error.Rowids.TheVariants.{Given}
-use Rattle.sqlite_rules.specs.Cast.{cast_row}
 use Rattle.sqlite_rules.specs.Keys.{AreConflicts, conflicts}
 use Rattle.sqlite_rules.specs.Lists.{Has}
 use Rattle.sqlite_rules.specs.Edit.{edit_of, next_rowid, are_fresh}
@@ -51,11 +47,7 @@ use Rattle.sql_tables.proofs.Swaps.{PutsRow, puts_key}
 use Rattle.sql_tables.proofs.Ties.{equal_is}
 use Rattle.sql_tables.proofs.Upserts.{Put, Added}
 use Rattle.sql_tables.proofs.OneRow.{says_of_statement}
-
--- the row of these values is stored as it is
-pub record IsAddOf (table : Table) (values : Row) : Type 0 where
-  pub again : (id : ℤ) → cast_row table (Int id ∷ values) ≡ Int id ∷ values
-  pub plain : cast_row table (Null ∷ values) ≡ Null ∷ values
+use Rattle.sql_rows.proofs.Keyed.{IsKeyed}
 
 -- a row meets it, and nothing is written
 pub record Stood (schema : Schema) (table : Table) (target : List ℕ) (values : Row)
@@ -73,7 +65,7 @@ Adding schema table target values db next count =
     ⊎ (Stood schema table target values db next × (count ≡ 0))
 
 module _ (limit : Option ℕ) (schema : Schema) (table : Table) (params values : Row)
-    (target : List ℕ) (db : Trees) (adds : IsAddOf table values) where
+    (target : List ℕ) (db : Trees) (keyed : IsKeyed table values) where
   abbrev task : Task
   task = record { limit = limit; keys = Enforced; schema = schema; table = table; params = params }
 
@@ -90,14 +82,14 @@ module _ (limit : Option ℕ) (schema : Schema) (table : Table) (params values :
       let done = one_step schema Enforced db it.0 edit
       (no_works schema Enforced 0 table.tree edit.news) it.1 in
       let trees : one.trees ≡ it.0 = ap (λ (w : Written). w.trees) (same_value it.2) in
-      let news : edit.news ≡ new ∷ [] = ap (λ r. r ∷ []) (adds.again _) in
+      let news : edit.news ≡ new ∷ [] = ap (λ r. r ∷ []) (keyed.again _) in
       let fresh : are_fresh (db table.tree) (new ∷ []) ≡ true =
       subst (λ n. are_fresh (db table.tree) n ≡ true) news done.fresh in (
         record {
           fresh = not-true _ (and_parts _ _ fresh).0;
           rows = ap (λ (t : Trees). t table.tree) trees
               ∙ done.rows
-              ∙ ap (λ r. put_row r (db table.tree)) (adds.again _);
+              ∙ ap (λ r. put_row r (db table.tree)) (keyed.again _);
           others = λ t other free. ap (λ (d : Trees). d t) trees ∙ done.others t other free;
           fits = subst (Fits schema) (sym trees) done.fits;
         },
@@ -138,7 +130,7 @@ module _ (limit : Option ℕ) (schema : Schema) (table : Table) (params values :
 -- the same of the whole statement
 module _ (schema : Schema) (at : ℕ) (table : Table)
     (there : slice_get schema.tables at ≡ Some table)
-    (params values : Row) (target : List ℕ) (adds : IsAddOf table values)
+    (params values : Row) (target : List ℕ) (keyed : IsKeyed table values)
     (terms : List Term) (width : ℕ) (uncounted : table.is_counted ≡ false)
     (supplied : value_rows (stamped table params) width (length terms / width) terms
     ≡ (Null ∷ values) ∷ []) where
@@ -149,9 +141,9 @@ module _ (schema : Schema) (at : ℕ) (table : Table)
       × Adding schema table target values old.now.trees new.now.trees count
   adds_row old new text count =
       says_of_statement schema at table there params values
-      (record { target = Some target; update = None }) adds.plain terms width uncounted supplied old
-      new text count (Adding schema table target values old.now.trees)
-      (upserts old.step_limit schema table params values target old.now.trees adds)
+      (record { target = Some target; update = None }) keyed.unset terms width uncounted supplied
+      old new text count (Adding schema table target values old.now.trees)
+      (upserts old.step_limit schema table params values target old.now.trees keyed)
 
 -- ---- of a table of the book
 
@@ -184,16 +176,9 @@ module _ (at : ℕ) (table : Table) (there : slice_get book_schema.tables at ≡
     ≡ InsertOr at Abort (Values terms width)
     (record { target = Some table.primary; update = None } ∷ []))
     (plain_text : IsPlain (understood book_schema text)) (values : Row)
-    (again : (id : ℤ) → cast_row table (Int id ∷ values) ≡ Int id ∷ values)
-    (unset : cast_row table (Null ∷ values) ≡ Null ∷ values)
     (supplied : value_rows (stamped table values) width (length terms / width) terms
     ≡ (Null ∷ values) ∷ [])
-    (keys : (v : Value) → key_of table.primary (v ∷ values) ≡ key_of table.primary (Null ∷ values))
-    (full : (id : ℤ) →
-    AllByRecursion (λ p. is_null (column (Int id ∷ values) p) ≡ false) table.primary)
-    (ties : (id : ℤ) (other : Row) →
-    conflicts (Some table.primary) book_schema.indexes table (Int id ∷ values) other
-    ≡ eq_by_cmp row_cmp (key_of table.primary other) (key_of table.primary (Int id ∷ values))) where
+    (keyed : IsKeyed table values) where
   abbrev key : Row
   key = key_of table.primary (Null ∷ values)
 
@@ -202,13 +187,13 @@ module _ (at : ℕ) (table : Table) (there : slice_get book_schema.tables at ≡
       (Int (next_rowid rows) ∷ values) r ≡ true → meets table.primary key r ≡ true
   meeting rows r e = ap is_eq (tied_back row_cmp_total (key_of table.primary r) key
       (equal_is _ (ap (eq_by_cmp row_cmp (key_of table.primary r))
-      (sym (keys (Int (next_rowid rows)))) ∙ sym (ties (next_rowid rows) r) ∙ e)))
+      (sym (keyed.keys (Int (next_rowid rows)))) ∙ sym (keyed.ties (next_rowid rows) r) ∙ e)))
 
   conflicting : (rows : List Row) (r : Row) → meets table.primary key r ≡ true →
       conflicts (Some table.primary) book_schema.indexes table (Int (next_rowid rows) ∷ values) r
       ≡ true
-  conflicting rows r e = ties (next_rowid rows) r
-      ∙ ap (eq_by_cmp row_cmp (key_of table.primary r)) (keys (Int (next_rowid rows)))
+  conflicting rows r e = keyed.ties (next_rowid rows) r
+      ∙ ap (eq_by_cmp row_cmp (key_of table.primary r)) (keyed.keys (Int (next_rowid rows)))
       ∙ ap is_eq (tied_back row_cmp_total key (key_of table.primary r) (equal_is _ e))
 
   looked : (rows : List Row) → get (table_of table.primary rows) key
@@ -245,14 +230,14 @@ module _ (at : ℕ) (table : Table) (there : slice_get book_schema.tables at ≡
       let command = InsertOr at Abort (Values terms width)
       (record { target = Some table.primary; update = None } ∷ []) in
       let w = runs_as text values old new book_schema book.schema command is plain_text count x.0 in
-      let done = adds_row book_schema at table there values values table.primary
-      (record { again = again; plain = unset }) terms width uncounted supplied old new
+      let done = adds_row book_schema at table there values values table.primary keyed terms width
+      uncounted supplied old new
       (statement_of text (understood book_schema text)) count book.schema w in
       elim done.1 [
         | inl a ↦
             let p : PutsRow table.primary book_schema table values old.now.trees new.now.trees =
             puts_key table.primary book_schema table tabled index listed guarding order columns
-            values old.now.trees new.now.trees stored keys full ties (inl a.0) in
+            values old.now.trees new.now.trees stored keyed.keys keyed.full keyed.ties (inl a.0) in
             record {
               adds = inl (record {
                 none = nothing_under old.now.trees new.now.trees a.0;

@@ -6,22 +6,18 @@ use Rattle.std.specs.Prelude.{if◌then◌else◌, is_some}
 use Rattle.std.proofs.lemmas.Bool.{and_parts, false_from_ne_true, not-true}
 use Rattle.std.specs.FinMap.{get-from_entries}
 use Rattle.std.specs.FinMap.Entries.{find as look_in}
-use Rattle.std.specs.List.{AllByRecursion}
 use Rattle.std.specs.Ordering.{eq_by_cmp}
-use Rattle.sqlite_value.specs.declared.value.Value.{Value}
 use Rattle.sqlite_value.specs.declared.value.Value.TheVariants.{Null, Int}
-use Rattle.sqlite_value.specs.Order.{Row, column, row_cmp, value_cmp}
+use Rattle.sqlite_value.specs.Order.{Row, row_cmp, value_cmp}
 use Rattle.sqlite_value.proofs.OrderLemmas.{row_cmp_total}
 use Rattle.sqlite_trees.specs.Objects.{catalog_tree}
 use Rattle.sqlite_trees.specs.Tree.{Trees, rowid}
-use Rattle.sqlite_sql.specs.Ops.{is_null}
 use Rattle.sqlite_sql.specs.Term.{Term}
 use Rattle.sqlite_schema.specs.Rules.{Fits, guards}
 use Rattle.sqlite_schema.specs.declared.command.Command.TheVariants.{Insert}
 use Rattle.sqlite_schema.specs.declared.command.Source.TheVariants.{Values}
 use Rattle.sqlite_schema.specs.declared.schema.Keys.TheVariants.{Enforced}
 use Rattle.sqlite_schema.specs.declared.schema.Table.{Table}
-use Rattle.sqlite_rules.specs.Cast.{cast_row}
 use Rattle.sqlite_rules.specs.Edit.{Edit, edit_of, are_fresh, is_taken, next_rowid, put_all}
 use Rattle.sqlite_rules.specs.Edit.{with_rowid}
 use Rattle.sqlite_rules.specs.Keys.{conflicts}
@@ -52,6 +48,7 @@ use Rattle.sql_tables.proofs.Ties.{agree_ties}
 use Rattle.sql_tables.proofs.Upserts.{Added, Put, Upserted}
 use Rattle.sql_rows.specs.Content.{TablesContent, tables_content}
 use Rattle.sql_rows.specs.Makes.{Adds, Makes}
+use Rattle.sql_rows.proofs.Keyed.{IsKeyed}
 
 -- nothing was under the key, and the row is there
 pub record InsertsRow (table : Table) (values : Row) (old new : State) : Type 0 where
@@ -66,16 +63,9 @@ module _ (at : ℕ) (table : Table) (there : slice_get book_schema.tables at ≡
     (text : List ℕ) (terms : List Term) (width : ℕ)
     (is : command_of (understood book_schema text) ≡ Insert at (Values terms width))
     (plain_text : IsPlain (understood book_schema text)) (values : Row)
-    (again : (id : ℤ) → cast_row table (Int id ∷ values) ≡ Int id ∷ values)
-    (unset : cast_row table (Null ∷ values) ≡ Null ∷ values)
     (supplied : value_rows (stamped table values) width (length terms / width) terms
     ≡ (Null ∷ values) ∷ [])
-    (keys : (v : Value) → key_of table.primary (v ∷ values) ≡ key_of table.primary (Null ∷ values))
-    (full : (id : ℤ) →
-    AllByRecursion (λ p. is_null (column (Int id ∷ values) p) ≡ false) table.primary)
-    (ties : (id : ℤ) (other : Row) →
-    conflicts (Some table.primary) book_schema.indexes table (Int id ∷ values) other
-    ≡ eq_by_cmp row_cmp (key_of table.primary other) (key_of table.primary (Int id ∷ values))) where
+    (keyed : IsKeyed table values) where
   abbrev key : Row
   key = key_of table.primary (Null ∷ values)
 
@@ -93,7 +83,7 @@ module _ (at : ℕ) (table : Table) (there : slice_get book_schema.tables at ≡
         → (edit_by top rows).news ≡ fresh_row ∷ []
     numbered_new top rows one =
         ap (λ rs. (edit_by top rs).news) one
-        ∙ ap (λ r. with_rowid (rowids_for table top) rows_in r ∷ []) unset
+        ∙ ap (λ r. with_rowid (rowids_for table top) rows_in r ∷ []) keyed.unset
         ∙ ap (λ b. with_rowid (if b then Above top else Chosen) rows_in (Null ∷ values) ∷ [])
         uncounted
 
@@ -142,8 +132,8 @@ module _ (at : ℕ) (table : Table) (there : slice_get book_schema.tables at ≡
         no_clash table.primary book_schema table tabled (key_index table) listed guarding refl refl
         next fits fresh_row r
         (subst (λ rs. Has rs fresh_row) (sym p.rows) (has_put fresh_row rows_in)) kept
-        (agree_ties table.primary r fresh_row (full (next_rowid rows_in))
-        ∙ sym (ties (next_rowid rows_in) r) ∙ meets)
+        (agree_ties table.primary r fresh_row (keyed.full (next_rowid rows_in))
+        ∙ sym (keyed.ties (next_rowid rows_in) r) ∙ meets)
         (differ_ints (rowid r) (Int (next_rowid rows_in)) (all_has _ rows_in r stored.1 has) refl
         (free_of rows_in r has p.fresh))
       where
@@ -160,8 +150,8 @@ module _ (at : ℕ) (table : Table) (there : slice_get book_schema.tables at ≡
 
     conflicting : (r : Row) → eq_by_cmp row_cmp key (key_of table.primary r) ≡ true
         → conflicts (Some table.primary) book_schema.indexes table fresh_row r ≡ true
-    conflicting r e = ties (next_rowid rows_in) r
-        ∙ ap (eq_by_cmp row_cmp (key_of table.primary r)) (keys (Int (next_rowid rows_in)))
+    conflicting r e = keyed.ties (next_rowid rows_in) r
+        ∙ ap (eq_by_cmp row_cmp (key_of table.primary r)) (keyed.keys (Int (next_rowid rows_in)))
         ∙ keys_back key (key_of table.primary r) e
 
     nothing_under : IsStored rows_in → (next : Trees)
@@ -211,7 +201,7 @@ module _ (at : ℕ) (table : Table) (there : slice_get book_schema.tables at ≡
       inl (added db stored next done.1) in
       let p : PutsRow table.primary book_schema table values db next =
       puts_key table.primary book_schema table tabled (key_index table) listed guarding refl refl
-      values db next stored keys full ties upserted in
+      values db next stored keyed.keys keyed.full keyed.ties upserted in
       record {
         none = nothing_under db stored next done.1;
         puts = record {
@@ -225,7 +215,8 @@ module _ (at : ℕ) (table : Table) (there : slice_get book_schema.tables at ≡
             stored = stays_stored table db next p.stored p.others book.stored;
           };
           shows = x.1;
-          counts = counted table.primary book_schema table values db next stored keys ties upserted;
+          counts = counted table.primary book_schema table values db next stored keyed.keys
+              keyed.ties upserted;
         };
       }
 

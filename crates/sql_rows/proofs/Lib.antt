@@ -9,6 +9,7 @@ pub mod ChargeBlocks
 pub mod Dead
 pub mod Each
 pub mod Inserts
+pub mod Keyed
 pub mod MetaRules
 pub mod NamedTexts
 pub mod NamesPut

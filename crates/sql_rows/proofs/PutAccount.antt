@@ -35,6 +35,7 @@ use Rattle.sql_rows.specs.declared.head.HeadColumns.{HeadColumns}
 use Rattle.sql_rows.specs.Values.{nat, head_cells, head_values, head_key, head_in, flag_number}
 use Rattle.sql_rows.specs.Content.{with_account, with_head, rows_in, tables_content}
 use Rattle.sql_rows.specs.Makes.{Makes}
+use Rattle.sql_rows.proofs.Keyed.{IsKeyed}
 use Rattle.sql_rows.proofs.Plains.{plain_account}
 use Rattle.sql_rows.proofs.Stays.{only_changed, rows_turn}
 use Rattle.sql_rows.proofs.Writes.{writes, makes_turned, rules_after}
@@ -80,17 +81,26 @@ module _ (a : List ℕ) (h : HeadColumns) where
   abbrev pub values : Row
   values = head_values a h
 
-  pub again : (id : ℤ) → cast_row accounts (Int id ∷ values) ≡ Int id ∷ values
+  again : (id : ℤ) → cast_row accounts (Int id ∷ values) ≡ Int id ∷ values
   again id = simp (cast_int)
 
   unset : cast_row accounts (Null ∷ values) ≡ Null ∷ values
   unset = simp (cast_int, cast_null)
 
-  pub meets : (id : ℤ) (other : Row) →
+  meets : (id : ℤ) (other : Row) →
       conflicts (Some places) book_schema.indexes accounts (Int id ∷ values) other
       ≡ eq_by_cmp row_cmp (key_of places other) (key_of places (Int id ∷ values))
   meets id other = or_false (agree plain places other places (Int id ∷ values))
       ∙ agree_ties places other (Int id ∷ values) (refl, tt)
+
+  pub keyed : IsKeyed accounts values
+  keyed = record {
+    again = again;
+    unset = unset;
+    keys = λ v. refl;
+    full = λ id. (refl, tt);
+    ties = meets;
+  }
 
   puts : (old new : State) (r : Result ℕ Error) → (IsTrue old.is_open → IsBook old)
       → OnOk r (ExecutesInside 0 put_account_text values old new r)
@@ -98,8 +108,9 @@ module _ (a : List ℕ) (h : HeadColumns) where
   puts =
       puts_table 1 accounts refl (inr (inl refl)) (key_index accounts) (inr (inl refl))
       refl refl refl (λ e. omega arith) refl
-      put_account_text terms project 6 5 put_is put_plain values (λ olds new. refl) again unset
-      (λ id met r. refl) (λ id met. refl) refl (λ v. refl) (λ id. (refl, tt)) meets
+      put_account_text terms project 6 5 put_is put_plain values (λ olds new. refl)
+      keyed.again keyed.unset
+      (λ id met r. refl) (λ id met. refl) refl keyed.keys keyed.full keyed.ties
 
   abbrev pub grown : Trees → ℕ
   grown old = if is_some (look accounts old (head_key a)) then length (old 2)

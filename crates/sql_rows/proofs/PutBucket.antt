@@ -37,6 +37,7 @@ use Rattle.sql_tables.proofs.Upserts.{pick}
 use Rattle.sql_rows.specs.Values.{nat, money_cells, bucket_values, bucket_key, bucket_in_row}
 use Rattle.sql_rows.specs.Content.{with_rows, with_bucket, rows_in, tables_content}
 use Rattle.sql_rows.specs.Makes.{Makes}
+use Rattle.sql_rows.proofs.Keyed.{IsKeyed}
 use Rattle.sql_rows.proofs.Plains.{plain_beside}
 use Rattle.sql_rows.proofs.Stays.{only_changed, rows_turn, at_each}
 use Rattle.sql_rows.proofs.Writes.{writes, puts_make}
@@ -90,17 +91,26 @@ module _ (a : List ℕ) (b : BucketRow) (counts : b.kind ≡ Money) where
   abbrev pub values : Row
   values = bucket_values a b
 
-  pub again : (id : ℤ) → cast_row buckets (Int id ∷ values) ≡ Int id ∷ values
+  again : (id : ℤ) → cast_row buckets (Int id ∷ values) ≡ Int id ∷ values
   again id = simp (cast_int, cast_or_null)
 
   unset : cast_row buckets (Null ∷ values) ≡ Null ∷ values
   unset = simp (cast_int, cast_or_null, cast_null)
 
-  pub meets : (id : ℤ) (other : Row) →
+  meets : (id : ℤ) (other : Row) →
       conflicts (Some places) book_schema.indexes buckets (Int id ∷ values) other
       ≡ eq_by_cmp row_cmp (key_of places other) (key_of places (Int id ∷ values))
   meets id other = or_false (agree plain places other places (Int id ∷ values))
       ∙ agree_ties places other (Int id ∷ values) (refl, (refl, tt))
+
+  pub keyed : IsKeyed buckets values
+  keyed = record {
+    again = again;
+    unset = unset;
+    keys = λ v. refl;
+    full = λ id. (refl, (refl, tt));
+    ties = meets;
+  }
 
   puts : (old new : State) (r : Result ℕ Error) → (IsTrue old.is_open → IsBook old)
       → OnOk r (ExecutesInside 0 put_bucket_text values old new r)
@@ -108,8 +118,9 @@ module _ (a : List ℕ) (b : BucketRow) (counts : b.kind ≡ Money) where
   puts =
       puts_table 2 buckets refl (inr (inr (inl refl))) (key_index buckets) (inr (inr (inl refl)))
       refl refl refl (λ e. omega arith) refl
-      put_bucket_text terms project 11 10 put_is put_plain values (λ olds new. refl) again unset
-      (λ id met r. refl) (λ id met. refl) refl (λ v. refl) (λ id. (refl, (refl, tt))) meets
+      put_bucket_text terms project 11 10 put_is put_plain values (λ olds new. refl)
+      keyed.again keyed.unset
+      (λ id met r. refl) (λ id met. refl) refl keyed.keys keyed.full keyed.ties
 
   pub turns : (old new : Trees) → Changes buckets values old new
       → tables_content new ≡ with_rows a (with_bucket b) (tables_content old)

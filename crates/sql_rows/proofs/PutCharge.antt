@@ -35,6 +35,7 @@ use Rattle.sql_tables.proofs.Upserts.{pick}
 use Rattle.sql_rows.specs.Values.{nat, priced_cells, charge_values, charge_key, charge_in_row}
 use Rattle.sql_rows.specs.Content.{with_rows, with_charge_row, rows_in, tables_content}
 use Rattle.sql_rows.specs.Makes.{Makes}
+use Rattle.sql_rows.proofs.Keyed.{IsKeyed}
 use Rattle.sql_rows.proofs.Plains.{plain_beside}
 use Rattle.sql_rows.proofs.Stays.{only_changed, rows_turn, at_each}
 use Rattle.sql_rows.proofs.Writes.{writes, puts_make}
@@ -48,7 +49,7 @@ put_charge_text =
     ++ codes "blocks = excluded.blocks, rated = excluded.rated, collected = excluded.collected, "
     ++ codes "uncollected = excluded.uncollected"
 
-abbrev terms : List Term
+abbrev pub terms : List Term
 terms = lit Null ∷ col 0 0 ∷ col 0 1 ∷ col 0 2 ∷ col 0 3 ∷ col 0 4 ∷ col 0 5 ∷ col 0 6 ∷ col 0 7
     ∷ col 0 8 ∷ []
 
@@ -79,7 +80,7 @@ pub charge_told : (v : Value) (row : ChargeRow) → row.covered.0 ≡ 0 →
 charge_told v row none = ap (λ n. record row { covered = record { 0 = n } }) (sym none)
 
 module _ (a : List ℕ) (row : ChargeRow) (none : row.covered.0 ≡ 0) where
-  abbrev values : Row
+  abbrev pub values : Row
   values = charge_values a row
 
   again : (id : ℤ) → cast_row charges (Int id ∷ values) ≡ Int id ∷ values
@@ -94,6 +95,15 @@ module _ (a : List ℕ) (row : ChargeRow) (none : row.covered.0 ≡ 0) where
   meets id other = or_false (agree plain places other places (Int id ∷ values))
       ∙ agree_ties places other (Int id ∷ values) (refl, (refl, tt))
 
+  pub keyed : IsKeyed charges values
+  keyed = record {
+    again = again;
+    unset = unset;
+    keys = λ v. refl;
+    full = λ id. (refl, (refl, tt));
+    ties = meets;
+  }
+
   puts : (old new : State) (r : Result ℕ Error) → (IsTrue old.is_open → IsBook old)
       → OnOk r (ExecutesInside 0 put_charge_text values old new r)
       → OnOk r (Puts charges values old new)
@@ -101,8 +111,9 @@ module _ (a : List ℕ) (row : ChargeRow) (none : row.covered.0 ≡ 0) where
       puts_table 9 charges refl (inr (inr (inr (inr (inr (inr (inr (inr (inr (inl refl))))))))))
       (key_index charges) (inr (inr (inr (inr (inr (inr (inr (inr (inr (inl refl))))))))))
       refl refl refl (λ e. omega arith) refl
-      put_charge_text terms project 10 9 put_is put_plain values (λ olds new. refl) again unset
-      (λ id met r. refl) (λ id met. refl) refl (λ v. refl) (λ id. (refl, (refl, tt))) meets
+      put_charge_text terms project 10 9 put_is put_plain values (λ olds new. refl)
+      keyed.again keyed.unset
+      (λ id met r. refl) (λ id met. refl) refl keyed.keys keyed.full keyed.ties
 
   pub charge_turns : (old new : Trees) → Changes charges values old new
       → tables_content new ≡ with_rows a (with_charge_row row) (tables_content old)

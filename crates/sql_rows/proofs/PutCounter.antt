@@ -35,6 +35,7 @@ use Rattle.sql_tables.proofs.Upserts.{pick}
 use Rattle.sql_rows.specs.Values.{nat, counter_values, counter_key, counter_in_row}
 use Rattle.sql_rows.specs.Content.{with_rows, with_counter_row, rows_in, tables_content}
 use Rattle.sql_rows.specs.Makes.{Makes}
+use Rattle.sql_rows.proofs.Keyed.{IsKeyed}
 use Rattle.sql_rows.proofs.Plains.{plain_beside}
 use Rattle.sql_rows.proofs.Stays.{only_changed, rows_turn, at_each}
 use Rattle.sql_rows.proofs.Writes.{writes, puts_make}
@@ -72,17 +73,26 @@ module _ (a : List ℕ) (k : Counter) where
   abbrev pub values : Row
   values = counter_values a k
 
-  pub again : (id : ℤ) → cast_row counters (Int id ∷ values) ≡ Int id ∷ values
+  again : (id : ℤ) → cast_row counters (Int id ∷ values) ≡ Int id ∷ values
   again id = simp (cast_int)
 
   unset : cast_row counters (Null ∷ values) ≡ Null ∷ values
   unset = simp (cast_int, cast_null)
 
-  pub meets : (id : ℤ) (other : Row) →
+  meets : (id : ℤ) (other : Row) →
       conflicts (Some places) book_schema.indexes counters (Int id ∷ values) other
       ≡ eq_by_cmp row_cmp (key_of places other) (key_of places (Int id ∷ values))
   meets id other = or_false (agree plain places other places (Int id ∷ values))
       ∙ agree_ties places other (Int id ∷ values) (refl, (refl, (refl, tt)))
+
+  pub keyed : IsKeyed counters values
+  keyed = record {
+    again = again;
+    unset = unset;
+    keys = λ v. refl;
+    full = λ id. (refl, (refl, (refl, tt)));
+    ties = meets;
+  }
 
   puts : (old new : State) (r : Result ℕ Error) → (IsTrue old.is_open → IsBook old)
       → OnOk r (ExecutesInside 0 put_counter_text values old new r)
@@ -90,8 +100,9 @@ module _ (a : List ℕ) (k : Counter) where
   puts =
       puts_table 3 counters refl (inr (inr (inr (inl refl)))) (key_index counters)
       (inr (inr (inr (inl refl)))) refl refl refl (λ e. omega arith) refl
-      put_counter_text terms project 5 4 put_is put_plain values (λ olds new. refl) again unset
-      (λ id met r. refl) (λ id met. refl) refl (λ v. refl) (λ id. (refl, (refl, (refl, tt)))) meets
+      put_counter_text terms project 5 4 put_is put_plain values (λ olds new. refl)
+      keyed.again keyed.unset
+      (λ id met r. refl) (λ id met. refl) refl keyed.keys keyed.full keyed.ties
 
   pub turns : (old new : Trees) → Changes counters values old new
       → tables_content new ≡ with_rows a (with_counter_row k) (tables_content old)

@@ -36,6 +36,7 @@ use Rattle.sql_rows.specs.Values.{nat, Group, PeriodNames, group_cells, group_va
 use Rattle.sql_rows.specs.Values.{group_in_row, flag_number}
 use Rattle.sql_rows.specs.Content.{with_rows, with_group_row, rows_in, tables_content}
 use Rattle.sql_rows.specs.Makes.{Makes}
+use Rattle.sql_rows.proofs.Keyed.{IsKeyed}
 use Rattle.sql_rows.proofs.Plains.{plain_group}
 use Rattle.sql_rows.proofs.Stays.{only_changed, rows_turn, at_each}
 use Rattle.sql_rows.proofs.Writes.{writes, puts_make}
@@ -84,17 +85,26 @@ module _ (a s : List ℕ) (g : ℕ) (row : Group) where
   abbrev pub values : Row
   values = group_values a s g row
 
-  pub again : (id : ℤ) → cast_row session_groups (Int id ∷ values) ≡ Int id ∷ values
+  again : (id : ℤ) → cast_row session_groups (Int id ∷ values) ≡ Int id ∷ values
   again id = simp (cast_int, cast_or_text)
 
-  pub unset : cast_row session_groups (Null ∷ values) ≡ Null ∷ values
+  unset : cast_row session_groups (Null ∷ values) ≡ Null ∷ values
   unset = simp (cast_int, cast_or_text, cast_null)
 
-  pub meets : (id : ℤ) (other : Row) →
+  meets : (id : ℤ) (other : Row) →
       conflicts (Some places) book_schema.indexes session_groups (Int id ∷ values) other
       ≡ eq_by_cmp row_cmp (key_of places other) (key_of places (Int id ∷ values))
   meets id other = or_false (agree plain places other places (Int id ∷ values))
       ∙ agree_ties places other (Int id ∷ values) (refl, (refl, (refl, tt)))
+
+  pub keyed : IsKeyed session_groups values
+  keyed = record {
+    again = again;
+    unset = unset;
+    keys = λ v. refl;
+    full = λ id. (refl, (refl, (refl, tt)));
+    ties = meets;
+  }
 
   puts : (old new : State) (r : Result ℕ Error) → (IsTrue old.is_open → IsBook old)
       → OnOk r (ExecutesInside 0 put_group_text values old new r)
@@ -103,8 +113,9 @@ module _ (a s : List ℕ) (g : ℕ) (row : Group) where
       puts_table 5 session_groups refl (inr (inr (inr (inr (inr (inl refl))))))
       (key_index session_groups) (inr (inr (inr (inr (inr (inl refl))))))
       refl refl refl (λ e. omega arith) refl
-      put_group_text terms project 8 7 put_is put_plain values (λ olds new. refl) again unset
-      (λ id met r. refl) (λ id met. refl) refl (λ v. refl) (λ id. (refl, (refl, (refl, tt)))) meets
+      put_group_text terms project 8 7 put_is put_plain values (λ olds new. refl)
+      keyed.again keyed.unset
+      (λ id met r. refl) (λ id met. refl) refl keyed.keys keyed.full keyed.ties
 
   pub turns : (old new : Trees) → Changes session_groups values old new
       → tables_content new ≡ with_rows a (with_group_row s g row) (tables_content old)

@@ -38,6 +38,7 @@ use Rattle.sql_rows.specs.Values.{nat, session_cells, session_values, session_ke
 use Rattle.sql_rows.specs.Values.{state_number}
 use Rattle.sql_rows.specs.Content.{with_rows, with_session_row, rows_in, tables_content}
 use Rattle.sql_rows.specs.Makes.{Makes}
+use Rattle.sql_rows.proofs.Keyed.{IsKeyed}
 use Rattle.sql_rows.proofs.Plains.{plain_session}
 use Rattle.sql_rows.proofs.Stays.{only_changed, rows_turn, at_each}
 use Rattle.sql_rows.proofs.Writes.{writes, puts_make}
@@ -84,17 +85,26 @@ module _ (a : List ℕ) (row : Session) where
   abbrev pub values : Row
   values = session_values a row
 
-  pub again : (id : ℤ) → cast_row sessions (Int id ∷ values) ≡ Int id ∷ values
+  again : (id : ℤ) → cast_row sessions (Int id ∷ values) ≡ Int id ∷ values
   again id = simp (cast_int)
 
-  pub unset : cast_row sessions (Null ∷ values) ≡ Null ∷ values
+  unset : cast_row sessions (Null ∷ values) ≡ Null ∷ values
   unset = simp (cast_int, cast_null)
 
-  pub meets : (id : ℤ) (other : Row) →
+  meets : (id : ℤ) (other : Row) →
       conflicts (Some places) book_schema.indexes sessions (Int id ∷ values) other
       ≡ eq_by_cmp row_cmp (key_of places other) (key_of places (Int id ∷ values))
   meets id other = or_false (agree plain places other places (Int id ∷ values))
       ∙ agree_ties places other (Int id ∷ values) (refl, (refl, tt))
+
+  pub keyed : IsKeyed sessions values
+  keyed = record {
+    again = again;
+    unset = unset;
+    keys = λ v. refl;
+    full = λ id. (refl, (refl, tt));
+    ties = meets;
+  }
 
   puts : (old new : State) (r : Result ℕ Error) → (IsTrue old.is_open → IsBook old)
       → OnOk r (ExecutesInside 0 put_session_text values old new r)
@@ -103,8 +113,9 @@ module _ (a : List ℕ) (row : Session) where
       puts_table 4 sessions refl (inr (inr (inr (inr (inl refl))))) (key_index sessions)
       (inr (inr (inr (inr (inl refl)))))
       refl refl refl (λ e. omega arith) refl
-      put_session_text terms project 6 5 put_is put_plain values (λ olds new. refl) again unset
-      (λ id met r. refl) (λ id met. refl) refl (λ v. refl) (λ id. (refl, (refl, tt))) meets
+      put_session_text terms project 6 5 put_is put_plain values (λ olds new. refl)
+      keyed.again keyed.unset
+      (λ id met r. refl) (λ id met. refl) refl keyed.keys keyed.full keyed.ties
 
   pub turns : (old new : Trees) → Changes sessions values old new
       → tables_content new ≡ with_rows a (with_session_row row) (tables_content old)

@@ -27,7 +27,7 @@ use Rattle.sql_rows.specs.Values.{head_in, head_key}
 use Rattle.sql_rows.specs.Content.{has_account, with_account}
 use Rattle.sql_rows.specs.Makes.{ReplacesIfSome}
 use Rattle.sql_rows.proofs.Plains.{plain_account}
-use Rattle.sql_rows.proofs.PutAccount.{values, again, meets, turns}
+use Rattle.sql_rows.proofs.PutAccount.{values, keyed, turns}
 use Rattle.sql_rows.proofs.Replaces.{ReplacesRow, replaces_row, replaces, rules_replaced}
 
 abbrev pub replace_account_text : List ℕ
@@ -63,8 +63,7 @@ module _ (a : List ℕ) (h : HeadColumns) where
       → OnOk r (ExecutesInside 0 replace_account_text (values a h) old new r)
       → IfOk r (ReplacesRow accounts (values a h) old new)
   runs = replaces_row accounts (inr (inl refl)) (inr (inl refl)) refl terms project (values a h)
-      means (λ r. refl) (again a h) (λ v. refl) (λ id. (refl, tt))
-      (meets a h) 1 refl (λ e. omega arith) replace_account_text set_is set_plain
+      means (λ r. refl) (keyed a h) 1 refl (λ e. omega arith) replace_account_text set_is set_plain
 
   pub replaces_account : (old new : State) (count : ℕ) → HasBook old
       → Attempts {A = ℕ} {E = Error}

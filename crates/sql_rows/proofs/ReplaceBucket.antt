@@ -28,7 +28,7 @@ use Rattle.sql_rows.specs.Values.{bucket_in_row, bucket_key, bucket_values}
 use Rattle.sql_rows.specs.Content.{has_bucket, with_bucket, with_rows}
 use Rattle.sql_rows.specs.Makes.{ReplacesIfSome}
 use Rattle.sql_rows.proofs.Plains.{plain_beside}
-use Rattle.sql_rows.proofs.PutBucket.{again, meets, turns}
+use Rattle.sql_rows.proofs.PutBucket.{keyed, turns}
 use Rattle.sql_rows.proofs.Replaces.{ReplacesRow, replaces_row, replaces}
 
 abbrev pub replace_bucket_text : List ℕ
@@ -69,8 +69,7 @@ module _ (a : List ℕ) (b : BucketRow) (counts : b.kind ≡ Money) where
       → OnOk r (ExecutesInside 0 replace_bucket_text (bucket_values a b) old new r)
       → IfOk r (ReplacesRow buckets (bucket_values a b) old new)
   runs = replaces_row buckets (inr (inr (inl refl))) (inr (inr (inl refl))) refl terms project
-      (bucket_values a b) means (λ r. refl) (again a b counts) (λ v. refl)
-      (λ id. (refl, (refl, tt))) (meets a b counts) 2 refl (λ e. omega arith)
+      (bucket_values a b) means (λ r. refl) (keyed a b counts) 2 refl (λ e. omega arith)
       replace_bucket_text set_is set_plain
 
   pub replaces_bucket : (old new : State) (count : ℕ) → HasBook old

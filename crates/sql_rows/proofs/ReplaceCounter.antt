@@ -27,7 +27,7 @@ use Rattle.sql_rows.specs.Values.{counter_in_row, counter_key, counter_values}
 use Rattle.sql_rows.specs.Content.{has_counter, with_counter_row, with_rows}
 use Rattle.sql_rows.specs.Makes.{ReplacesIfSome}
 use Rattle.sql_rows.proofs.Plains.{plain_beside}
-use Rattle.sql_rows.proofs.PutCounter.{again, meets, turns}
+use Rattle.sql_rows.proofs.PutCounter.{keyed, turns}
 use Rattle.sql_rows.proofs.Replaces.{ReplacesRow, replaces_row, replaces}
 
 abbrev pub replace_counter_text : List ℕ
@@ -67,8 +67,7 @@ module _ (a : List ℕ) (k : Counter) where
       → OnOk r (ExecutesInside 0 replace_counter_text (counter_values a k) old new r)
       → IfOk r (ReplacesRow counters (counter_values a k) old new)
   runs = replaces_row counters (inr (inr (inr (inl refl)))) (inr (inr (inr (inl refl)))) refl
-      terms project (counter_values a k) means (λ r. refl) (again a k) (λ v. refl)
-      (λ id. (refl, (refl, (refl, tt)))) (meets a k) 3 refl (λ e. omega arith)
+      terms project (counter_values a k) means (λ r. refl) (keyed a k) 3 refl (λ e. omega arith)
       replace_counter_text set_is set_plain
 
   pub replaces_counter : (old new : State) (count : ℕ) → HasBook old

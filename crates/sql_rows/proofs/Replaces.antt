@@ -14,14 +14,12 @@ use Rattle.std.specs.FinMap.Entries.{find as look_in}
 use Rattle.std.specs.List.{AllByRecursion, filter_map, flat_map, list_all}
 use Rattle.std.specs.List.Sorted.{IsPermutation}
 use Rattle.std.specs.Ordering.{eq_by_cmp}
-use Rattle.sqlite_value.specs.declared.value.Value.{Value}
 use Rattle.sqlite_value.specs.declared.value.Value.TheVariants.{Null, Int}
-use Rattle.sqlite_value.specs.Order.{Row, column, row_cmp, value_cmp}
+use Rattle.sqlite_value.specs.Order.{Row, row_cmp, value_cmp}
 use Rattle.sqlite_value.specs.Keys.{plain}
 use Rattle.sqlite_value.proofs.OrderLemmas.{row_cmp_total}
 use Rattle.sqlite_trees.specs.Objects.{catalog_tree}
 use Rattle.sqlite_trees.specs.Tree.{Trees, rowid, without_rowid}
-use Rattle.sqlite_sql.specs.Ops.{is_null}
 use Rattle.sqlite_sql.specs.Term.{Term, eval_all, holds}
 use Rattle.sqlite_schema.specs.Rules.{Fits, guards, parent_key}
 use Rattle.sqlite_schema.specs.declared.command.Command.TheVariants.{Update}
@@ -34,7 +32,6 @@ use Rattle.sqlite_rules.specs.Calls.{ids_of}
 use Rattle.sqlite_rules.specs.Cast.{cast_row}
 use Rattle.sqlite_rules.specs.Edit.{Edit, edit_of, id_in, taken_by, left_by, are_fresh}
 use Rattle.sqlite_rules.specs.Edit.{next_rowid, put_all, IsNoIndex}
-use Rattle.sqlite_rules.specs.Keys.{conflicts}
 use Rattle.sqlite_rules.specs.Lists.{Has}
 use Rattle.sqlite_rules.specs.declared.error.Rowids.TheVariants.{Given}
 use Rattle.sqlite_rules.proofs.ListLemmas.{all_has, has_filtered}
@@ -65,6 +62,7 @@ use Rattle.sql_tables.proofs.Upserts.{Moved, Upserted}
 use Rattle.sql_rows.specs.Content.{TablesContent, tables_content}
 use Rattle.sql_rows.specs.Makes.{Makes, ReplacesIfSome}
 use Rattle.sql_rows.specs.Plain.{ArePlain}
+use Rattle.sql_rows.proofs.Keyed.{IsKeyed}
 use Rattle.sql_rows.proofs.Plains.{plain_stays}
 use Rattle.sql_rows.proofs.Stays.{same_content}
 use Rattle.sql_rows.proofs.Writes.{makes_turned}
@@ -134,13 +132,7 @@ module _ (table : Table) (tabled : Has book_schema.tables table)
     (tests : (r : Row) → list_all (holds (values ∷ r ∷ [])) terms
     ≡ eq_by_cmp row_cmp (key_of table.primary r) (key_of table.primary (Null ∷ values)))
     (shows : (r : Row) → eval_all project (values ∷ r ∷ []) ≡ rowid r ∷ rowid r ∷ values)
-    (again : (id : ℤ) → cast_row table (Int id ∷ values) ≡ Int id ∷ values)
-    (keys : (v : Value) → key_of table.primary (v ∷ values) ≡ key_of table.primary (Null ∷ values))
-    (full : (id : ℤ) →
-    AllByRecursion (λ p. is_null (column (Int id ∷ values) p) ≡ false) table.primary)
-    (ties : (id : ℤ) (other : Row) →
-    conflicts (Some table.primary) book_schema.indexes table (Int id ∷ values) other
-    ≡ eq_by_cmp row_cmp (key_of table.primary other) (key_of table.primary (Int id ∷ values))) where
+    (keyed : IsKeyed table values) where
   abbrev key : Row
   key = key_of table.primary (Null ∷ values)
 
@@ -167,7 +159,7 @@ module _ (table : Table) (tabled : Has book_schema.tables table)
     cast_made : (r : Row) → Has rows_in r
         → cast_row table (rowid r ∷ values) ≡ made (id_in (rowid r))
     cast_made r has = ap (λ v. cast_row table (v ∷ values)) (number r has)
-        ∙ again (id_in (rowid r))
+        ∙ keyed.again (id_in (rowid r))
 
     -- a row that is selected is there anew
     is_put : (x : Row) (more : List Row) (next : Trees) (r : Row) → Has rows_in r
@@ -203,9 +195,9 @@ module _ (table : Table) (tabled : Has book_schema.tables table)
         let other = id_in (rowid s) in
         no_clash table.primary book_schema table tabled (key_index table) listed guarding refl refl
         next first.1 (made other) (made id) second.0 first.0
-        (agree_ties table.primary (made id) (made other) (full other)
+        (agree_ties table.primary (made id) (made other) (keyed.full other)
         ∙ ap (eq_by_cmp row_cmp (key_of table.primary (made id)))
-        (keys (Int other) ∙ sym (keys (Int id)))
+        (keyed.keys (Int other) ∙ sym (keyed.keys (Int id)))
         ∙ ap is_eq (tied_itself row_cmp_total (key_of table.primary (made id))))
         (differ_ints (Int id) (Int other) refl refl
         (ap (λ v. is_eq (value_cmp v (Int other))) (sym (number r has))
@@ -245,9 +237,9 @@ module _ (table : Table) (tabled : Has book_schema.tables table)
         record {
           there = there;
           has = has;
-          meets = ties (next_rowid rows_in) there
+          meets = keyed.ties (next_rowid rows_in) there
               ∙ ap (eq_by_cmp row_cmp (key_of table.primary there))
-              (keys (Int (next_rowid rows_in)))
+              (keyed.keys (Int (next_rowid rows_in)))
               ∙ passes;
           put = record {
             fresh = not-true _ (and_parts _ _ fresh).0;
@@ -344,8 +336,8 @@ module _ (table : Table) (tabled : Has book_schema.tables table)
     passed : (next : Trees) (m : Moved book_schema table table.primary values db next)
         → test m.there ≡ true
     passed next m = ap (eq_by_cmp row_cmp (key_of table.primary m.there))
-        (sym (keys (Int (next_rowid rows_in))))
-        ∙ sym (ties (next_rowid rows_in) m.there)
+        (sym (keyed.keys (Int (next_rowid rows_in))))
+        ∙ sym (keyed.ties (next_rowid rows_in) m.there)
         ∙ m.meets
 
     -- what it says, of the tables
@@ -385,7 +377,7 @@ module _ (table : Table) (tabled : Has book_schema.tables table)
         let upserted : Upserted book_schema table table.primary values db next = inr m in
         let p : PutsRow table.primary book_schema table values db next =
         puts_key table.primary book_schema table tabled (key_index table) listed guarding refl refl
-        values db next stored keys full ties upserted in (
+        values db next stored keyed.keys keyed.full keyed.ties upserted in (
           inl (record {
             there = something_under m.there m.has (passed next m);
             changes = record {
@@ -393,8 +385,8 @@ module _ (table : Table) (tabled : Has book_schema.tables table)
               others = others table db next p.stored p.others;
               catalog = catalog_stays table db next p.stored p.others apart;
             };
-            counts = counted table.primary book_schema table values db next stored keys ties
-                upserted;
+            counts = counted table.primary book_schema table values db next stored keyed.keys
+                keyed.ties upserted;
             one = one;
           }),
           stays_stored table db next p.stored p.others,
