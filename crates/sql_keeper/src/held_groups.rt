@@ -1,6 +1,6 @@
 //! What a session has of rating groups, written with what is held there.
 
-ghost use Rattle.std.specs.Prelude.{◌≡◌};
+ghost use Rattle.std.specs.Prelude.{◌≡◌, option_map};
 ghost use Rattle.reserving.specs.Sessions.{holds_in};
 ghost use Rattle.sql_tables.specs.Statements.{Attempts, HasBook, IsInside};
 ghost use Rattle.sql_rows.specs.Content.{with_group_row, with_rows};
@@ -8,9 +8,10 @@ ghost use Rattle.sql_rows.specs.Each.{with_holds};
 ghost use Rattle.sql_rows.specs.Makes.{Makes, MakesIfOpen};
 ghost use Rattle.sql_rows.specs.Texts.{names_put};
 ghost use Rattle.sql_keeper.specs.Content.{names_numbered, shelf_names};
-ghost use Rattle.sql_keeper.specs.Writes.{columns_of, name_at, names_at, with_book_of};
-ghost use Rattle.sql_keeper.specs.Writes.{with_group_over, with_groups, with_groups_over};
-ghost use Rattle.sql_keeper.specs.Writes.{with_groups_put, with_held_group, with_kept_group};
+ghost use Rattle.sql_keeper.specs.Writes.{columns_of, name_at, names_at, names_held};
+ghost use Rattle.sql_keeper.specs.Writes.{with_book_of, with_group_over, with_groups};
+ghost use Rattle.sql_keeper.specs.Writes.{with_groups_over, with_groups_put};
+ghost use Rattle.sql_keeper.specs.Writes.{with_held_group, with_kept_group};
 ghost use Rattle.sql_keeper.specs.Writes.{with_new_book, with_new_group, with_new_groups};
 ghost use Rattle.sqlite.specs.Held.{state};
 
@@ -51,6 +52,17 @@ fn names_of(books: &TariffShelf, terms: Terms) -> PutNames<'_>
     }
 }
 
+/// The names of the periods of a group's reservation in its book; None where it has none.
+fn names_in<'a>(books: &'a TariffShelf, row: &SessionGroup) -> Option<PutNames<'a>>
+    ensures { option_map names_put result ≡
+        option_map (names_held (shelf_names books.now)) row.now.reservation }
+{
+    match &row.reservation {
+        None => None,
+        Some(reservation) => Some(names_of(books, reservation.terms)),
+    }
+}
+
 /// Puts what a session has of a rating group, but what is held there.
 fn put_columns<S: Alter>(
     tx: &mut Transaction<'_, S>,
@@ -65,13 +77,8 @@ fn put_columns<S: Alter>(
         row.now))))
         (state S.Store tx.old.conn.now) (state S.Store tx.new.conn.now) result }
 {
-    match &row.reservation {
-        None => put_group(tx, account, &row.session, row.group, row.used, None),
-        Some(reservation) => {
-            let names = names_of(books, reservation.terms);
-            put_group(tx, account, &row.session, row.group, row.used, Some(names))
-        }
-    }
+    let names = names_in(books, row);
+    put_group(tx, account, &row.session, row.group, row.used, names)
 }
 
 /// Puts the number of the book that a session's reservation in a rating group goes by; there is
@@ -193,13 +200,8 @@ fn add_columns<S: Alter>(
         row.now))))
         (state S.Store tx.old.conn.now) (state S.Store tx.new.conn.now) result }
 {
-    match &row.reservation {
-        None => add_group(tx, account, &row.session, row.group, row.used, None),
-        Some(reservation) => {
-            let names = names_of(books, reservation.terms);
-            add_group(tx, account, &row.session, row.group, row.used, Some(names))
-        }
-    }
+    let names = names_in(books, row);
+    add_group(tx, account, &row.session, row.group, row.used, names)
 }
 
 /// Puts what a session has of a rating group of which nothing was there, with what its reservation
