@@ -24,6 +24,7 @@ use crate::still_open::still_open;
 use keepers::StoreFault;
 use shelves::{ShelfFault, TariffShelf};
 use sql_rows::put_book;
+use sql_rules::NO_END;
 use sql_tables::ReadFault;
 use sqlite::{Alter, Connection, Error};
 use std::alloc::Global;
@@ -122,7 +123,7 @@ fn take_both_back(shelf: &mut TariffShelf, own: &mut TariffShelf)
 fn may_begin(from: Moment) -> bool
     ensures { IsTrue result ↔ (from < no_end) }
 {
-    from.seconds() < 4_102_444_800
+    from.seconds() < NO_END
 }
 
 /// Adds a book to the shelf that was handed over and to the keeper's, which has as many; to both or

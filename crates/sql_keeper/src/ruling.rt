@@ -25,6 +25,9 @@ use keepers::{Change, KeptAnswer, NamedRows, Redeemed};
 use ledger::ChargeRow;
 use reserving::{Counter, Reservation, Session, SessionGroup, SessionState};
 use shelves::TariffShelf;
+use sql_rules::{
+    END_OF_NUMBERS, GREATEST_NUMBER, MOST_COUNTED, MOST_DAYS, MOST_MONEY, MOST_USED, NO_END,
+};
 use units::Moment;
 use voucher_rules::VoucherTerms;
 
@@ -33,13 +36,13 @@ use voucher_rules::VoucherTerms;
 pub(crate) fn is_moment(moment: Moment) -> bool
     ensures { result ≡ is_moment moment }
 {
-    moment.seconds() < 4_102_444_800
+    moment.seconds() < NO_END
 }
 
 fn is_small(number: u32) -> bool
     ensures { result ≡ is_small number }
 {
-    u64::from(number) <= 4_294_967_295
+    u64::from(number) <= GREATEST_NUMBER
 }
 
 fn is_within(number: u64, low: u64, high: u64) -> bool
@@ -107,26 +110,24 @@ fn is_account(account: &AccountNumber, rows: &NamedRows) -> bool
     is_number(account)
         && is_flag(rows.is_barred())
         && is_moment(rows.as_of())
-        && is_within(rows.next_bucket(), 1, 4_294_967_296)
-        && is_within(rows.next_charge(), 1, 4_294_967_296)
+        && is_within(rows.next_bucket(), 1, END_OF_NUMBERS)
+        && is_within(rows.next_charge(), 1, END_OF_NUMBERS)
 }
 
 fn is_bucket(bucket: &Bucket) -> bool
     ensures { result ≡ is_bucket bucket.now }
 {
-    is_within(u64::from(bucket.number()), 1, 4_294_967_295)
+    is_within(u64::from(bucket.number()), 1, GREATEST_NUMBER)
         && is_moment(bucket.from())
-        && is_within(bucket.until().seconds(), 1, 4_102_444_800)
-        && is_none_or_within(bucket.scope(), 0, 4_294_967_295)
-        && bucket.credited() <= 1_000_000_000_000_000
+        && is_within(bucket.until().seconds(), 1, NO_END)
+        && is_none_or_within(bucket.scope(), 0, GREATEST_NUMBER)
+        && bucket.credited() <= MOST_MONEY
 }
 
 fn is_counter(counter: &Counter) -> bool
     ensures { result ≡ is_counter counter.now }
 {
-    is_small(counter.group)
-        && is_small(counter.cycle)
-        && counter.blocks <= 4_000_000_000_000_000_000
+    is_small(counter.group) && is_small(counter.cycle) && counter.blocks <= MOST_COUNTED
 }
 
 fn is_session(session: &Session) -> bool
@@ -141,7 +142,7 @@ fn is_session(session: &Session) -> bool
 fn is_hold(hold: &HeldAmount) -> bool
     ensures { result ≡ is_ruled_hold hold.now }
 {
-    is_within(hold.amount, 1, 1_000_000_000_000_000)
+    is_within(hold.amount, 1, MOST_MONEY)
 }
 
 fn are_holds(holds: &[HeldAmount]) -> bool
@@ -171,9 +172,7 @@ fn is_reservation(books: &TariffShelf, reservation: &Option<Reservation>) -> boo
 fn is_group(books: &TariffShelf, group: &SessionGroup) -> bool
     ensures { result ≡ is_ruled_group (shelf_names books.now) group.now }
 {
-    is_small(group.group)
-        && group.used <= 1_000_000_000_000_000_000
-        && is_reservation(books, &group.reservation)
+    is_small(group.group) && group.used <= MOST_USED && is_reservation(books, &group.reservation)
 }
 
 fn are_buckets(buckets: &[Bucket]) -> bool
@@ -216,7 +215,7 @@ fn are_rows(books: &TariffShelf, account: &AccountNumber, rows: &NamedRows) -> b
 fn is_charge(charge: &ChargeRow) -> bool
     ensures { result ≡ is_charge charge.now }
 {
-    is_within(u64::from(charge.number), 1, 4_294_967_295)
+    is_within(u64::from(charge.number), 1, GREATEST_NUMBER)
         && is_moment(charge.moment)
         && is_name(&charge.session)
         && is_small(charge.group)
@@ -233,9 +232,9 @@ fn are_terms(code: &VoucherCode, terms: VoucherTerms) -> bool
 {
     // For the prover alone: looking at the value makes known here what its type keeps.
     let _text = code.as_str();
-    is_within(terms.amount().micros(), 1, 1_000_000_000_000_000)
-        && is_none_or_within(terms.days(), 1, 3650)
-        && is_none_or_within(terms.scope(), 0, 4_294_967_295)
+    is_within(terms.amount().micros(), 1, MOST_MONEY)
+        && is_none_or_within(terms.days(), 1, MOST_DAYS)
+        && is_none_or_within(terms.scope(), 0, GREATEST_NUMBER)
 }
 
 fn is_redeemed(redeemed: &Option<Redeemed>) -> bool
