@@ -1,4 +1,5 @@
 pub mod RequestReplies
+pub mod Leaving
 pub mod ShownReplies
 pub mod StatementReplies
 pub mod Continuing

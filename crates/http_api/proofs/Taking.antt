@@ -1,11 +1,10 @@
 -- A connection as it goes on: so many requests were taken, and one more, up to its end or to a
 -- fault.
 use Rattle.std.proofs.Common.{◌≡◌, ◌≢◌, ◌≤◌, ◌<◌, ◌+◌, ◌-◌, ◌==◌, ℕ, zero, suc, Bool, true, false}
-use Rattle.std.proofs.Common.{true≢false, List, [], ◌∷◌, ◌++◌, length, take, refl, sym, ap, subst}
+use Rattle.std.proofs.Common.{true≢false, List, [], ◌∷◌, ◌++◌, take, refl, sym, ap, subst}
 use Rattle.std.proofs.Common.{◌∙◌, inl, inr, arith, le_refl, Option, Some, None, IfSome, Err}
 use Rattle.std.specs.Io.KnownBytes.{Appends}
 use Rattle.std.proofs.KnownBytes.{Appends-nil, Appends-trans}
-use Rattle.std.proofs.Math.Seq.{take-length}
 use Rattle.shelves.specs.Shelves.{Shelf}
 use Rattle.keepers.specs.Seen.{Seen}
 use Rattle.keepers.specs.Tables.{Tables}
@@ -31,6 +30,7 @@ use Rattle.http_api.specs.Connections.{IsConnectionServed}
 use Rattle.http_api.specs.Connections.{IsConnectionBegun, IsUnread, IsTakenWith, IsCutOff}
 use Rattle.http_api.specs.Connections.{ServesConnection, IsLeftWithin, LeavesTurns}
 use Rattle.http_api.proofs.Continuing.{continued_none}
+use Rattle.http_api.proofs.Leaving.{begins-all}
 use Rattle.http_api.proofs.Statuses.{SaysStatus, asked_says, reply_says}
 
 plus_one : (n : ℕ) → suc n ≡ n + 1
@@ -43,11 +43,6 @@ gives-more : {C : Type 0} (gives : C → Option ℕ → C → Type 0) (a b c : C
     GivesInTurn gives a (ms ++ ns) c
 gives-more gives a b c [] ns f g = subst (λ x. GivesInTurn gives x ns c) f g
 gives-more gives a b c (m ∷ ms) ns f g = (f.0, f.1, gives-more gives f.0 b c ms ns f.2 g)
-
--- ---- beginnings of texts
-
-begins-all : (a b : Option (List ℕ)) (text : List ℕ) → Appends a b text → Begins a b text
-begins-all a b text h = (length text, subst (Appends a b) (sym (take-length text)) h)
 
 -- ---- what is heard
 

@@ -6,10 +6,10 @@ ghost use Rattle.http_api.specs.Replies.{GoesOn, LeavesReply, Replies, Shows};
 
 use crate::clock::Clock;
 use crate::stating::serve_statement;
-use crate::telling::tell_answer;
+use crate::telling::{Following, tell_answer, tell_fault, tell_refusal, tell_unable};
 use charging::step;
 use commands::Command;
-use http_messages::{HttpAsked, tell_fault, tell_refusal, tell_unable};
+use http_messages::HttpAsked;
 use keepers::ChargeSource;
 use shelves::TariffShelf;
 use std::alloc::Global;
@@ -17,7 +17,8 @@ use std::io::Write;
 use texts::StreamFault;
 
 /// Answers a request, and commits its command where it is accepted. The clock is asked once where
-/// it is a command or asks for a statement.
+/// it is a command or asks for a statement. Unless more bytes have come its answer leaves before it
+/// is dropped.
 ///
 /// # Errors
 /// `Write` where the writer failed: what is accepted stays so, and a beginning of the answer is
@@ -30,10 +31,10 @@ pub(crate) fn answer_request<W: Write, K: ChargeSource, C: Clock>(
     shelf: &TariffShelf,
     clock: &mut C,
     asked: HttpAsked,
-    closes: bool,
+    following: Following,
 ) -> Result<(), StreamFault>
     ensures shown { Shows (λ Writes x y. (asking : Asking) → IsAsked asking asked →
-        Replies C.gives shelf.now asking closes clock.old clock.new Writes x y)
+        Replies C.gives shelf.now asking following.closes clock.old clock.new Writes x y)
         (W.contents writer.old) (W.contents writer.new) (K.seen keeper.old) (K.seen keeper.new)
         result }
     ensures goes_on { GoesOn shelf.now (K.seen keeper.old) (K.seen keeper.new) result }
@@ -41,13 +42,13 @@ pub(crate) fn answer_request<W: Write, K: ChargeSource, C: Clock>(
         LeavesReply shelf.now asking (K.seen keeper.old) (K.seen keeper.new) }
 {
     match asked {
-        HttpAsked::Refused(refusal) => tell_refusal(writer, refusal, closes),
-        HttpAsked::Unread(fault) => tell_fault(alloc, writer, fault, closes),
+        HttpAsked::Refused(refusal) => tell_refusal(writer, refusal, following),
+        HttpAsked::Unread(fault) => tell_fault(alloc, writer, fault, following),
         HttpAsked::Does(command) => serve_command(
-            alloc, writer, keeper, shelf, clock, command, closes,
+            alloc, writer, keeper, shelf, clock, command, following,
         ),
         HttpAsked::States(statement) => {
-            serve_statement(alloc, writer, keeper, shelf, clock, &statement, closes)
+            serve_statement(alloc, writer, keeper, shelf, clock, &statement, following)
         }
     }
 }
@@ -61,10 +62,10 @@ fn serve_command<W: Write, K: ChargeSource, C: Clock>(
     shelf: &TariffShelf,
     clock: &mut C,
     command: Command,
-    closes: bool,
+    following: Following,
 ) -> Result<(), StreamFault>
     ensures shown { Shows
-        (Replies C.gives shelf.now (reads (Ok command)) closes clock.old clock.new)
+        (Replies C.gives shelf.now (reads (Ok command)) following.closes clock.old clock.new)
         (W.contents writer.old) (W.contents writer.new) (K.seen keeper.old) (K.seen keeper.new)
         result }
     ensures goes_on { GoesOn shelf.now (K.seen keeper.old) (K.seen keeper.new) result }
@@ -72,10 +73,10 @@ fn serve_command<W: Write, K: ChargeSource, C: Clock>(
         (K.seen keeper.old) (K.seen keeper.new) }
 {
     let Some(moment) = clock.now() else {
-        return tell_unable(writer, closes);
+        return tell_unable(writer, following);
     };
     match step(alloc, keeper, shelf, command, moment) {
-        Ok(answer) => tell_answer(writer, &answer, closes),
-        Err(_) => tell_unable(writer, closes),
+        Ok(answer) => tell_answer(writer, &answer, following),
+        Err(_) => tell_unable(writer, following),
     }
 }

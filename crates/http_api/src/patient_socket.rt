@@ -41,8 +41,8 @@ pub(crate) struct PatientReader<'s, 'b> {
     pub(crate) answers: &'b JoinedAnswers<'s>,
 }
 
-/// What is written to that socket: it waits until the socket is read again, or there is no room for
-/// more. After it the next request may begin.
+/// What is written to that socket: it waits until it is flushed, or the socket is read again, or
+/// there is no room for more. After it the next request may begin.
 #[derive(Drop)]
 pub(crate) struct PatientWriter<'s, 'b> {
     pub(crate) coming: &'b Cell<Coming>,

@@ -1,6 +1,7 @@
 //! The requests of a connection, one after another.
 
 ghost use Rattle.std.specs.Prelude.{◌≡◌, ◌<◌, ◌+◌};
+ghost use Rattle.std.specs.Io.Buffered.{reader_remaining};
 ghost use Rattle.http_messages.specs.Table.{table};
 ghost use Rattle.http_api.specs.Connections.{left_after, ServesConnection};
 ghost use Rattle.http_api.specs.Words.{most_requests};
@@ -9,11 +10,12 @@ use crate::answering::answer_request;
 use crate::clock::Clock;
 use crate::fault::ServeFault;
 use crate::hearing::{Heard, hear};
+use crate::telling::Following;
 use http_messages::{Buffers, Route, Router, known_router};
 use keepers::ChargeSource;
 use shelves::TariffShelf;
 use std::alloc::Global;
-use std::io::{BufRead, BufReader, Read, Write};
+use std::io::{BufReader, Read, Write};
 use wire::Scratch;
 
 /// The most requests of a connection.
@@ -28,7 +30,8 @@ pub struct Served {
 
 /// Serves the requests of a connection, one after another (RFC 9112 section 9.3): each is taken off
 /// the reader with its body, answered at the clock's moment, and its answer written before the next
-/// is read. At most 1,000 are answered.
+/// is read. The writer is flushed after an answer, but where more bytes have come already. At most
+/// 1,000 are answered.
 ///
 /// Over a reader that doesn't show its bytes, as a socket, the keeper's tables are still those of
 /// dated commands.
@@ -36,8 +39,8 @@ pub struct Served {
 /// # Errors
 /// `Memory` where a growth was refused for the buffers, a head or a body, `Read` where the reader
 /// failed: then all answers are written, and nothing is done for the next request. `Write` where
-/// the writer failed: then all but the last are, and a beginning of that. What was accepted stays
-/// so.
+/// the writer failed: then all but the last are, and a beginning of that, or all of it where it
+/// couldn't be flushed. What was accepted stays so.
 pub fn serve<R: Read, W: Write, K: ChargeSource, C: Clock>(
     alloc: Global,
     reader: &mut R,
@@ -88,10 +91,10 @@ fn left_after(closes: bool, left: u32) -> u32
 }
 
 /// Serves the requests of a connection.
-fn serve_requests<R: BufRead, W: Write, K: ChargeSource, C: Clock>(
+fn serve_requests<R: Read, W: Write, K: ChargeSource, C: Clock>(
     alloc: Global,
     router: &Router<Route>,
-    reader: &mut R,
+    reader: &mut BufReader<R>,
     buffers: &mut Buffers,
     scratch: &mut Scratch,
     writer: &mut W,
@@ -100,9 +103,9 @@ fn serve_requests<R: BufRead, W: Write, K: ChargeSource, C: Clock>(
     clock: &mut C,
 ) -> Result<Served, ServeFault>
     requires { router.now ≡ table }
-    ensures { ServesConnection C.gives shelf.now (R.remaining reader.old) clock.old clock.new
-        (W.contents writer.old) (W.contents writer.new) (K.seen keeper.old) (K.seen keeper.new)
-        result }
+    ensures { ServesConnection C.gives shelf.now (reader_remaining R.remaining reader.old) clock.old
+        clock.new (W.contents writer.old) (W.contents writer.new) (K.seen keeper.old)
+        (K.seen keeper.new) result }
 {
     let mut left = MAX_REQUESTS;
     for served in 0..MAX_REQUESTS {
@@ -111,7 +114,11 @@ fn serve_requests<R: BufRead, W: Write, K: ChargeSource, C: Clock>(
         };
         let Heard { asked, closes } = heard;
         left = left_after(closes, left);
-        answer_request(alloc, writer, keeper, shelf, clock, asked, left == 0)?;
+        let following = Following {
+            closes: left == 0,
+            more: !reader.buffer().is_empty(),
+        };
+        answer_request(alloc, writer, keeper, shelf, clock, asked, following)?;
         if left == 0 {
             return Ok(one_more(served));
         }

@@ -21,9 +21,10 @@ pub const SOCKET_SECONDS: u64 = 30;
 /// of a request, so that a peer that sends byte by byte keeps the next one waiting for no more than
 /// 90 seconds, or 120 where these bytes came together with the request before.
 ///
-/// Where more requests have come already (RFC 9112 section 9.3.2) their answers are written
-/// together: an answer waits until the socket is read again, or the connection ends, or more than
-/// 8,192 bytes would wait.
+/// An answer leaves at once where no more bytes have come. Where more requests have come already
+/// (RFC 9112 section 9.3.2) their answers are written together: such an answer waits until the
+/// last of them is answered, or the socket is read again, or the connection ends, or more than 8,192
+/// bytes would wait.
 ///
 /// # Errors
 /// As `serve`, and `Read` where the socket can't be set so; then nothing is read. `Write` where the

@@ -15,11 +15,10 @@ ghost use Rattle.http_api.specs.Replies.{Replies, Shows};
 ghost use Rattle.http_api.specs.Told.{TellsAnswer, TellsCharges};
 
 use crate::clock::Clock;
-use crate::telling::tell_answer;
+use crate::telling::{Following, tell_answer, tell_text, tell_unable};
 use charging::{AccountState, account_state};
 use commands::{Answer, Refusal};
-use http::StatusCode;
-use http_messages::{StatementAsked, tell_text, tell_unable};
+use http_messages::StatementAsked;
 use keepers::ChargeSource;
 use shelves::TariffShelf;
 use statements::{AccountMonth, StatementFault, statement};
@@ -39,9 +38,10 @@ pub(crate) fn serve_statement<W: Write, K: ChargeSource, C: Clock>(
     shelf: &TariffShelf,
     clock: &mut C,
     asked: &StatementAsked,
-    closes: bool,
+    following: Following,
 ) -> Result<(), StreamFault>
-    ensures shown { Shows (Replies C.gives shelf.now (states asked.now) closes clock.old clock.new)
+    ensures shown { Shows
+        (Replies C.gives shelf.now (states asked.now) following.closes clock.old clock.new)
         (W.contents writer.old) (W.contents writer.new) (K.seen keeper.old) (K.seen keeper.new)
         result }
     ensures fault { OnErr result (result ≡ Err StreamFault.Write) }
@@ -54,15 +54,15 @@ pub(crate) fn serve_statement<W: Write, K: ChargeSource, C: Clock>(
     ensures failures { (K.seen keeper.old).failed ≤ (K.seen keeper.new).failed }
 {
     let Some(moment) = clock.now() else {
-        return tell_unable(writer, closes);
+        return tell_unable(writer, following);
     };
     let state = match account_state(keeper, shelf, &asked.account, moment) {
         Ok(state) => state,
-        Err(_) => return tell_unable(writer, closes),
+        Err(_) => return tell_unable(writer, following),
     };
     match state {
-        Some(state) => tell_statement(alloc, writer, keeper, shelf, asked, &state, closes),
-        None => tell_unknown(alloc, writer, closes),
+        Some(state) => tell_statement(alloc, writer, keeper, shelf, asked, &state, following),
+        None => tell_unknown(alloc, writer, following),
     }
 }
 
@@ -74,17 +74,17 @@ fn tell_statement<W: Write, K: ChargeSource>(
     shelf: &TariffShelf,
     asked: &StatementAsked,
     state: &AccountState,
-    closes: bool,
+    following: Following,
 ) -> Result<(), StreamFault>
     ensures ok { (K.seen keeper.new).honest → OnOk result
         (TellsCharges ((K.seen keeper.old).tables.charges asked.now.account)
         (λ rows. statement_text shelf.now.first asked.now.account asked.now.month state.now.moment
-        rows state.now.buckets.items) closes
+        rows state.now.buckets.items) following.closes
         (Appends (W.contents writer.old) (W.contents writer.new))) }
     ensures err { (K.seen keeper.new).honest → OnErr result
         (TellsCharges ((K.seen keeper.old).tables.charges asked.now.account)
         (λ rows. statement_text shelf.now.first asked.now.account asked.now.month state.now.moment
-        rows state.now.buckets.items) closes
+        rows state.now.buckets.items) following.closes
         (Begins (W.contents writer.old) (W.contents writer.new))) }
     ensures fault { OnErr result (result ≡ Err StreamFault.Write) }
     ensures same { (K.seen keeper.new).clean →
@@ -96,8 +96,8 @@ fn tell_statement<W: Write, K: ChargeSource>(
     ensures failures { (K.seen keeper.old).failed ≤ (K.seen keeper.new).failed }
 {
     match statement_of(alloc, keeper, shelf, asked, state) {
-        Ok(text) => tell_text(alloc, writer, StatusCode::OK, closes, text.as_slice()),
-        Err(_) => tell_unable(writer, closes),
+        Ok(text) => tell_text(alloc, writer, text.as_slice(), following),
+        Err(_) => tell_unable(writer, following),
     }
 }
 
@@ -131,16 +131,20 @@ fn statement_of<K: ChargeSource>(
 
 /// Writes that the account isn't there; where the growth of that text is refused, that there is no
 /// memory.
-fn tell_unknown<W: Write>(alloc: Global, writer: &mut W, closes: bool) -> Result<(), StreamFault>
-    ensures ok { OnOk result (TellsAnswer (Refused Unknown) closes
+fn tell_unknown<W: Write>(
+    alloc: Global,
+    writer: &mut W,
+    following: Following,
+) -> Result<(), StreamFault>
+    ensures ok { OnOk result (TellsAnswer (Refused Unknown) following.closes
         (Appends (W.contents writer.old) (W.contents writer.new))) }
-    ensures err { OnErr result (TellsAnswer (Refused Unknown) closes
+    ensures err { OnErr result (TellsAnswer (Refused Unknown) following.closes
         (Begins (W.contents writer.old) (W.contents writer.new))) }
     ensures fault { OnErr result (result ≡ Err StreamFault.Write) }
 {
     let unknown = Answer::Refused(Refusal::AccountUnknown);
     match WrittenAnswer::new(alloc, unknown) {
-        Ok(answer) => tell_answer(writer, &answer, closes),
-        Err(_) => tell_unable(writer, closes),
+        Ok(answer) => tell_answer(writer, &answer, following),
+        Err(_) => tell_unable(writer, following),
     }
 }

@@ -7,6 +7,7 @@ mod byte_lines;
 mod clocks;
 mod connections;
 mod failing_lines;
+mod leaving;
 mod months;
 mod pieces;
 mod requests;

@@ -20,11 +20,23 @@ const LENGTH: usize = 51;
 /// Gives a piece of at most so many bytes, then each of at most so many others, and fails after so
 /// many calls.
 #[derive(Drop)]
-struct Pieces<'a> {
+pub(crate) struct Pieces<'a> {
     rest: &'a [u8],
     next: usize,
     after: usize,
     calls: usize,
+}
+
+impl<'a> Pieces<'a> {
+    /// Gives these bytes in a first piece and in others, and doesn't fail within 1,000 calls.
+    pub(crate) fn new(stream: &'a str, next: usize, after: usize) -> Pieces<'a> {
+        Pieces {
+            rest: stream.as_bytes(),
+            next,
+            after,
+            calls: 1000,
+        }
+    }
 }
 
 impl<'a> Read for Pieces<'a> {
@@ -56,12 +68,7 @@ struct InPieces<'a> {
 impl<'a> Trial for InPieces<'a> {
     fn told<R: Abort>(&mut self, rt: &R, alloc: Global, at: usize) -> String {
         let next = at.saturating_add(1);
-        let mut reader = Pieces {
-            rest: self.stream.as_bytes(),
-            next,
-            after: self.after.unwrap_or(next),
-            calls: 1000,
-        };
+        let mut reader = Pieces::new(self.stream, next, self.after.unwrap_or(next));
         told(
             rt,
             alloc,

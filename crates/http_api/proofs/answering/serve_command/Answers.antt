@@ -38,26 +38,28 @@ returns-in-Err-clause-goes_on g c = record {
 
 pub returns-in_default-clause-shown : goal.returns-in_default-clause-shown
 returns-in_default-clause-shown g c = shows_same
-    (Replies g.C.Clock.gives c.args.shelf.now (reads (Ok c.args.command)) c.args.closes
+    (Replies g.C.Clock.gives c.args.shelf.now (reads (Ok c.args.command)) c.args.following.closes
     c.args.clock.now c.now.new.self) (g.W.Write.contents c.args.writer.now)
     (g.W.Write.contents c.tell_unable.new.writer) (g.K.Keeper.seen c.args.keeper.now)
     (g.K.Keeper.seen c.args.keeper.now) c.tell_unable.result
-    (λ Writes. Writes (response service_unavailable c.args.closes unable)) (λ clean. clean)
+    (λ Writes. Writes (response service_unavailable c.args.following.closes unable))
+    (λ clean. clean)
     (λ clean. refl)
-    (λ Writes t w. unclocked_reply g.C.Clock.gives c.args.shelf.now c.args.closes Writes
+    (λ Writes t w. unclocked_reply g.C.Clock.gives c.args.shelf.now c.args.following.closes Writes
     c.args.command c.args.clock.now c.now.new.self t
     (subst (λ o. g.C.Clock.gives c.args.clock.now o c.now.new.self) c.in_default.is c.now.ensures)
     w) c.tell_unable.ensures.ok c.tell_unable.ensures.err
 
 pub returns-in-Ok-clause-shown : goal.returns-in-Ok-clause-shown
 returns-in-Ok-clause-shown g c = shows_new
-    (Replies g.C.Clock.gives c.args.shelf.now (reads (Ok c.args.command)) c.args.closes
+    (Replies g.C.Clock.gives c.args.shelf.now (reads (Ok c.args.command)) c.args.following.closes
     c.args.clock.now c.now.new.self) (g.W.Write.contents c.args.writer.now)
     (g.W.Write.contents c.tell_answer.new.writer) (g.K.Keeper.seen c.args.keeper.now)
     (g.K.Keeper.seen c.step.new.keeper) c.tell_answer.result
-    (λ Writes. Writes (response ok c.args.closes (answer_text c.in-Ok.answer)))
+    (λ Writes. Writes (response ok c.args.following.closes (answer_text c.in-Ok.answer)))
     c.in-Ok.ensures.stands c.in-Ok.ensures.cleanness
-    (λ Writes clean tells. served_reply g.C.Clock.gives c.args.shelf.now c.args.closes Writes
+    (λ Writes clean tells. served_reply g.C.Clock.gives c.args.shelf.now c.args.following.closes
+    Writes
     c.args.command c.in-Some.moment c.args.clock.now c.now.new.self
     (g.K.Keeper.seen c.args.keeper.now).tables (g.K.Keeper.seen c.step.new.keeper).tables
     c.in-Ok.answer
@@ -66,13 +68,13 @@ returns-in-Ok-clause-shown g c = shows_new
 
 pub returns-in-Err-clause-shown : goal.returns-in-Err-clause-shown
 returns-in-Err-clause-shown g c = shows_same
-    (Replies g.C.Clock.gives c.args.shelf.now (reads (Ok c.args.command)) c.args.closes
+    (Replies g.C.Clock.gives c.args.shelf.now (reads (Ok c.args.command)) c.args.following.closes
     c.args.clock.now c.now.new.self) (g.W.Write.contents c.args.writer.now)
     (g.W.Write.contents c.tell_unable-in-Err.new.writer) (g.K.Keeper.seen c.args.keeper.now)
     (g.K.Keeper.seen c.step.new.keeper) c.tell_unable-in-Err.result
-    (λ Writes. Writes (response service_unavailable c.args.closes unable))
+    (λ Writes. Writes (response service_unavailable c.args.following.closes unable))
     c.in-Err.ensures.cleanness c.in-Err.ensures.err
-    (λ Writes t w. failed_reply g.C.Clock.gives c.args.shelf.now c.args.closes Writes
+    (λ Writes t w. failed_reply g.C.Clock.gives c.args.shelf.now c.args.following.closes Writes
     c.args.command c.in-Some.moment c.args.clock.now c.now.new.self t t c.in-Err.field-0
     (subst (λ o. g.C.Clock.gives c.args.clock.now o c.now.new.self) c.in-Some.is c.now.ensures)
     (λ list time are. refl) w) c.tell_unable-in-Err.ensures.ok c.tell_unable-in-Err.ensures.err

@@ -1,6 +1,7 @@
 use Rattle.std.proofs.Common.{◌==◌, ◌+◌, ℕ, List, refl, le_refl, arith, Result, Ok, Err, IfOk}
 use Rattle.std.proofs.Common.{IfSome, inl}
 use Rattle.std.specs.Prelude.{IsErrAnd}
+use Rattle.std.specs.Io.Buffered.{reader_remaining}
 use Rattle.std.specs.Io.KnownBytes.{Appends}
 use Rattle.texts.specs.declared.streams.StreamFault.TheVariants as broken
 use Rattle.charging.specs.Continued.{Continues, LeavesOn}
@@ -23,12 +24,14 @@ pub loop-served-init : goal.loop-served-init
 loop-served-init g c = record {
   turns = refl;
   so_far = λ clean. so_far-none g.C.Clock.gives c.args.shelf.now
-      (g.R.Read.remaining c.args.reader.now) c.args.clock.now (g.W.Write.contents c.args.writer.now)
+      (reader_remaining g.R.Read.remaining c.args.reader.now) c.args.clock.now
+      (g.W.Write.contents c.args.writer.now)
       (g.K.Keeper.seen c.args.keeper.now).tables;
   shown = λ honest. record {
     held = (g.K.Keeper.seen c.args.keeper.now).tables;
     now = λ clean. refl;
-    so_far = so_far-none g.C.Clock.gives c.args.shelf.now (g.R.Read.remaining c.args.reader.now)
+    so_far = so_far-none g.C.Clock.gives c.args.shelf.now
+        (reader_remaining g.R.Read.remaining c.args.reader.now)
         c.args.clock.now (g.W.Write.contents c.args.writer.now)
         (g.K.Keeper.seen c.args.keeper.now).tables;
   };
@@ -36,31 +39,33 @@ loop-served-init g c = record {
   cleanness = λ clean. clean;
   honesty = λ honest. honest;
   left = λ honest t l. inl l;
-  held = turns_none g.C.Clock.gives c.args.shelf.now (g.R.Read.remaining c.args.reader.now) 0
+  held = turns_none g.C.Clock.gives c.args.shelf.now
+      (reader_remaining g.R.Read.remaining c.args.reader.now) 0
       (g.K.Keeper.seen c.args.keeper.now);
   failures = le_refl (g.K.Keeper.seen c.args.keeper.now).failed;
 }
 
 -- one request more was heard, and its answer is written so
 one_more_of : (g : _) (c : After-answer_request g) (Writes : List ℕ → Type 0) (mid new : Tables) →
-    IfSome (g.R.Read.remaining c.args.reader.now) (λ stream.
+    IfSome (reader_remaining g.R.Read.remaining c.args.reader.now) (λ stream.
     IsSoFar g.C.Clock.gives c.args.shelf.now stream c.loop-served.served c.loop-served.left
-    (g.R.Read.remaining c.loop-served.reader) c.args.clock.now c.loop-served.clock
+    (reader_remaining g.R.Read.remaining c.loop-served.reader) c.args.clock.now c.loop-served.clock
     (g.W.Write.contents c.args.writer.now) (g.W.Write.contents c.loop-served.writer)
     (g.K.Keeper.seen c.args.keeper.now).tables mid) →
     ((asking : Asking) → IsAsked asking c.in-Some.heard.asked →
     Replies g.C.Clock.gives c.args.shelf.now asking (c.left_after-left.result == 0)
     c.loop-served.clock c.answer_request.new.clock Writes mid new) →
-    IfSome (g.R.Read.remaining c.args.reader.now) (λ stream.
+    IfSome (reader_remaining g.R.Read.remaining c.args.reader.now) (λ stream.
     IsOneMore g.C.Clock.gives c.args.shelf.now stream c.loop-served.served c.loop-served.left
-    c.in-Some.heard.closes (g.R.Read.remaining c.hear.new.reader) c.args.clock.now
+    c.in-Some.heard.closes (reader_remaining g.R.Read.remaining c.hear.new.reader) c.args.clock.now
     c.answer_request.new.clock (g.W.Write.contents c.args.writer.now)
     (g.W.Write.contents c.loop-served.writer) Writes (g.K.Keeper.seen c.args.keeper.now).tables new)
 one_more_of g c Writes mid new so replies = taken_one g.C.Clock.gives c.args.shelf.now
     c.loop-served.served
     c.loop-served.left c.left_after-left.result (c.left_after-left.result == 0)
-    (g.R.Read.remaining c.args.reader.now) (g.R.Read.remaining c.loop-served.reader)
-    (g.R.Read.remaining c.hear.new.reader) c.args.clock.now c.loop-served.clock
+    (reader_remaining g.R.Read.remaining c.args.reader.now)
+    (reader_remaining g.R.Read.remaining c.loop-served.reader)
+    (reader_remaining g.R.Read.remaining c.hear.new.reader) c.args.clock.now c.loop-served.clock
     c.answer_request.new.clock (g.W.Write.contents c.args.writer.now)
     (g.W.Write.contents c.loop-served.writer) Writes (g.K.Keeper.seen c.args.keeper.now).tables mid
     new c.in_ok-heard.field-0 c.in-Some.heard
@@ -76,9 +81,9 @@ one_more : (g : _) (c : After-answer_request g) (Writes : List ℕ → Type 0) �
     c.loop-served.clock c.answer_request.new.clock Writes
     (g.K.Keeper.seen c.loop-served.keeper).tables
     (g.K.Keeper.seen c.answer_request.new.keeper).tables) →
-    IfSome (g.R.Read.remaining c.args.reader.now) (λ stream.
+    IfSome (reader_remaining g.R.Read.remaining c.args.reader.now) (λ stream.
     IsOneMore g.C.Clock.gives c.args.shelf.now stream c.loop-served.served c.loop-served.left
-    c.in-Some.heard.closes (g.R.Read.remaining c.hear.new.reader) c.args.clock.now
+    c.in-Some.heard.closes (reader_remaining g.R.Read.remaining c.hear.new.reader) c.args.clock.now
     c.answer_request.new.clock (g.W.Write.contents c.args.writer.now)
     (g.W.Write.contents c.loop-served.writer) Writes (g.K.Keeper.seen c.args.keeper.now).tables
     (g.K.Keeper.seen c.answer_request.new.keeper).tables)
@@ -110,11 +115,13 @@ left g c = leaves_more c.args.shelf.now (g.K.Keeper.seen c.args.keeper.now)
 
 -- of the requests that were taken, and this one
 held : (g : _) (c : After-answer_request g) →
-    LeavesTurns c.args.shelf.now (g.R.Read.remaining c.args.reader.now) (c.loop-served.served + 1)
+    LeavesTurns c.args.shelf.now (reader_remaining g.R.Read.remaining c.args.reader.now)
+    (c.loop-served.served + 1)
     (g.K.Keeper.seen c.args.keeper.now) (g.K.Keeper.seen c.answer_request.new.keeper)
 held g c = turns_more g.C.Clock.gives c.args.shelf.now c.loop-served.served c.loop-served.left
-    (g.R.Read.remaining c.args.reader.now) (g.R.Read.remaining c.loop-served.reader)
-    (g.R.Read.remaining c.hear.new.reader) c.args.clock.now c.loop-served.clock
+    (reader_remaining g.R.Read.remaining c.args.reader.now)
+    (reader_remaining g.R.Read.remaining c.loop-served.reader)
+    (reader_remaining g.R.Read.remaining c.hear.new.reader) c.args.clock.now c.loop-served.clock
     (g.W.Write.contents c.args.writer.now) (g.W.Write.contents c.loop-served.writer)
     (g.K.Keeper.seen c.args.keeper.now) (g.K.Keeper.seen c.loop-served.keeper)
     (g.K.Keeper.seen c.answer_request.new.keeper) c.in_ok-heard.field-0
@@ -127,9 +134,11 @@ held g c = turns_more g.C.Clock.gives c.args.shelf.now c.loop-served.served c.lo
 -- of no more than a connection takes
 held_most : (g : _) (c : After-answer_request g) →
     LeavesTurns
-    c.args.shelf.now (g.R.Read.remaining c.args.reader.now) 1000 (g.K.Keeper.seen c.args.keeper.now)
+    c.args.shelf.now (reader_remaining g.R.Read.remaining c.args.reader.now) 1000
+    (g.K.Keeper.seen c.args.keeper.now)
     (g.K.Keeper.seen c.answer_request.new.keeper)
-held_most g c = turns_most g.C.Clock.gives c.args.shelf.now (g.R.Read.remaining c.args.reader.now)
+held_most g c = turns_most g.C.Clock.gives c.args.shelf.now
+    (reader_remaining g.R.Read.remaining c.args.reader.now)
     (c.loop-served.served + 1) 1000 (g.K.Keeper.seen c.args.keeper.now)
     (g.K.Keeper.seen c.answer_request.new.keeper)
     (omega (arith, c.loop-served-test.true)) (held g c)
@@ -145,14 +154,16 @@ returns-in_err-heard g c = record {
   served = λ clean. no_value c.from_residual.result _ _ c.from_residual.ensures.1;
   begun = λ clean. at_err c.from_residual.result
       (so_far-begun g.C.Clock.gives c.args.shelf.now c.loop-served.served c.loop-served.left
-      (g.R.Read.remaining c.args.reader.now) (g.R.Read.remaining c.loop-served.reader)
+      (reader_remaining g.R.Read.remaining c.args.reader.now)
+      (reader_remaining g.R.Read.remaining c.loop-served.reader)
       c.args.clock.now c.loop-served.clock (g.W.Write.contents c.args.writer.now)
       (g.W.Write.contents c.loop-served.writer) (g.K.Keeper.seen c.args.keeper.now).tables
       (g.K.Keeper.seen c.loop-served.keeper).tables
       (omega (arith, c.loop-served.invariant.turns)) (c.loop-served.invariant.so_far clean));
   memory = λ clean e.
       so_far-unread g.C.Clock.gives c.args.shelf.now c.loop-served.served c.loop-served.left
-      (g.R.Read.remaining c.args.reader.now) (g.R.Read.remaining c.loop-served.reader)
+      (reader_remaining g.R.Read.remaining c.args.reader.now)
+      (reader_remaining g.R.Read.remaining c.loop-served.reader)
       c.args.clock.now c.loop-served.clock (g.W.Write.contents c.args.writer.now)
       (g.W.Write.contents c.loop-served.writer) (g.K.Keeper.seen c.args.keeper.now).tables
       (g.K.Keeper.seen c.loop-served.keeper).tables c.loop-served-test.true
@@ -160,7 +171,8 @@ returns-in_err-heard g c = record {
       c.loop-served-test.true) (c.loop-served.invariant.so_far clean);
   read = λ clean e.
       so_far-unread g.C.Clock.gives c.args.shelf.now c.loop-served.served c.loop-served.left
-      (g.R.Read.remaining c.args.reader.now) (g.R.Read.remaining c.loop-served.reader)
+      (reader_remaining g.R.Read.remaining c.args.reader.now)
+      (reader_remaining g.R.Read.remaining c.loop-served.reader)
       c.args.clock.now c.loop-served.clock (g.W.Write.contents c.args.writer.now)
       (g.W.Write.contents c.loop-served.writer) (g.K.Keeper.seen c.args.keeper.now).tables
       (g.K.Keeper.seen c.loop-served.keeper).tables c.loop-served-test.true
@@ -175,20 +187,23 @@ returns-in_err-heard g c = record {
         served = no_value c.from_residual.result _ _ c.from_residual.ensures.1;
         begun = at_err c.from_residual.result
             (so_far-begun g.C.Clock.gives c.args.shelf.now c.loop-served.served c.loop-served.left
-            (g.R.Read.remaining c.args.reader.now) (g.R.Read.remaining c.loop-served.reader)
+            (reader_remaining g.R.Read.remaining c.args.reader.now)
+            (reader_remaining g.R.Read.remaining c.loop-served.reader)
             c.args.clock.now c.loop-served.clock (g.W.Write.contents c.args.writer.now)
             (g.W.Write.contents c.loop-served.writer) (g.K.Keeper.seen c.args.keeper.now).tables
             had.held (omega (arith, c.loop-served.invariant.turns)) had.so_far);
         memory = λ e. so_far-unread g.C.Clock.gives c.args.shelf.now c.loop-served.served
-            c.loop-served.left (g.R.Read.remaining c.args.reader.now)
-            (g.R.Read.remaining c.loop-served.reader) c.args.clock.now c.loop-served.clock
+            c.loop-served.left (reader_remaining g.R.Read.remaining c.args.reader.now)
+            (reader_remaining g.R.Read.remaining c.loop-served.reader) c.args.clock.now
+            c.loop-served.clock
             (g.W.Write.contents c.args.writer.now) (g.W.Write.contents c.loop-served.writer)
             (g.K.Keeper.seen c.args.keeper.now).tables had.held c.loop-served-test.true
             (some_left c.loop-served.left c.loop-served.served c.loop-served.invariant.turns
             c.loop-served-test.true) had.so_far;
         read = λ e. so_far-unread g.C.Clock.gives c.args.shelf.now c.loop-served.served
-            c.loop-served.left (g.R.Read.remaining c.args.reader.now)
-            (g.R.Read.remaining c.loop-served.reader) c.args.clock.now c.loop-served.clock
+            c.loop-served.left (reader_remaining g.R.Read.remaining c.args.reader.now)
+            (reader_remaining g.R.Read.remaining c.loop-served.reader) c.args.clock.now
+            c.loop-served.clock
             (g.W.Write.contents c.args.writer.now) (g.W.Write.contents c.loop-served.writer)
             (g.K.Keeper.seen c.args.keeper.now).tables had.held c.loop-served-test.true
             (some_left c.loop-served.left c.loop-served.served c.loop-served.invariant.turns
@@ -201,7 +216,8 @@ returns-in_err-heard g c = record {
   cleanness = c.loop-served.invariant.cleanness;
   honesty = c.loop-served.invariant.honesty;
   left = c.loop-served.invariant.left;
-  held = turns_most g.C.Clock.gives c.args.shelf.now (g.R.Read.remaining c.args.reader.now)
+  held = turns_most g.C.Clock.gives c.args.shelf.now
+      (reader_remaining g.R.Read.remaining c.args.reader.now)
       c.loop-served.served 1000 (g.K.Keeper.seen c.args.keeper.now)
       (g.K.Keeper.seen c.loop-served.keeper)
       (omega (arith, c.loop-served.invariant.turns)) c.loop-served.invariant.held;
@@ -212,8 +228,9 @@ pub returns-in_default : goal.returns-in_default
 returns-in_default g c = record {
   served = λ clean.
       so_far-ended g.C.Clock.gives c.args.shelf.now c.loop-served.served c.loop-served.left
-      (g.R.Read.remaining c.args.reader.now) (g.R.Read.remaining c.loop-served.reader)
-      (g.R.Read.remaining c.hear.new.reader) c.args.clock.now c.loop-served.clock
+      (reader_remaining g.R.Read.remaining c.args.reader.now)
+      (reader_remaining g.R.Read.remaining c.loop-served.reader)
+      (reader_remaining g.R.Read.remaining c.hear.new.reader) c.args.clock.now c.loop-served.clock
       (g.W.Write.contents c.args.writer.now) (g.W.Write.contents c.loop-served.writer)
       (g.K.Keeper.seen c.args.keeper.now).tables (g.K.Keeper.seen c.loop-served.keeper).tables
       c.in_ok-heard.field-0 c.in_default.is
@@ -227,8 +244,9 @@ returns-in_default g c = record {
       record {
         held = had.held;
         served = so_far-ended g.C.Clock.gives c.args.shelf.now c.loop-served.served
-            c.loop-served.left (g.R.Read.remaining c.args.reader.now)
-            (g.R.Read.remaining c.loop-served.reader) (g.R.Read.remaining c.hear.new.reader)
+            c.loop-served.left (reader_remaining g.R.Read.remaining c.args.reader.now)
+            (reader_remaining g.R.Read.remaining c.loop-served.reader)
+            (reader_remaining g.R.Read.remaining c.hear.new.reader)
             c.args.clock.now c.loop-served.clock (g.W.Write.contents c.args.writer.now)
             (g.W.Write.contents c.loop-served.writer) (g.K.Keeper.seen c.args.keeper.now).tables
             had.held c.in_ok-heard.field-0 c.in_default.is had.so_far c.in_ok-heard.ensures.heard;
@@ -242,7 +260,8 @@ returns-in_default g c = record {
   cleanness = c.loop-served.invariant.cleanness;
   honesty = c.loop-served.invariant.honesty;
   left = c.loop-served.invariant.left;
-  held = turns_most g.C.Clock.gives c.args.shelf.now (g.R.Read.remaining c.args.reader.now)
+  held = turns_most g.C.Clock.gives c.args.shelf.now
+      (reader_remaining g.R.Read.remaining c.args.reader.now)
       c.loop-served.served 1000 (g.K.Keeper.seen c.args.keeper.now)
       (g.K.Keeper.seen c.loop-served.keeper)
       (omega (arith, c.loop-served.invariant.turns)) c.loop-served.invariant.held;
@@ -255,7 +274,7 @@ returns-in_err-answer_request g c = record {
       c.from_residual-in_err-answer_request.ensures.1;
   begun = λ clean. at_err c.from_residual-in_err-answer_request.result
       (so_far-broken g.C.Clock.gives c.args.shelf.now c.loop-served.served c.loop-served.left
-      c.in-Some.heard.closes (g.R.Read.remaining c.args.reader.now) _ _ _ _
+      c.in-Some.heard.closes (reader_remaining g.R.Read.remaining c.args.reader.now) _ _ _ _
       (g.W.Write.contents c.loop-served.writer) _ _ _ c.loop-served-test.true
       (one_more g (goal.at.returns-in_err-answer_request g c).After-answer_request
       (Begins (g.W.Write.contents c.loop-served.writer)
@@ -272,7 +291,7 @@ returns-in_err-answer_request g c = record {
       broken.Read c.in_err-answer_request.was c.from_residual-in_err-answer_request.ensures.1 e));
   write = λ clean e.
       so_far-cut g.C.Clock.gives c.args.shelf.now c.loop-served.served c.loop-served.left
-      c.in-Some.heard.closes (g.R.Read.remaining c.args.reader.now) _ _ _ _
+      c.in-Some.heard.closes (reader_remaining g.R.Read.remaining c.args.reader.now) _ _ _ _
       (g.W.Write.contents c.loop-served.writer) _ _ _ c.loop-served-test.true
       (one_more g (goal.at.returns-in_err-answer_request g c).After-answer_request
       (Begins (g.W.Write.contents c.loop-served.writer)
@@ -290,7 +309,7 @@ returns-in_err-answer_request g c = record {
             c.from_residual-in_err-answer_request.ensures.1;
         begun = at_err c.from_residual-in_err-answer_request.result
             (so_far-broken g.C.Clock.gives c.args.shelf.now c.loop-served.served c.loop-served.left
-            c.in-Some.heard.closes (g.R.Read.remaining c.args.reader.now) _ _ _ _
+            c.in-Some.heard.closes (reader_remaining g.R.Read.remaining c.args.reader.now) _ _ _ _
             (g.W.Write.contents c.loop-served.writer) _ _ told.next c.loop-served-test.true
             (one_more_of g (goal.at.returns-in_err-answer_request g c).After-answer_request _
             had.held told.next had.so_far told.err));
@@ -304,7 +323,7 @@ returns-in_err-answer_request g c = record {
             c.from_residual-in_err-answer_request.ensures.1 e));
         write = λ e.
             so_far-cut g.C.Clock.gives c.args.shelf.now c.loop-served.served c.loop-served.left
-            c.in-Some.heard.closes (g.R.Read.remaining c.args.reader.now) _ _ _ _
+            c.in-Some.heard.closes (reader_remaining g.R.Read.remaining c.args.reader.now) _ _ _ _
             (g.W.Write.contents c.loop-served.writer) _ _ told.next c.loop-served-test.true
             (one_more_of g (goal.at.returns-in_err-answer_request g c).After-answer_request _
             had.held told.next had.so_far told.err);
@@ -327,7 +346,8 @@ returns-then-left-eq0 g c = record {
   served = λ clean.
       so_far-closed g.C.Clock.gives c.args.shelf.now c.loop-served.served c.one_more.result.requests
       c.loop-served.left c.left_after-left.result c.in-Some.heard.closes
-      (g.R.Read.remaining c.args.reader.now) (g.R.Read.remaining c.hear.new.reader) _ _ _
+      (reader_remaining g.R.Read.remaining c.args.reader.now)
+      (reader_remaining g.R.Read.remaining c.hear.new.reader) _ _ _
       (g.W.Write.contents c.loop-served.writer) _ _ _ c.one_more.ensures c.left_after-left.ensures
       c.if-left-eq0.true
       (one_more g (goal.at.returns-then-left-eq0 g c).After-answer_request
@@ -348,8 +368,9 @@ returns-then-left-eq0 g c = record {
         held = told.next;
         served = so_far-closed g.C.Clock.gives c.args.shelf.now c.loop-served.served
             c.one_more.result.requests c.loop-served.left c.left_after-left.result
-            c.in-Some.heard.closes (g.R.Read.remaining c.args.reader.now)
-            (g.R.Read.remaining c.hear.new.reader) _ _ _ (g.W.Write.contents c.loop-served.writer)
+            c.in-Some.heard.closes (reader_remaining g.R.Read.remaining c.args.reader.now)
+            (reader_remaining g.R.Read.remaining c.hear.new.reader) _ _ _
+            (g.W.Write.contents c.loop-served.writer)
             _ _ told.next c.one_more.ensures c.left_after-left.ensures c.if-left-eq0.true
             (one_more_of g (goal.at.returns-then-left-eq0 g c).After-answer_request _ had.held
             told.next had.so_far told.ok);
@@ -377,7 +398,8 @@ loop-served-preserved g c = record {
       c.loop-served.invariant.turns;
   so_far = λ clean.
       so_far-more g.C.Clock.gives c.args.shelf.now c.loop-served.served c.loop-served.left
-      c.left_after-left.result c.in-Some.heard.closes (g.R.Read.remaining c.args.reader.now) _ _ _ _
+      c.left_after-left.result c.in-Some.heard.closes
+      (reader_remaining g.R.Read.remaining c.args.reader.now) _ _ _ _
       (g.W.Write.contents c.loop-served.writer) _ _ _ c.left_after-left.ensures
       c.if-left-eq0.false (one_more g (goal.at.loop-served-preserved g c).After-answer_request
       (Appends (g.W.Write.contents c.loop-served.writer)
@@ -394,7 +416,7 @@ loop-served-preserved g c = record {
         now = told.now;
         so_far = so_far-more g.C.Clock.gives c.args.shelf.now c.loop-served.served
             c.loop-served.left c.left_after-left.result c.in-Some.heard.closes
-            (g.R.Read.remaining c.args.reader.now) _ _ _ _
+            (reader_remaining g.R.Read.remaining c.args.reader.now) _ _ _ _
             (g.W.Write.contents c.loop-served.writer) _ _ told.next c.left_after-left.ensures
             c.if-left-eq0.false
             (one_more_of g (goal.at.loop-served-preserved g c).After-answer_request _ had.held
@@ -415,7 +437,8 @@ pub returns : goal.returns
 returns g c = record {
   served = λ clean.
       so_far-full g.C.Clock.gives c.args.shelf.now c.loop-served.served 1000 c.loop-served.left
-      (g.R.Read.remaining c.args.reader.now) (g.R.Read.remaining c.loop-served.reader)
+      (reader_remaining g.R.Read.remaining c.args.reader.now)
+      (reader_remaining g.R.Read.remaining c.loop-served.reader)
       c.args.clock.now c.loop-served.clock (g.W.Write.contents c.args.writer.now)
       (g.W.Write.contents c.loop-served.writer) (g.K.Keeper.seen c.args.keeper.now).tables
       (g.K.Keeper.seen c.loop-served.keeper).tables
@@ -433,8 +456,9 @@ returns g c = record {
       record {
         held = had.held;
         served = so_far-full g.C.Clock.gives c.args.shelf.now c.loop-served.served 1000
-            c.loop-served.left (g.R.Read.remaining c.args.reader.now)
-            (g.R.Read.remaining c.loop-served.reader) c.args.clock.now c.loop-served.clock
+            c.loop-served.left (reader_remaining g.R.Read.remaining c.args.reader.now)
+            (reader_remaining g.R.Read.remaining c.loop-served.reader) c.args.clock.now
+            c.loop-served.clock
             (g.W.Write.contents c.args.writer.now) (g.W.Write.contents c.loop-served.writer)
             (g.K.Keeper.seen c.args.keeper.now).tables had.held
             (omega (arith, c.loop-served.invariant.turns, c.loop-served-test.false)) (omega (
@@ -452,7 +476,8 @@ returns g c = record {
   cleanness = c.loop-served.invariant.cleanness;
   honesty = c.loop-served.invariant.honesty;
   left = c.loop-served.invariant.left;
-  held = turns_most g.C.Clock.gives c.args.shelf.now (g.R.Read.remaining c.args.reader.now)
+  held = turns_most g.C.Clock.gives c.args.shelf.now
+      (reader_remaining g.R.Read.remaining c.args.reader.now)
       c.loop-served.served 1000 (g.K.Keeper.seen c.args.keeper.now)
       (g.K.Keeper.seen c.loop-served.keeper)
       (omega (arith, c.loop-served.invariant.turns)) c.loop-served.invariant.held;

@@ -16,39 +16,41 @@ use Rattle.http_api.proofs.stating.serve_statement.Goals as goal
 
 pub returns-in_default-clause-shown : goal.returns-in_default-clause-shown
 returns-in_default-clause-shown g c = shows_same
-    (Replies g.C.Clock.gives c.args.shelf.now (states c.args.asked.now) c.args.closes
+    (Replies g.C.Clock.gives c.args.shelf.now (states c.args.asked.now) c.args.following.closes
     c.args.clock.now c.now.new.self) (g.W.Write.contents c.args.writer.now)
     (g.W.Write.contents c.tell_unable.new.writer) (g.K.Keeper.seen c.args.keeper.now)
     (g.K.Keeper.seen c.args.keeper.now) c.tell_unable.result
-    (λ Writes. Writes (response service_unavailable c.args.closes unable)) (λ clean. clean)
+    (λ Writes. Writes (response service_unavailable c.args.following.closes unable))
+    (λ clean. clean)
     (λ clean. refl)
-    (λ Writes t w. unstated_reply g.C.Clock.gives c.args.shelf.now c.args.closes Writes
+    (λ Writes t w. unstated_reply g.C.Clock.gives c.args.shelf.now c.args.following.closes Writes
     c.args.asked.now None c.args.clock.now c.now.new.self t t
     (subst (λ o. g.C.Clock.gives c.args.clock.now o c.now.new.self) c.in_default.is c.now.ensures)
     refl w) c.tell_unable.ensures.ok c.tell_unable.ensures.err
 
 pub returns-in-Err-clause-shown : goal.returns-in-Err-clause-shown
 returns-in-Err-clause-shown g c = shows_same
-    (Replies g.C.Clock.gives c.args.shelf.now (states c.args.asked.now) c.args.closes
+    (Replies g.C.Clock.gives c.args.shelf.now (states c.args.asked.now) c.args.following.closes
     c.args.clock.now c.now.new.self) (g.W.Write.contents c.args.writer.now)
     (g.W.Write.contents c.tell_unable-in-Err.new.writer) (g.K.Keeper.seen c.args.keeper.now)
     (g.K.Keeper.seen c.account_state.new.keeper) c.tell_unable-in-Err.result
-    (λ Writes. Writes (response service_unavailable c.args.closes unable))
+    (λ Writes. Writes (response service_unavailable c.args.following.closes unable))
     c.in-Err.ensures.cleanness c.in-Err.ensures.same
-    (λ Writes t w. unstated_reply g.C.Clock.gives c.args.shelf.now c.args.closes Writes
+    (λ Writes t w. unstated_reply g.C.Clock.gives c.args.shelf.now c.args.following.closes Writes
     c.args.asked.now (Some c.in-Some.moment) c.args.clock.now c.now.new.self t t
     (subst (λ o. g.C.Clock.gives c.args.clock.now o c.now.new.self) c.in-Some.is c.now.ensures)
     refl w) c.tell_unable-in-Err.ensures.ok c.tell_unable-in-Err.ensures.err
 
 pub returns-in-None-clause-shown : goal.returns-in-None-clause-shown
 returns-in-None-clause-shown g c = shows_new
-    (Replies g.C.Clock.gives c.args.shelf.now (states c.args.asked.now) c.args.closes
+    (Replies g.C.Clock.gives c.args.shelf.now (states c.args.asked.now) c.args.following.closes
     c.args.clock.now c.now.new.self) (g.W.Write.contents c.args.writer.now)
     (g.W.Write.contents c.tell_unknown.new.writer) (g.K.Keeper.seen c.args.keeper.now)
     (g.K.Keeper.seen c.account_state.new.keeper) c.tell_unknown.result
-    (TellsAnswer (Refused AccountUnknown) c.args.closes) c.in-Ok.ensures.stands
+    (TellsAnswer (Refused AccountUnknown) c.args.following.closes) c.in-Ok.ensures.stands
     c.in-Ok.ensures.cleanness
-    (λ Writes clean tells. unknown_reply g.C.Clock.gives c.args.shelf.now c.args.closes Writes
+    (λ Writes clean tells. unknown_reply g.C.Clock.gives c.args.shelf.now c.args.following.closes
+    Writes
     c.args.asked.now c.in-Some.moment c.args.clock.now c.now.new.self
     (g.K.Keeper.seen c.args.keeper.now).tables (g.K.Keeper.seen c.account_state.new.keeper).tables
     c.in-Ok.state
@@ -60,11 +62,11 @@ pub returns-in-Some-state-clause-shown : goal.returns-in-Some-state-clause-shown
 returns-in-Some-state-clause-shown g c = λ h held before.
     let viewed = c.in-Ok.ensures.stands (c.tell_statement.ensures.honesty h) in
     let is = sym (before (c.in-Ok.ensures.cleanness viewed)) in
-    let told : (Writes : List ℕ → Type 0) → TellsCharges _ _ c.args.closes Writes →
-    Replies g.C.Clock.gives c.args.shelf.now (states c.args.asked.now) c.args.closes
+    let told : (Writes : List ℕ → Type 0) → TellsCharges _ _ c.args.following.closes Writes →
+    Replies g.C.Clock.gives c.args.shelf.now (states c.args.asked.now) c.args.following.closes
     c.args.clock.now c.now.new.self Writes (g.K.Keeper.seen c.args.keeper.now).tables
     (g.K.Keeper.seen c.account_state.new.keeper).tables = λ Writes tells.
-    stated_reply g.C.Clock.gives c.args.shelf.now c.args.closes Writes c.args.asked.now
+    stated_reply g.C.Clock.gives c.args.shelf.now c.args.following.closes Writes c.args.asked.now
     c.in-Some.moment c.args.clock.now c.now.new.self (g.K.Keeper.seen c.args.keeper.now).tables
     (g.K.Keeper.seen c.account_state.new.keeper).tables
     (g.K.Keeper.seen c.account_state.new.keeper).tables c.in-Ok.state c.in-Some-state.state
@@ -74,13 +76,15 @@ returns-in-Some-state-clause-shown g c = λ h held before.
       next = (g.K.Keeper.seen c.account_state.new.keeper).tables;
       now = λ clean. sym (c.tell_statement.ensures.same clean);
       ok = subst (λ (x : Tables). OnOk c.tell_statement.result (Replies g.C.Clock.gives
-          c.args.shelf.now (states c.args.asked.now) c.args.closes c.args.clock.now c.now.new.self
+          c.args.shelf.now (states c.args.asked.now) c.args.following.closes c.args.clock.now
+          c.now.new.self
           (Appends (g.W.Write.contents c.args.writer.now)
           (g.W.Write.contents c.tell_statement.new.writer)) x
           (g.K.Keeper.seen c.account_state.new.keeper).tables)) is
           (ok_gives c.tell_statement.result (told _) (c.tell_statement.ensures.ok h));
       err = subst (λ (x : Tables). OnErr c.tell_statement.result (Replies g.C.Clock.gives
-          c.args.shelf.now (states c.args.asked.now) c.args.closes c.args.clock.now c.now.new.self
+          c.args.shelf.now (states c.args.asked.now) c.args.following.closes c.args.clock.now
+          c.now.new.self
           (Begins (g.W.Write.contents c.args.writer.now)
           (g.W.Write.contents c.tell_statement.new.writer)) x
           (g.K.Keeper.seen c.account_state.new.keeper).tables)) is

@@ -1,20 +1,13 @@
-use Rattle.std.proofs.Common.{◌∙◌, List, subst}
-use Rattle.std.specs.Prelude.{ℕ, OnOk, OnErr}
-use Rattle.std.specs.Io.KnownBytes.{Appends}
+use Rattle.std.proofs.Common.{◌∙◌, ℕ, List, subst}
 use Rattle.http_messages.specs.Statuses.{ok}
-use Rattle.http_messages.specs.Texts.{Begins, response}
+use Rattle.http_messages.specs.Texts.{WritesText, response}
+use Rattle.http_api.proofs.Leaving.{text_left}
 use Rattle.http_api.proofs.telling.tell_answer.Goals as goal
 
-pub returns-clause-ok : goal.returns-clause-ok
-returns-clause-ok g c =
-    subst (λ (body : List ℕ). OnOk c.tell_json.result (Appends
-    (g.W.Write.contents c.args.writer.now) (g.W.Write.contents c.tell_json.new.writer)
-    (response ok c.args.closes body))) (c.as_bytes.ensures.value ∙ c.text.ensures.value)
-    c.tell_json.ensures.ok
-
-pub returns-clause-err : goal.returns-clause-err
-returns-clause-err g c =
-    subst (λ (body : List ℕ). OnErr c.tell_json.result (Begins
-    (g.W.Write.contents c.args.writer.now) (g.W.Write.contents c.tell_json.new.writer)
-    (response ok c.args.closes body))) (c.as_bytes.ensures.value ∙ c.text.ensures.value)
-    c.tell_json.ensures.err
+pub returns : goal.returns
+returns g c = subst (λ (body : List ℕ). WritesText (response ok c.args.following.closes body)
+    (g.W.Write.contents c.args.writer.now) (g.W.Write.contents c.leave.new.writer)
+    c.leave.result) (c.as_bytes.ensures.value ∙ c.text.ensures.value)
+    (text_left (g.W.Write.contents c.args.writer.now) (g.W.Write.contents c.tell_json.new.writer)
+    (g.W.Write.contents c.leave.new.writer) c.leave.result _ c.in_ok-tell_json.ensures.ok
+    c.leave.ensures.kept c.leave.ensures.fault)
