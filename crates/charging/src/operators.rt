@@ -243,18 +243,10 @@ fn credit_account<K: Keeper>(
     let moment = moment_on(&loaded.account, moment);
     match add_bucket(&mut loaded.account, &credit, moment) {
         Ok(Some(number)) => {
-            let kept = kept_credit(credit);
+            let content = Some(kept_credit(credit));
             let given = Answer::Bucket(number);
-            commit(
-                alloc,
-                keeper,
-                loaded,
-                None,
-                Vec::new(alloc),
-                Some(kept),
-                None,
-                given,
-            )
+            let charges = Vec::new(alloc);
+            commit(alloc, keeper, loaded, None, charges, content, None, given)
         }
         Ok(None) => {
             keeper.abandon(loaded);

@@ -174,18 +174,11 @@ fn credit_redeemed<K: Keeper>(
     } = redeemed;
     match make_bucket(&mut loaded.account, from, until, scope, amount, moment) {
         Ok(Some(number)) => {
-            let spent = Redeemed { code, voucher };
+            let content = Some(Content::Redeem(asked));
+            let spent = Some(Redeemed { code, voucher });
             let given = Answer::Bucket(number);
-            commit(
-                alloc,
-                keeper,
-                loaded,
-                None,
-                Vec::new(alloc),
-                Some(Content::Redeem(asked)),
-                Some(spent),
-                given,
-            )
+            let charges = Vec::new(alloc);
+            commit(alloc, keeper, loaded, None, charges, content, spent, given)
         }
         Ok(None) => {
             keeper.abandon(loaded);

@@ -15,9 +15,9 @@ use Rattle.charging.proofs.operators.credit_account.Goals.{After-commit}
 
 -- what its commit makes is what the credit comes to
 done : (g : _) (c : After-commit g) (t : Tables) →
-    Commits (made_change c.args.loaded c.add_bucket.new.account c.new.result
+    Commits (made_change c.args.loaded c.add_bucket.new.account c.new-charges.result
     (Some (record {
-      content = c.kept_credit-kept.result;
+      content = c.kept_credit.result;
       answer = answer.Bucket c.in-Ok-Some.number;
     })) None) (g.K.Keeper.seen c.args.keeper.now).tables t → (b : Shelf) →
     IsLoad b c.args.moment c.args.credit.account
@@ -32,19 +32,19 @@ done g c t made = λ b load fresh list time is le.
     c.moment_on-moment.result fresh c.moment_on-moment.ensures.value c.in-Ok-Some.field-0
     c.add_bucket.new.account c.in-Ok-Some.ensures.credits
     c.in-Ok-Some.number
-    (made_change c.args.loaded c.add_bucket.new.account c.new.result
+    (made_change c.args.loaded c.add_bucket.new.account c.new-charges.result
     (Some (record {
-      content = c.kept_credit-kept.result;
+      content = c.kept_credit.result;
       answer = answer.Bucket c.in-Ok-Some.number;
     })) None)
     c.in-Ok-Some.field-0-is c.in-Ok-Some.ensures.tariff c.in-Ok-Some.ensures.moment
-    (made_tells c.args.loaded c.add_bucket.new.account c.new.result
+    (made_tells c.args.loaded c.add_bucket.new.account c.new-charges.result
     (Some (record {
-      content = c.kept_credit-kept.result;
+      content = c.kept_credit.result;
       answer = answer.Bucket c.in-Ok-Some.number;
-    })) _ None None c.new.ensures.items
+    })) _ None None c.new-charges.ensures.items
     (λ i. Some (record {
-      content = c.kept_credit-kept.ensures i;
+      content = c.kept_credit.ensures i;
       answer = answer.Bucket c.in-Ok-Some.number;
     })) refl) made
 

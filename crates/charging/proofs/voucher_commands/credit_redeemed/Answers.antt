@@ -18,7 +18,7 @@ use Rattle.charging.proofs.voucher_commands.credit_redeemed.Goals.{After-commit}
 
 -- what its commit makes is what the redemption comes to
 done : (g : _) (c : After-commit g) (t : Tables) →
-    Commits (made_change c.args.loaded c.make_bucket.new.account c.new.result
+    Commits (made_change c.args.loaded c.make_bucket.new.account c.new-charges.result
     (Some (record {
       content = content.Redeem c.args.asked;
       answer = answer.Bucket c.in-Ok-Some.number;
@@ -39,20 +39,20 @@ done g c t made = λ b load fresh code redeems list time is le.
     c.moment_on-moment.result fresh c.moment_on-moment.ensures.value c.args.redeemed redeems
     c.in-Ok-Some.field-0 c.make_bucket.new.account c.in-Ok-Some.ensures.makes
     c.in-Ok-Some.number
-    (made_change c.args.loaded c.make_bucket.new.account c.new.result
+    (made_change c.args.loaded c.make_bucket.new.account c.new-charges.result
     (Some (record {
       content = content.Redeem c.args.asked;
       answer = answer.Bucket c.in-Ok-Some.number;
     }))
     (Some (record { code = c.args.code; voucher = c.args.redeemed.voucher })))
     c.in-Ok-Some.field-0-is c.in-Ok-Some.ensures.tariff c.in-Ok-Some.ensures.moment
-    (made_tells c.args.loaded c.make_bucket.new.account c.new.result
+    (made_tells c.args.loaded c.make_bucket.new.account c.new-charges.result
     (Some (record {
       content = content.Redeem c.args.asked;
       answer = answer.Bucket c.in-Ok-Some.number;
     })) _
-    (Some (record { code = c.args.code; voucher = c.args.redeemed.voucher })) _ c.new.ensures.items
-    refl
+    (Some (record { code = c.args.code; voucher = c.args.redeemed.voucher })) _
+    c.new-charges.ensures.items refl
     (λ i. Some (record { code = code i; voucher = c.args.redeemed.voucher }))) made
 
 pub returns-in-Ok-Some-clause-served : goal.returns-in-Ok-Some-clause-served
