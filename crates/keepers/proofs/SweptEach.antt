@@ -7,17 +7,15 @@ use Rattle.reserving.proofs.Lists.{no_some}
 use Rattle.reserving.proofs.order.Searched.{no_less}
 use Rattle.std.specs.List.{position_from}
 use Rattle.std.proofs.lemmas.Iterator.Adapters.{position_from-zero}
-use Rattle.std.specs.HashMap.{get}
 use Rattle.identifiers.specs.Texts.{same_name}
 use Rattle.shelves.specs.Shelves.{Shelf}
 use Rattle.ledger.specs.Ledger.{Ledger}
 use Rattle.commands.specs.declared.key.Key.{Key}
-use Rattle.commands.specs.Keys.{same_key}
 use Rattle.keepers.specs.declared.entries.AccountEntry.{AccountEntry}
 use Rattle.keepers.specs.Change.{AreRowsAt, AreBroughtTo, IsSwept}
 use Rattle.keepers.specs.Memory.{is_entry, entry_in, rows_of_entry, answer_of_entry}
 use Rattle.keepers.specs.Memory.{charges_of_entry, IsSweptEntry, AreSwept, VoucherMap}
-use Rattle.keepers.specs.Memory.{memory_tables}
+use Rattle.keepers.specs.Memory.{memory_tables, answer_in}
 use Rattle.keepers.specs.Tables.{charge_in}
 
 first_same : {A : Type 0} (x y : A) (xs ys : List A) → x ∷ xs ≡ y ∷ ys → x ≡ y
@@ -72,7 +70,7 @@ seen_one shelf t x y h = record {
   none = λ e. absurd (no_some _ (sym e));
   rows = h.rows;
   listed = h.listed;
-  answers = λ k. ap (λ m. get same_key m k) h.answers;
+  answers = λ k. ap (answer_in k) h.answers;
   charges = ap (λ c. c.items) h.charges;
 }
 

@@ -1,7 +1,8 @@
 -- What the keeper in memory holds.
 -- Source: profile.
 use Rattle.std.specs.Prelude.{◌≡◌, ◌≤◌, ◌+◌, ◌++◌, ℕ, Bool, List, [], ◌∷◌, length, Option, Some}
-use Rattle.std.specs.Prelude.{None, is_some, position, if◌then◌else◌}
+use Rattle.std.specs.Prelude.{None, is_some, option_map, box_value, position, if◌then◌else◌}
+use Rattle.std.specs.Global.{Box}
 use Rattle.std.specs.List.{find}
 use Rattle.std.specs.HashMap.{HashMap, get}
 use Rattle.std.specs.declared.hash.FoldHasher.{FoldHasher}
@@ -37,9 +38,16 @@ rows_of_entry (Some e) = rows_of_parts e.rows
 abbrev pub session_of_entry : SessionName → Option AccountEntry → Option Session
 session_of_entry s o = (rows_of_entry o).sessions s
 
+-- answers under their keys
+abbrev pub Answers : Type 0
+Answers = HashMap Key (Box KeptAnswer) (BuildHasherDefault FoldHasher)
+
+abbrev pub answer_in : Key → Answers → Option KeptAnswer
+answer_in k answers = option_map box_value (get same_key answers k)
+
 abbrev pub answer_of_entry : Key → Option AccountEntry → Option KeptAnswer
 answer_of_entry k None = None
-answer_of_entry k (Some e) = get same_key e.answers k
+answer_of_entry k (Some e) = answer_in k e.answers
 
 abbrev pub charges_of_entry : Option AccountEntry → List ChargeRow
 charges_of_entry None = []

@@ -1,11 +1,11 @@
 //! The accounts of the keeper in memory, each with its charges and its kept answers.
 
 ghost use Rattle.std.specs.Prelude.{◌≡◌, ◌<◌, ◌+◌, ◌++◌, ℕ, List, Some, None, is_some, IfOk, IsOk};
-ghost use Rattle.std.specs.Prelude.{OnOk, OnErr, option_map, if◌then◌else◌};
+ghost use Rattle.std.specs.Prelude.{IfSome, OnOk, OnErr, option_map, if◌then◌else◌};
 ghost use Rattle.std.specs.HashMap.{get, spare};
 ghost use Rattle.identifiers.specs.Texts.{same_name};
 ghost use Rattle.commands.specs.declared.key.Key.{Key};
-ghost use Rattle.commands.specs.Keys.{same_key, key_of};
+ghost use Rattle.commands.specs.Keys.{key_of};
 ghost use Rattle.keepers.specs.Change.{kept_after, AreDeadOf};
 ghost use Rattle.keepers.specs.Tables.{no_rows};
 ghost use Rattle.keepers.specs.Whole.{AreWhole};
@@ -13,7 +13,7 @@ ghost use Rattle.keepers.specs.Change.{IsLoad, IsView, over};
 ghost use Rattle.keepers.specs.Parts.{rows_of_parts};
 ghost use Rattle.keepers.specs.Memory.{entry_in, rows_of_entry, answer_of_entry, charges_of_entry};
 ghost use Rattle.keepers.specs.Memory.{session_of_entry, IsSweptEntry, AreSwept, ArePlaced, ArePut};
-ghost use Rattle.keepers.specs.Memory.{AreUnchanged};
+ghost use Rattle.keepers.specs.Memory.{AreUnchanged, answer_in};
 
 use crate::accounts::Accounts;
 use crate::kept_answer::KeptAnswer;
@@ -37,7 +37,8 @@ pub(crate) struct AccountEntry {
     pub(crate) number: AccountNumber,
     pub(crate) rows: Store,
     pub(crate) charges: Vec<ChargeRow>,
-    pub(crate) answers: HashMap<Key, KeptAnswer>,
+    /// In boxes, so that the map moves a pointer of each when it grows.
+    pub(crate) answers: HashMap<Key, Box<KeptAnswer>>,
 }
 
 // It is written out, so that a caller doesn't prove again how each part is dropped.
@@ -160,41 +161,48 @@ pub(crate) fn find_kept(
     }
 }
 
-/// Makes room for one answer more, and takes the key of this one. What is kept stays.
-fn make_room(
-    answers: &mut HashMap<Key, KeptAnswer>,
-    kept: &Option<KeptAnswer>,
-) -> Result<Option<Key>, AllocError>
-    ensures same { (k : Key) → get same_key answers.new k ≡ get same_key answers.old k }
-    ensures room { OnOk result (0 < spare answers.new) }
-    ensures key { IfOk result (λ key. key ≡ option_map (λ x. key_of x.content) kept.now) }
-{
-    let key = match kept {
-        Some(kept) => Some(Key::of(&kept.content)?),
-        None => None,
-    };
-    answers.reserve(1)?;
-    Ok(key)
+/// An answer that is kept next, with its key.
+#[derive(Drop)]
+struct KeyedAnswer {
+    key: Key,
+    kept: Box<KeptAnswer>,
 }
 
-/// Keeps an answer under its key, for which there is room. It is taken.
-fn keep(
-    answers: &mut HashMap<Key, KeptAnswer>,
-    key: Option<Key>,
+/// Makes room for one answer more, and takes this one with its key. What is kept stays.
+fn make_room(
+    alloc: Global,
+    answers: &mut HashMap<Key, Box<KeptAnswer>>,
     kept: &mut Option<KeptAnswer>,
+) -> Result<Option<KeyedAnswer>, AllocError>
+    ensures same { (k : Key) → answer_in k answers.new ≡ answer_in k answers.old }
+    ensures room { OnOk result (0 < spare answers.new) }
+    ensures kept { IfOk result (λ taken. option_map (λ t. t.kept.value) taken ≡ kept.old) }
+    ensures key { IfOk result (λ taken. IfSome taken (λ t. t.key ≡ key_of t.kept.value.content)) }
+{
+    answers.reserve(1)?;
+    let Some(kept) = kept.take() else {
+        return Ok(None);
+    };
+    let key = Key::of(&kept.content)?;
+    let kept = Box::new(alloc, kept)?;
+    Ok(Some(KeyedAnswer { key, kept }))
+}
+
+/// Keeps an answer under its key, for which there is room.
+fn keep(
+    answers: &mut HashMap<Key, Box<KeptAnswer>>,
+    taken: Option<KeyedAnswer>,
 ) -> Result<(), AllocError>
     requires room { 0 < spare answers.old }
-    requires key { key ≡ option_map (λ x. key_of x.content) kept.old }
+    requires key { IfSome taken (λ t. t.key ≡ key_of t.kept.value.content) }
     ensures ok { IsOk result }
-    ensures kept { (k : Key) →
-        get same_key answers.new k ≡ kept_after kept.old k (get same_key answers.old k) }
+    ensures kept { (k : Key) → answer_in k answers.new ≡
+        kept_after (option_map (λ t. t.kept.value) taken) k (answer_in k answers.old) }
 {
-    let Some(key) = key else {
+    let Some(taken) = taken else {
         return Ok(());
     };
-    let Some(kept) = kept.take() else {
-        return Ok(());
-    };
+    let KeyedAnswer { key, kept } = taken;
     answers.insert(key, kept)?;
     Ok(())
 }
@@ -203,19 +211,20 @@ fn keep(
 fn first_answers(
     alloc: Global,
     kept: &mut Option<KeptAnswer>,
-) -> Result<HashMap<Key, KeptAnswer>, AllocError>
+) -> Result<HashMap<Key, Box<KeptAnswer>>, AllocError>
     ensures { IfOk result (λ answers. (k : Key) →
-        get same_key answers k ≡ kept_after kept.old k None) }
+        answer_in k answers ≡ kept_after kept.old k None) }
 {
     let mut answers = HashMap::new(alloc);
-    let key = make_room(&mut answers, kept)?;
-    keep(&mut answers, key, kept)?;
+    let taken = make_room(alloc, &mut answers, kept)?;
+    keep(&mut answers, taken)?;
     Ok(answers)
 }
 
 /// Puts the rows of a change over those of an account that is there, with its further charges and
 /// an answer, which are taken. The room is taken first: at a fault nothing has changed.
 fn write_entry(
+    alloc: Global,
     entry: &mut AccountEntry,
     rows: NamedRows,
     charges: &mut Vec<ChargeRow>,
@@ -224,20 +233,19 @@ fn write_entry(
     ensures number { entry.new.number ≡ entry.old.number }
     ensures rows { OnOk result (rows_of_parts entry.new.rows ≡ over rows
         (rows_of_parts entry.old.rows)) }
-    ensures answers { OnOk result ((k : Key) →
-        get same_key entry.new.answers k ≡ kept_after kept.old k
-        (get same_key entry.old.answers k)) }
+    ensures answers { OnOk result ((k : Key) → answer_in k entry.new.answers ≡
+        kept_after kept.old k (answer_in k entry.old.answers)) }
     ensures charges { OnOk result (entry.new.charges.items ≡
         entry.old.charges.items ++ charges.old.items) }
     ensures err_rows { OnErr result (entry.new.rows ≡ entry.old.rows) }
     ensures err_answers { OnErr result ((k : Key) →
-        get same_key entry.new.answers k ≡ get same_key entry.old.answers k) }
+        answer_in k entry.new.answers ≡ answer_in k entry.old.answers) }
     ensures err_charges { OnErr result (entry.new.charges.items ≡ entry.old.charges.items) }
 {
     entry.charges.reserve(charges.len())?;
-    let key = make_room(&mut entry.answers, kept)?;
+    let taken = make_room(alloc, &mut entry.answers, kept)?;
     entry.rows.put(rows)?;
-    keep(&mut entry.answers, key, kept)?;
+    keep(&mut entry.answers, taken)?;
     entry.charges.append(charges)?;
     Ok(())
 }
@@ -253,7 +261,7 @@ fn new_entry(
     ensures number { IfOk result (λ e. e.number ≡ number) }
     ensures rows { IfOk result (λ e. rows_of_parts e.rows ≡ over rows no_rows) }
     ensures answers { IfOk result (λ e. (k : Key) →
-        get same_key e.answers k ≡ kept_after kept.old k None) }
+        answer_in k e.answers ≡ kept_after kept.old k None) }
     ensures charges { IfOk result (λ e. e.charges.items ≡ charges.old.items) }
 {
     let answers = first_answers(alloc, kept)?;
@@ -310,7 +318,7 @@ pub(crate) fn put_entry(
     ensures err { OnErr result (AreUnchanged entries.old.items entries.new.items) }
 {
     if let Some(place) = place_of(places, &number) {
-        write_entry(&mut entries[place], rows, charges, kept)?;
+        write_entry(alloc, &mut entries[place], rows, charges, kept)?;
         return Ok(());
     }
     let key = number.clone()?;
