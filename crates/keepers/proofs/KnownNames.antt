@@ -2,7 +2,6 @@
 use Rattle.std.proofs.Common.{◌≡◌, Bool, true, false, cond, List, ◌++◌, refl, sym, ap, ◌∙◌, Option}
 use Rattle.std.proofs.Common.{Some, None, ℕ}
 use Rattle.std.specs.Prelude.{is_some}
-use Rattle.std.specs.HashMap.{get}
 use Rattle.identifiers.specs.Texts.{same_name}
 use Rattle.reserving.specs.declared.session.Session.{Session}
 use Rattle.reserving.specs.Sessions.{is_open, is_session, session_in}
@@ -64,11 +63,10 @@ named_among names s rows h e = at (session_in s rows) refl
 
 -- a name that was kept stays so
 pub named_on : (was is : Names) (name : List ℕ) →
-    ((q : List ℕ) → get same_name is q ≡
-    cond (same_name name q) (Some true) (get same_name was q)) → (s : List ℕ) →
-    is_named was s ≡ true → is_named is s ≡ true
-named_on was is name updates s e = ap is_some (updates s) ∙ at (same_name name s)
+    ((q : List ℕ) → is_named is q ≡ cond (same_name name q) true (is_named was q)) →
+    (s : List ℕ) → is_named was s ≡ true → is_named is s ≡ true
+named_on was is name updates s e = updates s ∙ at (same_name name s)
   where
-    at : (t : Bool) → is_some (cond t (Some true) (get same_name was s)) ≡ true
+    at : (t : Bool) → cond t true (is_named was s) ≡ true
     at true = refl
     at false = e

@@ -1,7 +1,7 @@
 -- What the keeper in memory knows of the rows that were left without a search: the numbers and
 -- names that they have.
 use Rattle.std.specs.Prelude.{◌≡◌, ℕ, Bool, true, false, ◌||◌, List, nat_eq, is_some}
-use Rattle.std.specs.HashMap.{HashMap, get}
+use Rattle.std.specs.HashSet.{HashSet, contains}
 use Rattle.std.specs.declared.hash.FoldHasher.{FoldHasher}
 use Rattle.std.specs.declared.hash.BuildHasherDefault.{BuildHasherDefault}
 use Rattle.units.specs.Words.{Moment}
@@ -21,16 +21,16 @@ use Rattle.reserving.specs.Left.{is_dead}
 
 -- a set of numbers, and one of names
 abbrev pub Numbers : Type 0
-Numbers = HashMap ℕ Bool (BuildHasherDefault FoldHasher)
+Numbers = HashSet ℕ (BuildHasherDefault FoldHasher)
 
 abbrev pub Names : Type 0
-Names = HashMap (List ℕ) Bool (BuildHasherDefault FoldHasher)
+Names = HashSet (List ℕ) (BuildHasherDefault FoldHasher)
 
 abbrev pub is_numbered : Numbers → ℕ → Bool
-is_numbered numbers n = is_some (get nat_eq numbers n)
+is_numbered numbers n = contains nat_eq numbers n
 
 abbrev pub is_named : Names → SessionName → Bool
-is_named names s = is_some (get same_name names s)
+is_named names s = contains same_name names s
 
 -- each that was left can't change, and is known by its number or name
 abbrev pub AreLeftBuckets : Numbers → List BucketRow → Type 0

@@ -15,16 +15,16 @@ use identifiers::SessionId;
 use reserving::{Counter, Session, SessionGroup};
 use shelves::TariffShelf;
 use std::alloc::AllocError;
-use std::collections::HashMap;
+use std::collections::HashSet;
 use units::Moment;
 
 /// What the rows that were left name: the numbers of the buckets, the cycles of the counters, and
 /// the names of the sessions and of the groups' sessions.
 #[derive(Drop)]
 pub(crate) struct Known {
-    pub(crate) numbers: HashMap<u32, bool>,
-    pub(crate) names: HashMap<SessionId, bool>,
-    pub(crate) cycles: HashMap<u32, bool>,
+    pub(crate) numbers: HashSet<u32>,
+    pub(crate) names: HashSet<SessionId>,
+    pub(crate) cycles: HashSet<u32>,
 }
 
 /// Keeps what these rows name.
@@ -39,23 +39,23 @@ pub(crate) fn note(known: &mut Known, rows: &LeftStore) -> Result<(), AllocError
     Ok(())
 }
 
-fn note_number(numbers: &mut HashMap<u32, bool>, number: u32) -> Result<(), AllocError>
+fn note_number(numbers: &mut HashSet<u32>, number: u32) -> Result<(), AllocError>
     ensures stay { (n : ℕ) → is_numbered numbers.old n ≡ true → is_numbered numbers.new n ≡ true }
     ensures noted { OnOk result (is_numbered numbers.new number ≡ true) }
 {
-    numbers.insert(number, true)?;
+    numbers.insert(number)?;
     Ok(())
 }
 
-fn note_name(names: &mut HashMap<SessionId, bool>, name: SessionId) -> Result<(), AllocError>
+fn note_name(names: &mut HashSet<SessionId>, name: SessionId) -> Result<(), AllocError>
     ensures stay { (s : List ℕ) → is_named names.old s ≡ true → is_named names.new s ≡ true }
     ensures noted { OnOk result (is_named names.new name ≡ true) }
 {
-    names.insert(name, true)?;
+    names.insert(name)?;
     Ok(())
 }
 
-fn note_buckets(numbers: &mut HashMap<u32, bool>, rows: &[Bucket]) -> Result<(), AllocError>
+fn note_buckets(numbers: &mut HashSet<u32>, rows: &[Bucket]) -> Result<(), AllocError>
     ensures stay { (n : ℕ) → is_numbered numbers.old n ≡ true → is_numbered numbers.new n ≡ true }
     ensures noted { OnOk result (EachIn (λ b. is_numbered numbers.new b.number ≡ true) rows.now) }
 {
@@ -65,7 +65,7 @@ fn note_buckets(numbers: &mut HashMap<u32, bool>, rows: &[Bucket]) -> Result<(),
     Ok(())
 }
 
-fn note_counters(cycles: &mut HashMap<u32, bool>, rows: &[Counter]) -> Result<(), AllocError>
+fn note_counters(cycles: &mut HashSet<u32>, rows: &[Counter]) -> Result<(), AllocError>
     ensures stay { (n : ℕ) → is_numbered cycles.old n ≡ true → is_numbered cycles.new n ≡ true }
     ensures noted { OnOk result (AreLeftCounters cycles.new rows.now) }
 {
@@ -75,7 +75,7 @@ fn note_counters(cycles: &mut HashMap<u32, bool>, rows: &[Counter]) -> Result<()
     Ok(())
 }
 
-fn note_sessions(names: &mut HashMap<SessionId, bool>, rows: &[Session]) -> Result<(), AllocError>
+fn note_sessions(names: &mut HashSet<SessionId>, rows: &[Session]) -> Result<(), AllocError>
     ensures stay { (s : List ℕ) → is_named names.old s ≡ true → is_named names.new s ≡ true }
     ensures noted { OnOk result (EachIn (λ r. is_named names.new r.id ≡ true) rows.now) }
 {
@@ -89,7 +89,7 @@ fn note_sessions(names: &mut HashMap<SessionId, bool>, rows: &[Session]) -> Resu
 /// Keeps a session's name. The names of these sessions are kept already; its row is looked for
 /// among them from this place on.
 fn note_other_name(
-    names: &mut HashMap<SessionId, bool>,
+    names: &mut HashSet<SessionId>,
     sessions: &[Session],
     place: &mut usize,
     name: &SessionId,
@@ -107,7 +107,7 @@ fn note_other_name(
 
 /// Keeps the names of the groups' sessions. Those of these sessions are kept already.
 fn note_groups(
-    names: &mut HashMap<SessionId, bool>,
+    names: &mut HashSet<SessionId>,
     sessions: &[Session],
     rows: &[SessionGroup],
 ) -> Result<(), AllocError>
@@ -122,28 +122,28 @@ fn note_groups(
     Ok(())
 }
 
-pub(crate) fn any_numbered(numbers: &HashMap<u32, bool>, rows: &[Bucket]) -> bool
+pub(crate) fn any_numbered(numbers: &HashSet<u32>, rows: &[Bucket]) -> bool
     ensures { result ≡ list_any (λ b. is_numbered numbers.now b.number) rows.now }
 {
-    rows.iter().any(|row| numbers.contains_key(&row.number()))
+    rows.iter().any(|row| numbers.contains(&row.number()))
 }
 
-pub(crate) fn any_of_cycles(cycles: &HashMap<u32, bool>, rows: &[Counter]) -> bool
+pub(crate) fn any_of_cycles(cycles: &HashSet<u32>, rows: &[Counter]) -> bool
     ensures { result ≡ list_any (λ c. is_numbered cycles.now c.cycle) rows.now }
 {
-    rows.iter().any(|row| cycles.contains_key(&row.cycle))
+    rows.iter().any(|row| cycles.contains(&row.cycle))
 }
 
-pub(crate) fn any_named(names: &HashMap<SessionId, bool>, rows: &[Session]) -> bool
+pub(crate) fn any_named(names: &HashSet<SessionId>, rows: &[Session]) -> bool
     ensures { result ≡ list_any (λ r. is_named names.now r.id) rows.now }
 {
-    rows.iter().any(|row| names.contains_key(&row.id))
+    rows.iter().any(|row| names.contains(&row.id))
 }
 
 /// Whether a session is known. None of these sessions is; its row is looked for among them from
 /// this place on.
 fn is_known(
-    names: &HashMap<SessionId, bool>,
+    names: &HashSet<SessionId>,
     sessions: &[Session],
     place: &mut usize,
     session: &SessionId,
@@ -154,12 +154,12 @@ fn is_known(
     if has_session_near(sessions, place, session) {
         return false;
     }
-    names.contains_key(session)
+    names.contains(session)
 }
 
 /// Whether the session of a group is known. None of these sessions is.
 pub(crate) fn any_group_named(
-    names: &HashMap<SessionId, bool>,
+    names: &HashSet<SessionId>,
     sessions: &[Session],
     rows: &[SessionGroup],
 ) -> bool
@@ -176,19 +176,14 @@ pub(crate) fn any_group_named(
 }
 
 /// Whether a counter that was left is of this cycle at the moment.
-fn is_left_now(
-    cycles: &HashMap<u32, bool>,
-    shelf: &TariffShelf,
-    cycle: Cycle,
-    moment: Moment,
-) -> bool
+fn is_left_now(cycles: &HashSet<u32>, shelf: &TariffShelf, cycle: Cycle, moment: Moment) -> bool
     ensures { result ≡ is_left_now shelf.now moment cycles.now cycle }
 {
-    cycles.contains_key(&shelf.book_at(moment).cycle_of(cycle, moment))
+    cycles.contains(&shelf.book_at(moment).cycle_of(cycle, moment))
 }
 
 /// Whether a counter that was left may be of a cycle at the moment, whatever its group.
-pub(crate) fn may_go_on(cycles: &HashMap<u32, bool>, shelf: &TariffShelf, moment: Moment) -> bool
+pub(crate) fn may_go_on(cycles: &HashSet<u32>, shelf: &TariffShelf, moment: Moment) -> bool
     ensures { result ≡ may_go_on shelf.now moment cycles.now }
 {
     is_left_now(cycles, shelf, Cycle::None, moment)

@@ -15,7 +15,7 @@ use buckets::Bucket;
 use identifiers::SessionId;
 use reserving::{Counter, Session, SessionGroup, SessionState, StoredAccount};
 use std::alloc::{AllocError, Global};
-use std::collections::HashMap;
+use std::collections::HashSet;
 
 /// Rows that can't change any more.
 #[derive(Drop)]
@@ -152,7 +152,7 @@ fn leaving_groups(
     Ok(rows)
 }
 
-fn keep_buckets(rows: &mut Vec<Bucket>, numbers: &HashMap<u32, bool>, after: &StoredAccount)
+fn keep_buckets(rows: &mut Vec<Bucket>, numbers: &HashSet<u32>, after: &StoredAccount)
     requires { AreLeftBuckets numbers.now rows.old.items }
     ensures { rows.new.items ≡ filter (leaves_bucket after.now) rows.old.items }
 {
@@ -162,7 +162,7 @@ fn keep_buckets(rows: &mut Vec<Bucket>, numbers: &HashMap<u32, bool>, after: &St
     rows.retain(|row| row.is_dead() && !has_bucket(after.purse().buckets(), row.number()));
 }
 
-fn keep_counters(rows: &mut Vec<Counter>, cycles: &HashMap<u32, bool>, after: &StoredAccount)
+fn keep_counters(rows: &mut Vec<Counter>, cycles: &HashSet<u32>, after: &StoredAccount)
     requires { AreLeftCounters cycles.now rows.old.items }
     ensures { rows.new.items ≡ filter (leaves_counter after.now) rows.old.items }
 {
@@ -189,11 +189,7 @@ fn filter_groups(rows: &mut Vec<SessionGroup>, after: &StoredAccount)
 }
 
 /// The same, where none of the sessions is known.
-fn keep_groups(
-    rows: &mut Vec<SessionGroup>,
-    names: &HashMap<SessionId, bool>,
-    after: &StoredAccount,
-)
+fn keep_groups(rows: &mut Vec<SessionGroup>, names: &HashSet<SessionId>, after: &StoredAccount)
     requires left { AreLeftGroups names.now rows.old.items }
     requires unnamed { list_any (λ r. is_named names.now r.id) after.now.sessions ≡ false }
     ensures { rows.new.items ≡ filter (leaves_group after.now) rows.old.items }

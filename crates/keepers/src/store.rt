@@ -30,7 +30,7 @@ use reserving::{
 };
 use shelves::TariffShelf;
 use std::alloc::{AllocError, Global};
-use std::collections::HashMap;
+use std::collections::HashSet;
 use std::marker::Model;
 use units::Moment;
 
@@ -97,9 +97,9 @@ impl Store {
             groups: Vec::new(alloc),
         };
         let known = Known {
-            numbers: HashMap::new(alloc),
-            names: HashMap::new(alloc),
-            cycles: HashMap::new(alloc),
+            numbers: HashSet::new(alloc),
+            names: HashSet::new(alloc),
+            cycles: HashSet::new(alloc),
         };
         Store {
             live,
@@ -149,7 +149,7 @@ impl Store {
             (session_in session.now (self.now.left.sessions ++ self.now.live.sessions)) }
     {
         self.live.has_session(session)
-            || (self.known.names.contains_key(session) && has_session(&self.left.sessions, session))
+            || (self.known.names.contains(session) && has_session(&self.left.sessions, session))
     }
 
     /// Puts the rows of a change over those that are there. At a fault nothing has changed, as
@@ -267,7 +267,7 @@ impl Store {
 /// The counters that were left, where one of them may be of a cycle at the moment; else none, so
 /// that past cycles are neither searched nor copied.
 fn going_on<'s>(
-    cycles: &HashMap<u32, bool>,
+    cycles: &HashSet<u32>,
     rows: &'s [Counter],
     shelf: &TariffShelf,
     moment: Moment,
@@ -287,7 +287,7 @@ fn going_on<'s>(
 /// The groups that were left, where the session of one of them may be among these; else none, so
 /// that past sessions' groups are neither searched nor copied.
 fn back_from<'s>(
-    names: &HashMap<SessionId, bool>,
+    names: &HashSet<SessionId>,
     sessions: &[Session],
     groups: &'s [SessionGroup],
 ) -> &'s [SessionGroup]

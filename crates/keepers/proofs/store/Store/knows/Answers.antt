@@ -15,23 +15,23 @@ returns-then-has_session c =
     (sym live ∙ c.if-has_session.true)
     ∙ ap (λ (q : Parts). is_some (session_in s (q.left.sessions ++ q.live.sessions))) c.self.view_is
 
-pub returns-then-contains_key : goal.returns-then-contains_key
-returns-then-contains_key c =
+pub returns-then-contains : goal.returns-then-contains
+returns-then-contains c =
     let p : Parts = parts_of c.self.inside in
     let s = c.args.session.now in
     let live = c.has_session.ensures in
-    c.has_session-then-contains_key.ensures
+    c.has_session-then-contains.ensures
     ∙ ap (λ xs. is_some (session_in s xs)) c.deref.ensures.value
     ∙ known_left s p.left.sessions p.live.sessions (sym live ∙ c.if-has_session.false)
     ∙ ap (λ (q : Parts). is_some (session_in s (q.left.sessions ++ q.live.sessions))) c.self.view_is
 
-pub returns-else-contains_key : goal.returns-else-contains_key
-returns-else-contains_key c =
+pub returns-else-contains : goal.returns-else-contains
+returns-else-contains c =
     let p : Parts = parts_of c.self.inside in
     let s = c.args.session.now in
     let live = c.has_session.ensures in
-    c.if-contains_key.false
+    c.if-contains.false
     ∙ known_none c.self.inside.known.names s p.left.sessions p.live.sessions
-    c.self.invariant.sessions (sym c.contains_key.ensures ∙ c.if-contains_key.false)
+    c.self.invariant.sessions (sym c.contains.ensures ∙ c.if-contains.false)
     (sym live ∙ c.if-has_session.false)
     ∙ ap (λ (q : Parts). is_some (session_in s (q.left.sessions ++ q.live.sessions))) c.self.view_is
