@@ -36,36 +36,36 @@ kind_from Blocks Blocks e = refl
 
 pub bucket_from : (x y : BucketRow) → equal_bucket x y ≡ true → x ≡ y
 bucket_from x y e =
-    let number = both (x.number == y.number) _ e in
-    let kind = both (same_kind x.kind y.kind) _ number.1 in
-    let from = both (x.from == y.from) _ kind.1 in
-    let until = both (x.until == y.until) _ from.1 in
-    let scope = both (same_scope x.scope y.scope) _ until.1 in
-    let credited = both (x.credited == y.credited) _ scope.1 in
-    let available = both (x.available == y.available) _ credited.1 in
-    let reserved = both (x.reserved == y.reserved) _ available.1 in
-    let charged = both (x.charged == y.charged) (x.expired == y.expired) reserved.1 in
+    let expired = both _ (x.expired == y.expired) e in
+    let charged = both _ (x.charged == y.charged) expired.0 in
+    let reserved = both _ (x.reserved == y.reserved) charged.0 in
+    let available = both _ (x.available == y.available) reserved.0 in
+    let credited = both _ (x.credited == y.credited) available.0 in
+    let scope = both _ (same_scope x.scope y.scope) credited.0 in
+    let until = both _ (x.until == y.until) scope.0 in
+    let from = both _ (x.from == y.from) until.0 in
+    let kind = both (x.number == y.number) (same_kind x.kind y.kind) from.0 in
     λ i. record {
-      number = number_from x.number y.number number.0 i;
-      kind = kind_from x.kind y.kind kind.0 i;
-      from = number_from x.from y.from from.0 i;
-      until = number_from x.until y.until until.0 i;
-      scope = scope_from x.scope y.scope scope.0 i;
-      credited = number_from x.credited y.credited credited.0 i;
-      available = number_from x.available y.available available.0 i;
-      reserved = number_from x.reserved y.reserved reserved.0 i;
-      charged = number_from x.charged y.charged charged.0 i;
-      expired = number_from x.expired y.expired charged.1 i;
+      number = number_from x.number y.number kind.0 i;
+      kind = kind_from x.kind y.kind kind.1 i;
+      from = number_from x.from y.from from.1 i;
+      until = number_from x.until y.until until.1 i;
+      scope = scope_from x.scope y.scope scope.1 i;
+      credited = number_from x.credited y.credited credited.1 i;
+      available = number_from x.available y.available available.1 i;
+      reserved = number_from x.reserved y.reserved reserved.1 i;
+      charged = number_from x.charged y.charged charged.1 i;
+      expired = number_from x.expired y.expired expired.1 i;
     }
 
 pub counter_from : (x y : Counter) → equal_counter x y ≡ true → x ≡ y
 counter_from x y e =
-    let group = both (x.group == y.group) _ e in
-    let cycle = both (x.cycle == y.cycle) (x.blocks == y.blocks) group.1 in
+    let blocks = both _ (x.blocks == y.blocks) e in
+    let cycle = both (x.group == y.group) (x.cycle == y.cycle) blocks.0 in
     λ i. record {
-      group = number_from x.group y.group group.0 i;
-      cycle = number_from x.cycle y.cycle cycle.0 i;
-      blocks = number_from x.blocks y.blocks cycle.1 i;
+      group = number_from x.group y.group cycle.0 i;
+      cycle = number_from x.cycle y.cycle cycle.1 i;
+      blocks = number_from x.blocks y.blocks blocks.1 i;
     }
 
 state_from : (x y : SessionState) → same_state x y ≡ true → x ≡ y
@@ -81,14 +81,14 @@ state_from NeverOpened NeverOpened e = refl
 
 pub session_from : (x y : Session) → equal_session x y ≡ true → x ≡ y
 session_from x y e =
-    let id = both _ _ e in
-    let number = both (x.last_number == y.last_number) _ id.1 in
-    let touched = both (x.touched == y.touched) (same_state x.state y.state) number.1 in
+    let state = both _ (same_state x.state y.state) e in
+    let touched = both _ (x.touched == y.touched) state.0 in
+    let number = both _ (x.last_number == y.last_number) touched.0 in
     λ i. record {
-      id = same_from x.id y.id id.0 i;
-      last_number = number_from x.last_number y.last_number number.0 i;
-      touched = number_from x.touched y.touched touched.0 i;
-      state = state_from x.state y.state touched.1 i;
+      id = same_from x.id y.id number.0 i;
+      last_number = number_from x.last_number y.last_number number.1 i;
+      touched = number_from x.touched y.touched touched.1 i;
+      state = state_from x.state y.state state.1 i;
     }
 
 periods_from : (x y : Periods) → equal_periods x y ≡ true → x ≡ y
@@ -136,12 +136,12 @@ reservation_from (Some x) (Some y) e =
 
 pub group_from : (x y : SessionGroup) → equal_group x y ≡ true → x ≡ y
 group_from x y e =
-    let session = both _ _ e in
-    let group = both (x.group == y.group) _ session.1 in
-    let used = both (x.used == y.used) (equal_reservation x.reservation y.reservation) group.1 in
+    let reserved = both _ (equal_reservation x.reservation y.reservation) e in
+    let used = both _ (x.used == y.used) reserved.0 in
+    let group = both _ (x.group == y.group) used.0 in
     λ i. record {
-      session = same_from x.session y.session session.0 i;
-      group = number_from x.group y.group group.0 i;
-      used = number_from x.used y.used used.0 i;
-      reservation = reservation_from x.reservation y.reservation used.1 i;
+      session = same_from x.session y.session group.0 i;
+      group = number_from x.group y.group group.1 i;
+      used = number_from x.used y.used used.1 i;
+      reservation = reservation_from x.reservation y.reservation reserved.1 i;
     }

@@ -45,10 +45,10 @@ state_itself NeverOpened = refl
 
 session_itself : (x : Session) → equal_session x x ≡ true
 session_itself x =
-    both_true (is_same x.id x.id) _ (is_same-refl x.id)
-    (both_true (x.last_number == x.last_number) _ (number_same x.last_number)
-    (both_true (x.touched == x.touched) (same_state x.state x.state) (number_same x.touched)
-    (state_itself x.state)))
+    let number = both_true (is_same x.id x.id) (x.last_number == x.last_number)
+    (is_same-refl x.id) (number_same x.last_number) in
+    let touched = both_true _ (x.touched == x.touched) number (number_same x.touched) in
+    both_true _ (same_state x.state x.state) touched (state_itself x.state)
 
 holds_themselves : (xs : List HeldAmount) → pointwise equal_hold xs xs ≡ true
 holds_themselves [] = refl
@@ -71,10 +71,11 @@ reservation_itself (Some x) =
 
 group_itself : (x : SessionGroup) → equal_group x x ≡ true
 group_itself x =
-    both_true (is_same x.session x.session) _ (is_same-refl x.session)
-    (both_true (x.group == x.group) _ (number_same x.group)
-    (both_true (x.used == x.used) (equal_reservation x.reservation x.reservation)
-    (number_same x.used) (reservation_itself x.reservation)))
+    let group = both_true (is_same x.session x.session) (x.group == x.group)
+    (is_same-refl x.session) (number_same x.group) in
+    let used = both_true _ (x.used == x.used) group (number_same x.used) in
+    both_true _ (equal_reservation x.reservation x.reservation) used
+    (reservation_itself x.reservation)
 
 -- ---- lists of which the other rows are the same
 
@@ -160,13 +161,18 @@ module _ {A : Type 0} (eq : A → A → Bool) (itself : (x : A) → eq x x ≡ t
 session_alone : (s : List ℕ) (x y : Session) → is_session s x ≡ true → equal_session x y ≡ true →
     is_session s y ≡ true
 session_alone s x y mine e =
-    ap (λ n. is_same n s) (sym (equal_names x.id y.id (and_parts (is_same x.id y.id) _ e).0)) ∙ mine
+    let touched = and_parts _ (same_state x.state y.state) e in
+    let number = and_parts _ (x.touched == y.touched) touched.0 in
+    let name = and_parts (is_same x.id y.id) (x.last_number == y.last_number) number.0 in
+    ap (λ n. is_same n s) (sym (equal_names x.id y.id name.0)) ∙ mine
 
 group_alone : (s : List ℕ) (x y : SessionGroup) → is_same x.session s ≡ true →
     equal_group x y ≡ true → is_same y.session s ≡ true
 group_alone s x y mine e =
-    ap (λ n. is_same n s)
-    (sym (equal_names x.session y.session (and_parts (is_same x.session y.session) _ e).0)) ∙ mine
+    let used = and_parts _ (equal_reservation x.reservation y.reservation) e in
+    let group = and_parts _ (x.used == y.used) used.0 in
+    let name = and_parts (is_same x.session y.session) (x.group == y.group) group.0 in
+    ap (λ n. is_same n s) (sym (equal_names x.session y.session name.0)) ∙ mine
 
 pub named_own : (s : List ℕ) (before after : StoredRows) →
     other_sessions s after.sessions ≡ other_sessions s before.sessions →

@@ -42,13 +42,12 @@ same_kind x y = false
 
 abbrev pub equal_bucket : BucketRow → BucketRow → Bool
 equal_bucket x y =
-    x.number == y.number && (same_kind x.kind y.kind && (x.from == y.from &&
-    (x.until == y.until && (same_scope x.scope y.scope && (x.credited == y.credited
-    && (x.available == y.available &&
-    (x.reserved == y.reserved && (x.charged == y.charged && x.expired == y.expired))))))))
+    x.number == y.number && same_kind x.kind y.kind && x.from == y.from && x.until == y.until
+    && same_scope x.scope y.scope && x.credited == y.credited && x.available == y.available
+    && x.reserved == y.reserved && x.charged == y.charged && x.expired == y.expired
 
 abbrev pub equal_counter : Counter → Counter → Bool
-equal_counter x y = x.group == y.group && (x.cycle == y.cycle && x.blocks == y.blocks)
+equal_counter x y = x.group == y.group && x.cycle == y.cycle && x.blocks == y.blocks
 
 abbrev pub same_state : SessionState → SessionState → Bool
 same_state Open Open = true
@@ -57,8 +56,9 @@ same_state NeverOpened NeverOpened = true
 same_state x y = false
 
 abbrev pub equal_session : Session → Session → Bool
-equal_session x y = is_same x.id y.id &&
-    (x.last_number == y.last_number && (x.touched == y.touched && same_state x.state y.state))
+equal_session x y =
+    is_same x.id y.id && x.last_number == y.last_number && x.touched == y.touched
+    && same_state x.state y.state
 
 abbrev pub equal_periods : Periods → Periods → Bool
 equal_periods x y = x.before.0 == y.before.0 && x.after.0 == y.after.0
@@ -76,8 +76,9 @@ equal_reservation (Some x) (Some y) =
 equal_reservation x y = false
 
 abbrev pub equal_group : SessionGroup → SessionGroup → Bool
-equal_group x y = is_same x.session y.session &&
-    (x.group == y.group && (x.used == y.used && equal_reservation x.reservation y.reservation))
+equal_group x y =
+    is_same x.session y.session && x.group == y.group && x.used == y.used
+    && equal_reservation x.reservation y.reservation
 
 -- ---- the rows of a change
 

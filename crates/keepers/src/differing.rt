@@ -174,21 +174,21 @@ fn equal_bucket(x: &Bucket, y: &Bucket) -> bool
     ensures { result ≡ equal_bucket x.now y.now }
 {
     x.number() == y.number()
-        && (same_kind(x.kind(), y.kind())
-            && (x.from() == y.from()
-                && (x.until() == y.until()
-                    && (same_scope(x.scope(), y.scope())
-                        && (x.credited() == y.credited()
-                            && (x.available() == y.available()
-                                && (x.reserved() == y.reserved()
-                                    && (x.charged() == y.charged()
-                                        && x.expired() == y.expired()))))))))
+        && same_kind(x.kind(), y.kind())
+        && x.from() == y.from()
+        && x.until() == y.until()
+        && same_scope(x.scope(), y.scope())
+        && x.credited() == y.credited()
+        && x.available() == y.available()
+        && x.reserved() == y.reserved()
+        && x.charged() == y.charged()
+        && x.expired() == y.expired()
 }
 
 fn equal_counter(x: &Counter, y: &Counter) -> bool
     ensures { result ≡ equal_counter x.now y.now }
 {
-    x.group == y.group && (x.cycle == y.cycle && x.blocks == y.blocks)
+    x.group == y.group && x.cycle == y.cycle && x.blocks == y.blocks
 }
 
 fn same_state(x: SessionState, y: SessionState) -> bool
@@ -206,8 +206,9 @@ pub(crate) fn equal_session(x: &Session, y: &Session) -> bool
     ensures { result ≡ equal_session x.now y.now }
 {
     x.id == y.id
-        && (x.last_number == y.last_number
-            && (x.touched == y.touched && same_state(x.state, y.state)))
+        && x.last_number == y.last_number
+        && x.touched == y.touched
+        && same_state(x.state, y.state)
 }
 
 fn equal_periods(x: &Periods, y: &Periods) -> bool
@@ -244,6 +245,7 @@ fn equal_group(x: &SessionGroup, y: &SessionGroup) -> bool
     ensures { result ≡ equal_group x.now y.now }
 {
     x.session == y.session
-        && (x.group == y.group
-            && (x.used == y.used && equal_reservation(&x.reservation, &y.reservation)))
+        && x.group == y.group
+        && x.used == y.used
+        && equal_reservation(&x.reservation, &y.reservation)
 }
