@@ -34,21 +34,10 @@ fn are_rising(rows: &[ChargeRow]) -> bool
 fn nearer(least: u64, number: u32, found: Option<u32>) -> Option<u32>
     ensures { result ≡ nearer least number found }
 {
-    match found {
-        None => {
-            if least <= u64::from(number) {
-                Some(number)
-            } else {
-                None
-            }
-        }
-        Some(before) => {
-            if least <= u64::from(number) && number < before {
-                Some(number)
-            } else {
-                Some(before)
-            }
-        }
+    if u64::from(number) < least || found.is_some_and(|before| before <= number) {
+        found
+    } else {
+        Some(number)
     }
 }
 
