@@ -34,5 +34,6 @@ pub mod ByNumber
 pub mod Parted
 pub mod Paged
 pub mod Numbered
+pub mod Fresh
 pub mod WrittenParts
 pub mod Recorded

@@ -3,7 +3,7 @@
 use Rattle.std.proofs.Common.{◌≡◌, ℕ, ◌≤◌, Bool, true, false, cond, List, [], ◌∷◌, ◌++◌, refl, sym}
 use Rattle.std.proofs.Common.{ap, subst, ◌∙◌, Option, Some, None}
 use Rattle.std.specs.Prelude.{◌==◌, ◌&&◌, not, nat_le, filter, is_some, option_map}
-use Rattle.std.specs.List.{find, list_any, list_all}
+use Rattle.std.specs.List.{find, list_all}
 use Rattle.std.specs.List.Sorted.{IsPermutation}
 use Rattle.std.proofs.lemmas.Bool.{and_parts, not-true}
 use Rattle.std.proofs.lemmas.List.{append-nil}
@@ -12,7 +12,6 @@ use Rattle.units.specs.Words.{most_used}
 use Rattle.buckets.specs.Row.{BucketRow}
 use Rattle.reserving.specs.declared.session.Session.{Session}
 use Rattle.reserving.specs.declared.session.SessionGroup.{SessionGroup}
-use Rattle.reserving.specs.declared.session.Counter.{Counter}
 use Rattle.ledger.specs.Ledger.{is_same}
 use Rattle.reserving.specs.Sessions.{is_session, is_of, is_open, session_in, group_in}
 use Rattle.reserving.specs.Sessions.{session_before, group_before}
@@ -25,7 +24,6 @@ use Rattle.reserving.specs.Restored.{given}
 use Rattle.reserving.specs.Left.{is_dead, first_of}
 use Rattle.reserving.specs.Written.{rows_written, are_held_on, is_writable}
 use Rattle.reserving.proofs.Lists.{no_some, EachIn-weaker, none_each}
-use Rattle.ledger.proofs.Holds.{same_from}
 use Rattle.reserving.proofs.Keys.{first_true, second_true}
 use Rattle.reserving.proofs.KeysFound.{is_none_is}
 use Rattle.reserving.proofs.LeftTests.{apart_append, each_append}
@@ -45,6 +43,8 @@ use Rattle.keepers.specs.Keyed.{same_bucket, same_session, same_group, same_coun
 use Rattle.keepers.specs.Overlaying.{stays_bucket, is_fresh, IsGivenOver}
 use Rattle.keepers.specs.Recorded.{is_past_group, are_past, rest_of, recorded}
 use Rattle.keepers.proofs.Found.{apart_first, apart_rest}
+use Rattle.keepers.proofs.Fresh.{AreFresh, are_fresh, left_sessions, left_groups, alike_session}
+use Rattle.keepers.proofs.Fresh.{alike_group}
 use Rattle.keepers.proofs.Kept.{kept_known}
 use Rattle.keepers.proofs.GroupRows.{row_over, held_over_is}
 use Rattle.keepers.proofs.WrittenParts.{across, both_each, none_there, unnamed, written_parts}
@@ -140,51 +140,23 @@ module _ (names : Names) (cycles : Numbers) (w : StoredRows) (bs : List BucketRo
     (known_sessions : AreLeftSessions names p.left.sessions)
     (known_groups : AreLeftGroups names p.left.groups)
     (known_counters : AreLeftCounters cycles p.left.counters) where
-  two : (not (list_any (λ (r : Session). is_named names r.id) w.sessions)
-      && not (list_any (λ (r : SessionGroup). is_named names r.session) w.groups) ≡ true)
-      × (not (list_any (λ (c : Counter). is_numbered cycles c.cycle) w.counters) ≡ true)
-  two = and_parts _ _ fresh
-
-  one : (not (list_any (λ (r : Session). is_named names r.id) w.sessions) ≡ true)
-      × (not (list_any (λ (r : SessionGroup). is_named names r.session) w.groups) ≡ true)
-  one = and_parts _ _ two.0
+  new_rows : AreFresh names cycles w
+  new_rows = are_fresh names cycles w fresh
 
   rest_parts : AreParts (rest w p)
   rest_parts = written_parts names cycles (rest_of w) bs p h live new held all apart tt tt
-      counters two.1 known_sessions known_groups known_counters
+      counters new_rows.new_cycles known_sessions known_groups known_counters
 
   rest_rows : rows_of_parts (rest w p) ≡
       over (record (rest_of w) { buckets = bs }) (rows_of_parts p)
   rest_rows = written_rows names cycles (rest_of w) bs p h live new held all apart tt tt
-      counters two.1 known_sessions known_groups known_counters
-
-  -- ---- what is known of the names
-
-  no_session : list_any (λ (r : Session). is_named names r.id) w.sessions ≡ false
-  no_session = not-true _ one.0
-
-  no_group : list_any (λ (r : SessionGroup). is_named names r.session) w.groups ≡ false
-  no_group = not-true _ one.1
+      counters new_rows.new_cycles known_sessions known_groups known_counters
 
   told_sessions : EachIn (λ (r : Session). is_named names r.id ≡ true) p.left.sessions
-  told_sessions = EachIn-weaker
-      (λ (r : Session). (is_open r.state ≡ false) × (is_named names r.id ≡ true))
-      (λ (r : Session). is_named names r.id ≡ true) p.left.sessions (λ r x. x.1) known_sessions
+  told_sessions = left_sessions names p.left.sessions known_sessions
 
   told_groups : EachIn (λ (r : SessionGroup). is_named names r.session ≡ true) p.left.groups
-  told_groups = EachIn-weaker
-      (λ (r : SessionGroup). (is_some r.reservation ≡ false) × (is_named names r.session ≡ true))
-      (λ (r : SessionGroup). is_named names r.session ≡ true) p.left.groups (λ r x. x.1)
-      known_groups
-
-  alike_session : (x y : Session) → same_session x y ≡ true →
-      is_named names y.id ≡ is_named names x.id
-  alike_session x y e = ap (is_named names) (same_from y.id x.id e)
-
-  alike_group : (x y : SessionGroup) → same_group x y ≡ true →
-      is_named names y.session ≡ is_named names x.session
-  alike_group x y e = ap (is_named names) (same_from y.session x.session
-      (first_true (is_same y.session x.session) (y.group == x.group) e))
+  told_groups = left_groups names p.left.groups known_groups
 
   -- ---- what is known of the rows of sessions
 
@@ -242,14 +214,14 @@ module _ (names : Names) (cycles : Numbers) (w : StoredRows) (bs : List BucketRo
   sessions_behind : EachIn (λ x. EachIn (λ y. same_session x y ≡ false) w.sessions) p.left.sessions
   sessions_behind = EachIn-weaker (λ (r : Session). is_named names r.id ≡ true)
       (λ x. EachIn (λ y. same_session x y ≡ false) w.sessions) p.left.sessions
-      (none_there session_before same_session (λ r. is_named names r.id) alike_session
-      p.left.sessions w.sessions p.live.sessions told_sessions no_session) told_sessions
+      (none_there session_before same_session (λ r. is_named names r.id) (alike_session names)
+      p.left.sessions w.sessions p.live.sessions told_sessions new_rows.sessions) told_sessions
 
   groups_behind : EachIn (λ x. EachIn (λ y. same_group x y ≡ false) w.groups) p.left.groups
   groups_behind = EachIn-weaker (λ (r : SessionGroup). is_named names r.session ≡ true)
       (λ x. EachIn (λ y. same_group x y ≡ false) w.groups) p.left.groups
-      (none_there group_before same_group (λ r. is_named names r.session) alike_group
-      p.left.groups w.groups p.live.groups told_groups no_group) told_groups
+      (none_there group_before same_group (λ r. is_named names r.session) (alike_group names)
+      p.left.groups w.groups p.live.groups told_groups new_rows.groups) told_groups
 
   after_parts : AreParts (after w p)
   after_parts = record {
@@ -284,15 +256,16 @@ module _ (names : Names) (cycles : Numbers) (w : StoredRows) (bs : List BucketRo
       session_in s ((p.left.sessions ++ w.sessions) ++ p.live.sessions) ≡
       first_of (session_in s w.sessions) (session_in s (p.left.sessions ++ p.live.sessions))
   session_more s = more_is (is_session s) p.left.sessions w.sessions p.live.sessions
-      (unnamed session_before same_session (λ r. is_named names r.id) alike_session p.left.sessions
-      w.sessions p.live.sessions told_sessions no_session (is_session s) (one_session s))
+      (unnamed session_before same_session (λ r. is_named names r.id) (alike_session names)
+      p.left.sessions w.sessions p.live.sessions told_sessions new_rows.sessions
+      (is_session s) (one_session s))
 
   group_more : (s : List ℕ) (g : ℕ) →
       group_in s g ((p.left.groups ++ w.groups) ++ p.live.groups) ≡
       first_of (group_in s g w.groups) (group_in s g (p.left.groups ++ p.live.groups))
   group_more s g = more_is (is_of s g) p.left.groups w.groups p.live.groups
-      (unnamed group_before same_group (λ r. is_named names r.session) alike_group p.left.groups
-      w.groups p.live.groups told_groups no_group (is_of s g) (one_group s g))
+      (unnamed group_before same_group (λ r. is_named names r.session) (alike_group names)
+      p.left.groups w.groups p.live.groups told_groups new_rows.groups (is_of s g) (one_group s g))
 
   after_rows : rows_of_parts (after w p) ≡ over (record w { buckets = bs }) (rows_of_parts p)
   after_rows = λ i. record {
@@ -311,7 +284,8 @@ module _ (names : Names) (cycles : Numbers) (w : StoredRows) (bs : List BucketRo
 -- ---- the rows of a change
 
 module _ (names : Names) (cycles : Numbers) (rows others : GivenRows) (taken : LeftStore)
-    (p : Parts) (h : AreParts p) (live : IsStored p.live) (past : are_past (given rows) p.live ≡ true)
+    (p : Parts) (h : AreParts p) (live : IsStored p.live)
+    (past : are_past (given rows) p.live ≡ true)
     (beside : given others ≡ rest_of (given rows))
     (none : taken.buckets.items ≡ []) (none_counted : taken.counters.items ≡ [])
     (own_sessions : taken.sessions.items ≡ rows.sessions.items)

@@ -9,8 +9,7 @@ use Rattle.buckets.specs.Row.{BucketRow}
 use Rattle.reserving.specs.declared.session.Session.{Session}
 use Rattle.reserving.specs.declared.session.SessionGroup.{SessionGroup}
 use Rattle.reserving.specs.declared.session.Counter.{Counter}
-use Rattle.ledger.specs.Ledger.{is_same}
-use Rattle.reserving.specs.Sessions.{is_session, is_of, is_counter, is_open, session_in, group_in}
+use Rattle.reserving.specs.Sessions.{is_session, is_of, is_counter, session_in, group_in}
 use Rattle.reserving.specs.Sessions.{counter_in, session_before, group_before, counter_before}
 use Rattle.ledger.specs.Lists.{EachIn}
 use Rattle.reserving.specs.Rows.{AreApart}
@@ -23,7 +22,7 @@ use Rattle.reserving.proofs.Lists.{not_both, no_some, find-passes, EachIn-found,
 use Rattle.reserving.proofs.Lists.{none_passing, none_each, each_none}
 use Rattle.ledger.proofs.Holds.{same_from}
 use Rattle.ledger.proofs.Names.{number_same}
-use Rattle.reserving.proofs.Keys.{first_true, second_true, same_number}
+use Rattle.reserving.proofs.Keys.{second_true, same_number}
 use Rattle.reserving.proofs.KeysFound.{is_none_is}
 use Rattle.reserving.proofs.LeftTests.{apart_append}
 use Rattle.reserving.proofs.LeftParted.{one_session, one_group, one_counter, find_both}
@@ -43,6 +42,8 @@ use Rattle.keepers.specs.Keyed.{same_bucket, same_session, same_group, same_coun
 use Rattle.keepers.specs.Naming.{IsNamed}
 use Rattle.keepers.specs.Overlaying.{stays_bucket, is_fresh, IsGivenOver}
 use Rattle.keepers.proofs.Found.{one_bucket, apart_first, apart_rest, distinct_apart}
+use Rattle.keepers.proofs.Fresh.{AreFresh, are_fresh, left_sessions, left_groups, alike_session}
+use Rattle.keepers.proofs.Fresh.{alike_group}
 use Rattle.keepers.proofs.GroupRows.{row_over, held_over_is}
 use Rattle.keepers.proofs.Overlaid.{found_over}
 use Rattle.keepers.proofs.PartsKept.{apart_with}
@@ -153,43 +154,14 @@ module _ (names : Names) (cycles : Numbers) (w : StoredRows) (bs : List BucketRo
   abbrev after : Parts
   after = record { live = rows_written w p.live; left = p.left }
 
-  two : (not (list_any (λ (r : Session). is_named names r.id) w.sessions)
-      && not (list_any (λ (r : SessionGroup). is_named names r.session) w.groups) ≡ true)
-      × (not (list_any (λ (c : Counter). is_numbered cycles c.cycle) w.counters) ≡ true)
-  two = and_parts _ _ fresh
-
-  one : (not (list_any (λ (r : Session). is_named names r.id) w.sessions) ≡ true)
-      × (not (list_any (λ (r : SessionGroup). is_named names r.session) w.groups) ≡ true)
-  one = and_parts _ _ two.0
-
-  no_session : list_any (λ (r : Session). is_named names r.id) w.sessions ≡ false
-  no_session = not-true _ one.0
-
-  no_group : list_any (λ (r : SessionGroup). is_named names r.session) w.groups ≡ false
-  no_group = not-true _ one.1
-
-  no_counter : list_any (λ (c : Counter). is_numbered cycles c.cycle) w.counters ≡ false
-  no_counter = not-true _ two.1
+  new_rows : AreFresh names cycles w
+  new_rows = are_fresh names cycles w fresh
 
   told_sessions : EachIn (λ (r : Session). is_named names r.id ≡ true) p.left.sessions
-  told_sessions = EachIn-weaker
-      (λ (r : Session). (is_open r.state ≡ false) × (is_named names r.id ≡ true))
-      (λ (r : Session). is_named names r.id ≡ true) p.left.sessions (λ r x. x.1) known_sessions
+  told_sessions = left_sessions names p.left.sessions known_sessions
 
   told_groups : EachIn (λ (r : SessionGroup). is_named names r.session ≡ true) p.left.groups
-  told_groups = EachIn-weaker
-      (λ (r : SessionGroup). (is_some r.reservation ≡ false) × (is_named names r.session ≡ true))
-      (λ (r : SessionGroup). is_named names r.session ≡ true) p.left.groups (λ r x. x.1)
-      known_groups
-
-  alike_session : (x y : Session) → same_session x y ≡ true →
-      is_named names y.id ≡ is_named names x.id
-  alike_session x y e = ap (is_named names) (same_from y.id x.id e)
-
-  alike_group : (x y : SessionGroup) → same_group x y ≡ true →
-      is_named names y.session ≡ is_named names x.session
-  alike_group x y e = ap (is_named names) (same_from y.session x.session
-      (first_true (is_same y.session x.session) (y.group == x.group) e))
+  told_groups = left_groups names p.left.groups known_groups
 
   alike_counter : (x y : Counter) → same_counter x y ≡ true →
       is_numbered cycles y.cycle ≡ is_numbered cycles x.cycle
@@ -263,22 +235,23 @@ module _ (names : Names) (cycles : Numbers) (w : StoredRows) (bs : List BucketRo
       first_of (session_in s w.sessions) (session_in s (p.left.sessions ++ p.live.sessions))
   session_over s = written_is (is_session s) p.left.sessions w.sessions p.live.sessions
       after.live.sessions (session_found s w.sessions p.live.sessions sessions)
-      (unnamed session_before same_session (λ r. is_named names r.id) alike_session p.left.sessions
-      w.sessions p.live.sessions told_sessions no_session (is_session s) (one_session s))
+      (unnamed session_before same_session (λ r. is_named names r.id) (alike_session names)
+      p.left.sessions w.sessions p.live.sessions told_sessions new_rows.sessions
+      (is_session s) (one_session s))
 
   group_over : (s : List ℕ) (g : ℕ) → group_in s g (p.left.groups ++ after.live.groups) ≡
       first_of (group_in s g w.groups) (group_in s g (p.left.groups ++ p.live.groups))
   group_over s g = written_is (is_of s g) p.left.groups w.groups p.live.groups
       after.live.groups (group_found s g w.groups p.live.groups groups)
-      (unnamed group_before same_group (λ r. is_named names r.session) alike_group p.left.groups
-      w.groups p.live.groups told_groups no_group (is_of s g) (one_group s g))
+      (unnamed group_before same_group (λ r. is_named names r.session) (alike_group names)
+      p.left.groups w.groups p.live.groups told_groups new_rows.groups (is_of s g) (one_group s g))
 
   counter_over : (g c : ℕ) → counter_in g c (p.left.counters ++ after.live.counters) ≡
       first_of (counter_in g c w.counters) (counter_in g c (p.left.counters ++ p.live.counters))
   counter_over g c = written_is (is_counter g c) p.left.counters w.counters p.live.counters
       after.live.counters (counter_found g c w.counters p.live.counters counters)
       (unnamed counter_before same_counter (λ c. is_numbered cycles c.cycle) alike_counter
-      p.left.counters w.counters p.live.counters known_counters no_counter (is_counter g c)
+      p.left.counters w.counters p.live.counters known_counters new_rows.counters (is_counter g c)
       (one_counter g c))
 
   -- a group that was left is of no session that is live
@@ -295,19 +268,20 @@ module _ (names : Names) (cycles : Numbers) (w : StoredRows) (bs : List BucketRo
           (λ z. is_session r.session z ≡ false) w.sessions
           (λ z k. not_same (is_session r.session z)
           (λ q. sym k ∙ ap (is_named names) (same_from z.id r.session q) ∙ e))
-          (none_passing (λ (z : Session). is_named names z.id) w.sessions no_session))
+          (none_passing (λ (z : Session). is_named names z.id) w.sessions new_rows.sessions))
 
   pub written_parts : AreParts after
   written_parts = record {
     buckets = buckets_apart;
     counters = apart_written counter_before same_counter (λ c. is_numbered cycles c.cycle)
-        alike_counter p.left.counters w.counters p.live.counters known_counters no_counter
+        alike_counter p.left.counters w.counters p.live.counters known_counters new_rows.counters
         h.counters new.counters;
-    sessions = apart_written session_before same_session (λ r. is_named names r.id) alike_session
-        p.left.sessions w.sessions p.live.sessions told_sessions no_session h.sessions
-        new.sessions;
-    groups = apart_written group_before same_group (λ r. is_named names r.session) alike_group
-        p.left.groups w.groups p.live.groups told_groups no_group h.groups new.groups;
+    sessions = apart_written session_before same_session (λ r. is_named names r.id)
+        (alike_session names) p.left.sessions w.sessions p.live.sessions told_sessions
+        new_rows.sessions h.sessions new.sessions;
+    groups = apart_written group_before same_group (λ r. is_named names r.session)
+        (alike_group names) p.left.groups w.groups p.live.groups told_groups
+        new_rows.groups h.groups new.groups;
     dead = h.dead;
     over = h.over;
     free = h.free;
