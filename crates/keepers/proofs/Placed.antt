@@ -2,7 +2,7 @@
 -- are kept.
 use Rattle.std.proofs.Common.{◌≡◌, ℕ, suc, ◌+◌, ◌<◌, Bool, true, false, cond, List, [], ◌∷◌, ◌++◌}
 use Rattle.std.proofs.Common.{length, length-set, get_or, set, refl, sym, ap, ◌∙◌, arith, Option}
-use Rattle.std.proofs.Common.{Some, None, Bor}
+use Rattle.std.proofs.Common.{Some, None, Bor, subst}
 use Rattle.std.specs.Prelude.{if◌then◌else◌, ◌==◌, nat_lt, is_some, position, Result, Ok, Err}
 use Rattle.std.specs.Prelude.{OnErr, OnOk}
 use Rattle.std.specs.List.{find, position_or_len, position_from}
@@ -60,6 +60,9 @@ on_err (Err e) p = p
 pub on_ok : {T E P : Type 0} (r : Result T E) → P → OnOk r P
 on_ok (Ok x) p = p
 on_ok (Err e) p = tt
+
+pub not_ok : {T E : Type 0} (P : Type 0) (r : Result T E) (e : E) → r ≡ Err e → OnOk r P
+not_ok P r e is = subst (λ x. OnOk x P) (sym is) tt
 
 pub head_there : (o : Option AccountEntry) → is_some o ≡ is_some (rows_of_entry o).head
 head_there None = refl

@@ -1,6 +1,7 @@
 //! A keeper whose store fails once, for tests.
 
-ghost use Rattle.std.specs.Prelude.{◌≡◌, ◌==◌, ◌-◌, ◌&&◌, not, true, false};
+ghost use Rattle.std.specs.Prelude.{◌≡◌, ◌==◌, ◌-◌, ◌&&◌, not, true, false, IfErr, OnOk};
+ghost use Rattle.keepers.specs.declared.fault.StoreFault.TheVariants.{Store};
 
 use crate::fault::StoreFault;
 use crate::keeper::Keeper;
@@ -71,6 +72,19 @@ impl<K: Keeper> Failing<K> {
         self.left -= 1;
         false
     }
+
+    /// A call's turn: store fault 2 where it fails.
+    pub(crate) fn turn(&mut self) -> Result<(), StoreFault>
+        ensures same { self.new.inner ≡ self.old.inner }
+        ensures raised { IfErr result (λ e. (e ≡ Store) × (self.old.failed ≡ false)
+            × (self.new.failed ≡ true)) }
+        ensures kept { OnOk result (self.new.failed ≡ self.old.failed) }
+    {
+        if self.fails() {
+            return Err(StoreFault::Store);
+        }
+        Ok(())
+    }
 }
 
 impl<K: Keeper> Keeper for Failing<K> {
@@ -100,9 +114,7 @@ impl<K: Keeper> Keeper for Failing<K> {
     }
 
     fn last(&mut self) -> Result<Moment, StoreFault> {
-        if self.fails() {
-            return Err(StoreFault::Store);
-        }
+        self.turn()?;
         self.inner.last()
     }
 
@@ -112,9 +124,7 @@ impl<K: Keeper> Keeper for Failing<K> {
         account: &AccountNumber,
         moment: Moment,
     ) -> Result<Option<Loaded<'b>>, StoreFault> {
-        if self.fails() {
-            return Err(StoreFault::Store);
-        }
+        self.turn()?;
         self.inner.load(shelf, account, moment)
     }
 
@@ -124,16 +134,12 @@ impl<K: Keeper> Keeper for Failing<K> {
         account: &AccountNumber,
         moment: Moment,
     ) -> Result<Option<Account<'b>>, StoreFault> {
-        if self.fails() {
-            return Err(StoreFault::Store);
-        }
+        self.turn()?;
         self.inner.view(shelf, account, moment)
     }
 
     fn has_account(&mut self, account: &AccountNumber) -> Result<bool, StoreFault> {
-        if self.fails() {
-            return Err(StoreFault::Store);
-        }
+        self.turn()?;
         self.inner.has_account(account)
     }
 
@@ -142,16 +148,12 @@ impl<K: Keeper> Keeper for Failing<K> {
         account: &AccountNumber,
         session: &SessionId,
     ) -> Result<bool, StoreFault> {
-        if self.fails() {
-            return Err(StoreFault::Store);
-        }
+        self.turn()?;
         self.inner.knows_session(account, session)
     }
 
     fn dead_buckets(&mut self, account: &AccountNumber) -> Result<Vec<Bucket>, StoreFault> {
-        if self.fails() {
-            return Err(StoreFault::Store);
-        }
+        self.turn()?;
         self.inner.dead_buckets(account)
     }
 
@@ -160,23 +162,17 @@ impl<K: Keeper> Keeper for Failing<K> {
         account: &AccountNumber,
         key: &Key,
     ) -> Result<Option<KeptAnswer>, StoreFault> {
-        if self.fails() {
-            return Err(StoreFault::Store);
-        }
+        self.turn()?;
         self.inner.find_answer(account, key)
     }
 
     fn find_voucher(&mut self, code: &VoucherCode) -> Result<Option<Voucher>, StoreFault> {
-        if self.fails() {
-            return Err(StoreFault::Store);
-        }
+        self.turn()?;
         self.inner.find_voucher(code)
     }
 
     fn commit(&mut self, change: Change) -> Result<(), StoreFault> {
-        if self.fails() {
-            return Err(StoreFault::Store);
-        }
+        self.turn()?;
         self.inner.commit(change)
     }
 
@@ -186,9 +182,7 @@ impl<K: Keeper> Keeper for Failing<K> {
         terms: VoucherTerms,
         moment: Moment,
     ) -> Result<(), StoreFault> {
-        if self.fails() {
-            return Err(StoreFault::Store);
-        }
+        self.turn()?;
         self.inner.add_voucher(code, terms, moment)
     }
 
@@ -197,9 +191,7 @@ impl<K: Keeper> Keeper for Failing<K> {
     }
 
     fn sweep(&mut self, shelf: &TariffShelf, moment: Moment) -> Result<u64, StoreFault> {
-        if self.fails() {
-            return Err(StoreFault::Store);
-        }
+        self.turn()?;
         self.inner.sweep(shelf, moment)
     }
 }

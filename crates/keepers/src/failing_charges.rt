@@ -15,9 +15,7 @@ impl<K: ChargeSource> ChargeSource for Failing<K> {
         until: Moment,
         visitor: &mut V,
     ) -> Result<(), StoreFault> {
-        if self.fails() {
-            return Err(StoreFault::Store);
-        }
+        self.turn()?;
         self.inner.each(account, from, until, visitor)
     }
 }

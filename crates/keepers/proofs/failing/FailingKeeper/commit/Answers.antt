@@ -1,21 +1,24 @@
-use Rattle.std.proofs.Common.{ap, subst}
-use Rattle.std.proofs.Common.{Err, inl}
-use Rattle.keepers.specs.declared.fault.StoreFault.TheVariants.{Store}
+use Rattle.std.proofs.Common.{ap, subst, inl}
+use Rattle.std.proofs.lemmas.Result.{err_from_is_err_and}
+use Rattle.keepers.proofs.Placed.{on_err, not_ok}
 use Rattle.keepers.proofs.Raised.{raised_cause}
 use Rattle.keepers.proofs.failing.FailingKeeper.commit.Goals as goal
 
-pub returns-then-fails-clause-kept : goal.returns-then-fails-clause-kept
-returns-then-fails-clause-kept c = λ c'.
-    let raised = c'.fails.ensures.raised c'.if-fails.true in
+pub returns-in_err-turn-clause-kept : goal.returns-in_err-turn-clause-kept
+returns-in_err-turn-clause-kept c = λ c'.
+    let raised = c'.in_err-turn.ensures.raised in
+    let p = err_from_is_err_and c'.from_residual.result c'.from_residual.ensures.1 in
     record {
-      err = λ clean. ap (λ k. (c.K.Keeper.seen k).tables) c'.fails.ensures.same;
-      cleanness = λ clean. subst (λ k. (c.K.Keeper.seen k).clean) c'.fails.ensures.same clean;
-      honesty = λ honest. subst (λ k. (c.K.Keeper.seen k).honest) c'.fails.ensures.same honest;
-      stands = λ honest. tt;
-      left = λ honest t l. inl (subst (λ k. (c.K.Keeper.seen k).left t) c'.fails.ensures.same l);
+      err = λ clean. on_err c'.from_residual.result
+          (ap (λ k. (c.K.Keeper.seen k).tables) c'.turn.ensures.same);
+      cleanness = λ clean. subst (λ k. (c.K.Keeper.seen k).clean) c'.turn.ensures.same clean;
+      honesty = λ honest. subst (λ k. (c.K.Keeper.seen k).honest) c'.turn.ensures.same honest;
+      stands = λ honest. not_ok (c.K.Keeper.seen c'.turn.new.self.inner).clean
+          c'.from_residual.result p.0 p.1;
+      left = λ honest t l. inl (subst (λ k. (c.K.Keeper.seen k).left t) c'.turn.ensures.same l);
       cause = raised_cause (c.K.Keeper.seen c'.args.self.now.inner).failed
-          (c.K.Keeper.seen c'.fails.new.self.inner).failed c'.args.self.now.failed
-          c'.fails.new.self.failed (Err Store)
+          (c.K.Keeper.seen c'.turn.new.self.inner).failed c'.args.self.now.failed
+          c'.turn.new.self.failed c'.from_residual.result
           (c.met.K.Keeper.bounded c'.args.self.now.inner)
-          (ap (λ k. (c.K.Keeper.seen k).failed) c'.fails.ensures.same) raised.0 raised.1;
+          (ap (λ k. (c.K.Keeper.seen k).failed) c'.turn.ensures.same) raised.1 raised.2;
     }
