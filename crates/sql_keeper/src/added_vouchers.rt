@@ -33,7 +33,7 @@ fn put_addition<S: Alter>(
     code: &VoucherCode,
     terms: VoucherTerms,
     moment: Moment,
-) -> Result<usize, Error>
+) -> Result<(), Error>
     requires open { IsInside (state S.Store tx.old.conn.now) }
     requires book { HasBook (state S.Store tx.old.conn.now) }
     requires rules { HasRules (state S.Store tx.old.conn.now) }

@@ -22,7 +22,7 @@ fn put_kind<S: Alter>(
     tx: &mut Transaction<'_, S>,
     account: &AccountNumber,
     bucket: &Bucket,
-) -> Result<usize, Error>
+) -> Result<(), Error>
     requires book { HasBook (state S.Store tx.old.conn.now) }
     ensures same_reference { tx.new.conn.ghost_name ≡ tx.old.conn.ghost_name }
     ensures makes { Attempts
@@ -40,7 +40,7 @@ fn put_scoped<S: Alter>(
     tx: &mut Transaction<'_, S>,
     account: &AccountNumber,
     bucket: &Bucket,
-) -> Result<usize, Error>
+) -> Result<(), Error>
     requires open { IsInside (state S.Store tx.old.conn.now) }
     requires book { HasBook (state S.Store tx.old.conn.now) }
     ensures same_reference { tx.new.conn.ghost_name ≡ tx.old.conn.ghost_name }
@@ -49,7 +49,7 @@ fn put_scoped<S: Alter>(
         (state S.Store tx.old.conn.now) (state S.Store tx.new.conn.now) result }
 {
     match bucket.scope() {
-        None => Ok(0),
+        None => Ok(()),
         Some(_) => put_kind(tx, account, bucket),
     }
 }
@@ -59,7 +59,7 @@ fn put_with_kind<S: Alter>(
     tx: &mut Transaction<'_, S>,
     account: &AccountNumber,
     bucket: &Bucket,
-) -> Result<usize, Error>
+) -> Result<(), Error>
     requires book { HasBook (state S.Store tx.old.conn.now) }
     ensures same_reference { tx.new.conn.ghost_name ≡ tx.old.conn.ghost_name }
     ensures makes { Attempts (Makes (with_counted account.now bucket.now))

@@ -69,7 +69,7 @@ fn put_columns<S: Alter>(
     account: &AccountNumber,
     books: &TariffShelf,
     row: &SessionGroup,
-) -> Result<usize, Error>
+) -> Result<(), Error>
     requires book { HasBook (state S.Store tx.old.conn.now) }
     ensures same_reference { tx.new.conn.ghost_name ≡ tx.old.conn.ghost_name }
     ensures makes { Attempts (Makes (with_rows account.now
@@ -87,7 +87,7 @@ fn put_number<S: Alter>(
     tx: &mut Transaction<'_, S>,
     account: &AccountNumber,
     row: &SessionGroup,
-) -> Result<usize, Error>
+) -> Result<(), Error>
     requires book { HasBook (state S.Store tx.old.conn.now) }
     ensures same_reference { tx.new.conn.ghost_name ≡ tx.old.conn.ghost_name }
     ensures makes { Attempts (Makes (with_rows account.now
@@ -169,7 +169,7 @@ fn put_new_number<S: Alter>(
     tx: &mut Transaction<'_, S>,
     account: &AccountNumber,
     row: &SessionGroup,
-) -> Result<usize, Error>
+) -> Result<(), Error>
     requires open { IsInside (state S.Store tx.old.conn.now) }
     requires book { HasBook (state S.Store tx.old.conn.now) }
     ensures same_reference { tx.new.conn.ghost_name ≡ tx.old.conn.ghost_name }
@@ -178,7 +178,7 @@ fn put_new_number<S: Alter>(
         (state S.Store tx.old.conn.now) (state S.Store tx.new.conn.now) result }
 {
     match &row.reservation {
-        None => Ok(0),
+        None => Ok(()),
         Some(reservation) => {
             let book = u32::from(reservation.terms.book);
             put_grant_book(tx, account, &row.session, row.group, book)
@@ -192,7 +192,7 @@ fn add_columns<S: Alter>(
     account: &AccountNumber,
     books: &TariffShelf,
     row: &SessionGroup,
-) -> Result<usize, Error>
+) -> Result<(), Error>
     requires book { HasBook (state S.Store tx.old.conn.now) }
     ensures same_reference { tx.new.conn.ghost_name ≡ tx.old.conn.ghost_name }
     ensures makes { Attempts (Makes (with_rows account.now

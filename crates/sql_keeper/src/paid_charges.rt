@@ -20,7 +20,7 @@ fn put_blocks<S: Alter>(
     tx: &mut Transaction<'_, S>,
     account: &AccountNumber,
     charge: &ChargeRow,
-) -> Result<usize, Error>
+) -> Result<(), Error>
     requires book { HasBook (state S.Store tx.old.conn.now) }
     ensures same_reference { tx.new.conn.ghost_name ≡ tx.old.conn.ghost_name }
     ensures makes { Attempts
@@ -39,7 +39,7 @@ fn put_with_blocks<S: Alter>(
     tx: &mut Transaction<'_, S>,
     account: &AccountNumber,
     charge: &ChargeRow,
-) -> Result<usize, Error>
+) -> Result<(), Error>
     requires book { HasBook (state S.Store tx.old.conn.now) }
     ensures same_reference { tx.new.conn.ghost_name ≡ tx.old.conn.ghost_name }
     ensures makes { Attempts (Makes (with_paid account.now charge.now))

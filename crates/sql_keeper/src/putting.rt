@@ -117,7 +117,7 @@ fn put_texts<S: Alter>(
     account: &AccountNumber,
     content: &Content,
     texts: &KeptTexts,
-) -> Result<usize, Error>
+) -> Result<(), Error>
     requires book { HasBook (state S.Store tx.old.conn.now) }
     ensures same_reference { tx.new.conn.ghost_name ≡ tx.old.conn.ghost_name }
     ensures makes { Attempts

@@ -17,7 +17,7 @@ pub(crate) fn put_voucher<S: Alter>(
     tx: &mut Transaction<'_, S>,
     code: &VoucherCode,
     voucher: &Voucher,
-) -> Result<usize, Error>
+) -> Result<(), Error>
     requires book { HasBook (state S.Store tx.old.conn.now) }
     ensures same_reference { tx.new.conn.ghost_name ≡ tx.old.conn.ghost_name }
     ensures makes { Attempts (Makes (with_voucher_row code.now (voucher_row voucher.now)))

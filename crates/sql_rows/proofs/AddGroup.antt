@@ -1,5 +1,5 @@
 -- What the text of `add_group` does.
-use Rattle.std.specs.Prelude.{codes}
+use Rattle.std.specs.Prelude.{codes, ⊤}
 use Rattle.std.proofs.Common.{◌≡◌, inl, inr, ℕ, List, Result, OnOk, IsTrue, refl, arith}
 use Rattle.sqlite_value.specs.Order.{Row}
 use Rattle.sqlite_schema.specs.declared.command.Source.TheVariants.{Values}
@@ -15,7 +15,7 @@ use Rattle.sql_rows.proofs.Plains.{plain_group}
 use Rattle.sql_tables.specs.Schema.{session_groups, book_schema}
 use Rattle.sql_tables.specs.Statements.{Attempts, HasBook, IsBook}
 use Rattle.sql_tables.proofs.Found.{is_some_map}
-use Rattle.sql_rows.specs.Makes.{Adds}
+use Rattle.sql_rows.specs.Makes.{Adds, HasRun}
 use Rattle.sql_rows.proofs.Inserts.{InsertsRow, inserts, inserts_row}
 use Rattle.sql_rows.proofs.PutGroup.{terms, values, keyed, turns}
 use Rattle.sql_rows.proofs.Writes.{puts_make}
@@ -40,8 +40,8 @@ module _ (a s : List ℕ) (g : ℕ) (row : Group) where
       add_group_text terms 8 add_is add_plain (values a s g row) refl (keyed a s g row)
 
   pub adds_group : (params : Row) → params ≡ values a s g row
-      → (old new : State) (r : Result ℕ Error) → HasBook old
-      → Attempts (λ old new. ExecutesInside 0 add_group_text params old new r) old new r
+      → (old new : State) (r : Result ⊤ Error) → HasBook old
+      → Attempts (HasRun add_group_text params) old new r
       → Attempts (Adds (has_group a s g) (with_rows a (with_group_row s g row))) old new r
   adds_group = inserts session_groups (values a s g row) (has_group a s g)
       (with_rows a (with_group_row s g row)) add_group_text (λ trees. is_some_map group_in_row _)

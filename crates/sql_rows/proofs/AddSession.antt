@@ -1,5 +1,5 @@
 -- What the text of `add_session` does.
-use Rattle.std.specs.Prelude.{codes}
+use Rattle.std.specs.Prelude.{codes, ⊤}
 use Rattle.std.proofs.Common.{◌≡◌, inl, inr, ℕ, List, Result, OnOk, IsTrue, refl, arith}
 use Rattle.sqlite_value.specs.Order.{Row}
 use Rattle.sqlite_schema.specs.declared.command.Source.TheVariants.{Values}
@@ -16,7 +16,7 @@ use Rattle.sql_rows.proofs.Plains.{plain_session}
 use Rattle.sql_tables.specs.Schema.{sessions, book_schema}
 use Rattle.sql_tables.specs.Statements.{Attempts, HasBook, IsBook}
 use Rattle.sql_tables.proofs.Found.{is_some_map}
-use Rattle.sql_rows.specs.Makes.{Adds}
+use Rattle.sql_rows.specs.Makes.{Adds, HasRun}
 use Rattle.sql_rows.proofs.Inserts.{InsertsRow, inserts, inserts_row}
 use Rattle.sql_rows.proofs.PutSession.{terms, values, keyed, turns}
 use Rattle.sql_rows.proofs.Writes.{puts_make}
@@ -41,8 +41,8 @@ module _ (a : List ℕ) (row : Session) where
       add_session_text terms 6 add_is add_plain (values a row) refl (keyed a row)
 
   pub adds_session : (params : Row) → params ≡ values a row
-      → (old new : State) (r : Result ℕ Error) → HasBook old
-      → Attempts (λ old new. ExecutesInside 0 add_session_text params old new r) old new r
+      → (old new : State) (r : Result ⊤ Error) → HasBook old
+      → Attempts (HasRun add_session_text params) old new r
       → Attempts (Adds (has_session a row.id) (with_rows a (with_session_row row))) old new r
   adds_session = inserts sessions (values a row) (has_session a row.id)
       (with_rows a (with_session_row row)) add_session_text (λ trees. is_some_map session_in_row _)

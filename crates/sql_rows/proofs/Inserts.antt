@@ -2,7 +2,7 @@
 use Rattle.std.proofs.Common.{◌≡◌, ◌≢◌, inl, ℕ, ℤ, List, [], ◌∷◌, length, slice_get}
 use Rattle.std.proofs.Common.{Bool, true, false, ◌/◌, Some, None, Option, Ok, Err, Result, OnOk}
 use Rattle.std.proofs.Common.{IsTrue, refl, sym, ap, subst, ◌∙◌, is_eq}
-use Rattle.std.specs.Prelude.{if◌then◌else◌, is_some}
+use Rattle.std.specs.Prelude.{if◌then◌else◌, is_some, ⊤}
 use Rattle.std.proofs.lemmas.Bool.{and_parts, false_from_ne_true, not-true}
 use Rattle.std.specs.FinMap.{get-from_entries}
 use Rattle.std.specs.FinMap.Entries.{find as look_in}
@@ -47,7 +47,7 @@ use Rattle.sql_tables.proofs.Swaps.{PutsRow, no_clash, differ_ints, puts_key}
 use Rattle.sql_tables.proofs.Ties.{agree_ties}
 use Rattle.sql_tables.proofs.Upserts.{Added, Put, Upserted}
 use Rattle.sql_rows.specs.Content.{TablesContent, tables_content}
-use Rattle.sql_rows.specs.Makes.{Adds, Makes}
+use Rattle.sql_rows.specs.Makes.{Adds, HasRun, Makes}
 use Rattle.sql_rows.proofs.Keyed.{IsKeyed}
 
 -- nothing was under the key, and the row is there
@@ -229,20 +229,23 @@ pub inserts : (table : Table) (values : Row) (stands : TablesContent → Bool)
     → ((old new : State) → Puts table values old new → Makes change old new)
     → ((old new : State) (r : Result ℕ Error) → (IsTrue old.is_open → IsBook old)
     → OnOk r (ExecutesInside 0 text values old new r) → OnOk r (InsertsRow table values old new))
-    → (params : Row) → params ≡ values → (old new : State) (r : Result ℕ Error) → HasBook old
-    → Attempts (λ old new. ExecutesInside 0 text params old new r) old new r
+    → (params : Row) → params ≡ values → (old new : State) (r : Result ⊤ Error) → HasBook old
+    → Attempts (HasRun text params) old new r
     → Attempts (Adds stands change) old new r
 inserts table values stands change text under makes runs params same old new r has =
-    done_as _ (Adds stands change) old new r (λ clean ran. made r
-    (runs old new r (has clean) (subst (λ p. OnOk r (ExecutesInside 0 text p old new r)) same ran)))
+    done_as _ (Adds stands change) old new r (λ clean. made r (has clean))
   where
-    made : (r : Result ℕ Error) → OnOk r (InsertsRow table values old new)
-        → OnOk r (Adds stands change old new)
-    made (Ok count) h = record {
+    added : InsertsRow table values old new → Adds stands change old new
+    added h = record {
       makes = makes old new h.puts;
       none = under old.now.trees ∙ ap is_some h.none;
     }
-    made (Err e) h = tt
+
+    made : (r : Result ⊤ Error) → (IsTrue old.is_open → IsBook old)
+        → OnOk r (HasRun text params old new) → OnOk r (Adds stands change old new)
+    made (Ok x) book h = added (runs old new (Ok h.count) book
+        (subst (λ p. ExecutesInside 0 text p old new (Ok h.count)) same h.ran))
+    made (Err e) book h = tt
 
 -- what is added is made
 pub done_makes : {A E : Type 0} (stands : TablesContent → Bool)

@@ -1,5 +1,5 @@
 -- What the text of `put_account` does.
-use Rattle.std.specs.Prelude.{codes, is_some, length, if◌then◌else◌}
+use Rattle.std.specs.Prelude.{codes, is_some, length, if◌then◌else◌, ⊤}
 use Rattle.std.proofs.Common.{◌≡◌, inl, inr, ℕ, ℤ, ◌+◌, List, [], ◌∷◌, ◌++◌, map, Bool, true, false}
 use Rattle.std.proofs.Common.{Some, Result, OnOk, IsTrue, refl, sym, ap, ◌∙◌, arith}
 use Rattle.std.specs.Ordering.{eq_by_cmp}
@@ -34,7 +34,7 @@ use Rattle.sql_tables.proofs.Upserts.{pick}
 use Rattle.sql_rows.specs.declared.head.HeadColumns.{HeadColumns}
 use Rattle.sql_rows.specs.Values.{nat, head_cells, head_values, head_key, head_in, flag_number}
 use Rattle.sql_rows.specs.Content.{with_account, with_head, rows_in, tables_content}
-use Rattle.sql_rows.specs.Makes.{Makes}
+use Rattle.sql_rows.specs.Makes.{HasRun, Makes}
 use Rattle.sql_rows.proofs.Keyed.{IsKeyed}
 use Rattle.sql_rows.proofs.Plains.{plain_account}
 use Rattle.sql_rows.proofs.Stays.{only_changed, rows_turn}
@@ -130,8 +130,8 @@ module _ (a : List ℕ) (h : HeadColumns) where
             (sym (is_some_map head_in (look accounts old (head_key a))))) i;
       })
 
-  pub makes_account : (old new : State) (r : Result ℕ Error) → HasBook old
-      → Attempts (λ old new. ExecutesInside 0 put_account_text values old new r) old new r
+  pub makes_account : (old new : State) (r : Result ⊤ Error) → HasBook old
+      → Attempts (HasRun put_account_text values) old new r
       → Attempts (Makes (with_account a h)) old new r
   makes_account = writes put_account_text values (Puts accounts values) (with_account a h) puts
       (λ old new p. makes_turned (with_account a h) old new
@@ -139,8 +139,8 @@ module _ (a : List ℕ) (h : HeadColumns) where
       (plain_account a h old.now.trees new.now.trees p.changes)
       p.book p.shows) values refl
 
-  pub rules_account : (old new : State) (r : Result ℕ Error) → HasBook old
-      → Attempts (λ old new. ExecutesInside 0 put_account_text values old new r) old new r
+  pub rules_account : (old new : State) (r : Result ⊤ Error) → HasBook old
+      → Attempts (HasRun put_account_text values) old new r
       → OnOk r (HasRules new)
   rules_account =
       rules_after put_account_text values (Puts accounts values) put_is put_plain puts

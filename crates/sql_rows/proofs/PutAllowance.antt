@@ -1,5 +1,5 @@
 -- What the text of `put_allowance` does.
-use Rattle.std.specs.Prelude.{codes, if◌then◌else◌, is_some}
+use Rattle.std.specs.Prelude.{codes, if◌then◌else◌, is_some, ⊤}
 use Rattle.std.proofs.Common.{◌≡◌, inl, inr, ℕ, ℤ, List, [], ◌∷◌, ◌++◌, map, Bool, true, false}
 use Rattle.std.proofs.Common.{◌&&◌, Option, Some, Result, OnOk, IsTrue, refl, ap, ◌∙◌, arith}
 use Rattle.std.proofs.Common.{nat_eq}
@@ -34,7 +34,7 @@ use Rattle.sql_tables.proofs.Ties.{agree_ties}
 use Rattle.sql_tables.proofs.Upserts.{pick}
 use Rattle.sql_rows.specs.Values.{nat, bucket_key, allowance_in}
 use Rattle.sql_rows.specs.Content.{with_rows, with_allowance, rows_in, tables_content}
-use Rattle.sql_rows.specs.Makes.{Makes}
+use Rattle.sql_rows.specs.Makes.{HasRun, Makes}
 use Rattle.sql_rows.proofs.Plains.{plain_beside}
 use Rattle.sql_rows.proofs.Stays.{only_changed, rows_turn, at_each}
 use Rattle.sql_rows.proofs.Writes.{writes, puts_make}
@@ -113,8 +113,8 @@ module _ (a : List ℕ) (n : ℕ) where
       ∙ apart_if (same_name a x) (nat_eq n m) _ _))
 
   pub makes_allowance : (params : Row) → params ≡ values
-      → (old new : State) (r : Result ℕ Error) → HasBook old
-      → Attempts (λ old new. ExecutesInside 0 put_allowance_text params old new r) old new r
+      → (old new : State) (r : Result ⊤ Error) → HasBook old
+      → Attempts (HasRun put_allowance_text params) old new r
       → Attempts (Makes (with_rows a (with_allowance n))) old new r
   makes_allowance =
       writes put_allowance_text values (Puts allowance_buckets values)

@@ -1,5 +1,5 @@
 -- What the text of `put_book` does.
-use Rattle.std.specs.Prelude.{codes}
+use Rattle.std.specs.Prelude.{codes, ⊤}
 use Rattle.std.proofs.Common.{◌≡◌, inl, inr, ℕ, ℤ, List, [], ◌∷◌, ◌++◌, map, Some, Result}
 use Rattle.std.proofs.Common.{OnOk, IsTrue, refl, ◌∙◌, arith, nat_eq}
 use Rattle.std.specs.Ordering.{eq_by_cmp}
@@ -33,7 +33,7 @@ use Rattle.sql_tables.proofs.Ties.{agree_ties}
 use Rattle.sql_tables.proofs.Upserts.{pick}
 use Rattle.sql_rows.specs.Values.{nat, BookRow, book_values, book_key, book_in_row}
 use Rattle.sql_rows.specs.Content.{with_book_row, tables_content}
-use Rattle.sql_rows.specs.Makes.{Makes}
+use Rattle.sql_rows.specs.Makes.{HasRun, Makes}
 use Rattle.sql_rows.proofs.Plains.{plain_beside}
 use Rattle.sql_rows.proofs.Stays.{only_changed}
 use Rattle.sql_rows.proofs.Writes.{writes, puts_make}
@@ -102,8 +102,8 @@ module _ (n : ℕ) (x : BookRow) where
   })
 
   pub makes_book : (params : Row) → params ≡ values
-      → (old new : State) (r : Result ℕ Error) → HasBook old
-      → Attempts (λ old new. ExecutesInside 0 put_book_text params old new r) old new r
+      → (old new : State) (r : Result ⊤ Error) → HasBook old
+      → Attempts (HasRun put_book_text params) old new r
       → Attempts (Makes (with_book_row n x)) old new r
   makes_book =
       writes put_book_text values (Puts books values) (with_book_row n x) puts

@@ -1,5 +1,5 @@
 -- What the text of `put_bucket` does.
-use Rattle.std.specs.Prelude.{codes}
+use Rattle.std.specs.Prelude.{codes, ⊤}
 use Rattle.std.proofs.Common.{◌≡◌, inl, inr, ℕ, ℤ, ◌+◌, List, [], ◌∷◌, ◌++◌, map}
 use Rattle.std.proofs.Common.{◌&&◌, Some, None, Option, Result, OnOk, IsTrue}
 use Rattle.std.proofs.Common.{refl, sym, ap, ◌∙◌, arith, nat_eq}
@@ -36,7 +36,7 @@ use Rattle.sql_tables.proofs.Ties.{agree_ties}
 use Rattle.sql_tables.proofs.Upserts.{pick}
 use Rattle.sql_rows.specs.Values.{nat, money_cells, bucket_values, bucket_key, bucket_in_row}
 use Rattle.sql_rows.specs.Content.{with_rows, with_bucket, rows_in, tables_content}
-use Rattle.sql_rows.specs.Makes.{Makes}
+use Rattle.sql_rows.specs.Makes.{HasRun, Makes}
 use Rattle.sql_rows.proofs.Keyed.{IsKeyed}
 use Rattle.sql_rows.proofs.Plains.{plain_beside}
 use Rattle.sql_rows.proofs.Stays.{only_changed, rows_turn, at_each}
@@ -134,8 +134,8 @@ module _ (a : List ℕ) (b : BucketRow) (counts : b.kind ≡ Money) where
       (same_name a x && (nat_eq b.number n))
       (text_number a x b.number n) ∙ apart_if (same_name a x) (nat_eq b.number n) _ _))
 
-  pub makes_bucket : (old new : State) (r : Result ℕ Error) → HasBook old
-      → Attempts (λ old new. ExecutesInside 0 put_bucket_text values old new r) old new r
+  pub makes_bucket : (old new : State) (r : Result ⊤ Error) → HasBook old
+      → Attempts (HasRun put_bucket_text values) old new r
       → Attempts (Makes (with_rows a (with_bucket b))) old new r
   makes_bucket =
       writes put_bucket_text values (Puts buckets values) (with_rows a (with_bucket b)) puts

@@ -1,5 +1,5 @@
 -- What the text of `put_counter` does.
-use Rattle.std.specs.Prelude.{codes}
+use Rattle.std.specs.Prelude.{codes, ⊤}
 use Rattle.std.proofs.Common.{◌≡◌, inl, inr, ℕ, ℤ, ◌+◌, List, [], ◌∷◌, ◌++◌, map}
 use Rattle.std.proofs.Common.{◌&&◌, Some, Result, OnOk, IsTrue, refl, ◌∙◌, arith, nat_eq}
 use Rattle.std.specs.Ordering.{eq_by_cmp}
@@ -34,7 +34,7 @@ use Rattle.sql_tables.proofs.Ties.{agree_ties}
 use Rattle.sql_tables.proofs.Upserts.{pick}
 use Rattle.sql_rows.specs.Values.{nat, counter_values, counter_key, counter_in_row}
 use Rattle.sql_rows.specs.Content.{with_rows, with_counter_row, rows_in, tables_content}
-use Rattle.sql_rows.specs.Makes.{Makes}
+use Rattle.sql_rows.specs.Makes.{HasRun, Makes}
 use Rattle.sql_rows.proofs.Keyed.{IsKeyed}
 use Rattle.sql_rows.proofs.Plains.{plain_beside}
 use Rattle.sql_rows.proofs.Stays.{only_changed, rows_turn, at_each}
@@ -115,8 +115,8 @@ module _ (a : List ℕ) (k : Counter) where
       (same_name a x && (nat_eq k.group g && nat_eq k.cycle y)) (text_number_number a x k.group g
       k.cycle y) ∙ apart_if (same_name a x) (nat_eq k.group g && nat_eq k.cycle y) _ _)))
 
-  pub makes_counter : (old new : State) (r : Result ℕ Error) → HasBook old
-      → Attempts (λ old new. ExecutesInside 0 put_counter_text values old new r) old new r
+  pub makes_counter : (old new : State) (r : Result ⊤ Error) → HasBook old
+      → Attempts (HasRun put_counter_text values) old new r
       → Attempts (Makes (with_rows a (with_counter_row k))) old new r
   makes_counter =
       writes put_counter_text values (Puts counters values) (with_rows a (with_counter_row k)) puts

@@ -1,5 +1,5 @@
 -- What the text of `put_covered` does.
-use Rattle.std.specs.Prelude.{codes}
+use Rattle.std.specs.Prelude.{codes, ⊤}
 use Rattle.std.proofs.Common.{◌≡◌, inl, inr, ℕ, ℤ, List, [], ◌∷◌, ◌++◌, map, ◌&&◌, Some, Result}
 use Rattle.std.proofs.Common.{OnOk, IsTrue, refl, ◌∙◌, arith, nat_eq}
 use Rattle.std.specs.Ordering.{eq_by_cmp}
@@ -34,7 +34,7 @@ use Rattle.sql_tables.proofs.Upserts.{pick}
 use Rattle.sql_rows.specs.declared.covered_rows.CoveredColumns.{CoveredColumns}
 use Rattle.sql_rows.specs.Values.{nat, covered_values, covered_in_row, charge_key}
 use Rattle.sql_rows.specs.Content.{with_rows, with_covered, rows_in, tables_content}
-use Rattle.sql_rows.specs.Makes.{Makes}
+use Rattle.sql_rows.specs.Makes.{HasRun, Makes}
 use Rattle.sql_rows.proofs.Plains.{plain_beside}
 use Rattle.sql_rows.proofs.Stays.{only_changed, rows_turn, at_each}
 use Rattle.sql_rows.proofs.Writes.{writes, puts_make}
@@ -108,8 +108,8 @@ module _ (a : List ℕ) (x : CoveredColumns) where
       ∙ apart_if (same_name a y) (nat_eq x.number m) _ _))
 
   pub makes_covered : (params : Row) → params ≡ values
-      → (old new : State) (r : Result ℕ Error) → HasBook old
-      → Attempts (λ old new. ExecutesInside 0 put_covered_text params old new r) old new r
+      → (old new : State) (r : Result ⊤ Error) → HasBook old
+      → Attempts (HasRun put_covered_text params) old new r
       → Attempts (Makes (with_rows a (with_covered x))) old new r
   makes_covered =
       writes put_covered_text values (Puts covered values) (with_rows a (with_covered x)) puts

@@ -1,5 +1,5 @@
 -- What the text of `put_grant_book` does.
-use Rattle.std.specs.Prelude.{codes}
+use Rattle.std.specs.Prelude.{codes, ⊤}
 use Rattle.std.proofs.Common.{◌≡◌, inl, inr, ℕ, ℤ, List, [], ◌∷◌, ◌++◌, map, ◌&&◌, Some, Result}
 use Rattle.std.proofs.Common.{OnOk, IsTrue, refl, ◌∙◌, arith, nat_eq}
 use Rattle.std.specs.Ordering.{eq_by_cmp}
@@ -33,7 +33,7 @@ use Rattle.sql_tables.proofs.Ties.{agree_ties}
 use Rattle.sql_tables.proofs.Upserts.{pick}
 use Rattle.sql_rows.specs.Values.{nat, grant_book_values, grant_book_in, group_key}
 use Rattle.sql_rows.specs.Content.{with_rows, with_grant_book, rows_in, tables_content}
-use Rattle.sql_rows.specs.Makes.{Makes}
+use Rattle.sql_rows.specs.Makes.{HasRun, Makes}
 use Rattle.sql_rows.proofs.Plains.{plain_beside}
 use Rattle.sql_rows.proofs.Stays.{only_changed, rows_turn, at_each}
 use Rattle.sql_rows.proofs.Writes.{writes, puts_make}
@@ -108,8 +108,8 @@ module _ (a s : List ℕ) (g n : ℕ) where
       ∙ apart_if (same_name a x) (same_name s t && nat_eq g h) _ _)))
 
   pub makes_grant_book : (params : Row) → params ≡ values
-      → (old new : State) (r : Result ℕ Error) → HasBook old
-      → Attempts (λ old new. ExecutesInside 0 put_grant_book_text params old new r) old new r
+      → (old new : State) (r : Result ⊤ Error) → HasBook old
+      → Attempts (HasRun put_grant_book_text params) old new r
       → Attempts (Makes (with_rows a (with_grant_book s g n))) old new r
   makes_grant_book =
       writes put_grant_book_text values (Puts grant_books values)

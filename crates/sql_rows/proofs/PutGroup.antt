@@ -1,5 +1,5 @@
 -- What the text of `put_group` does.
-use Rattle.std.specs.Prelude.{codes, is_some}
+use Rattle.std.specs.Prelude.{codes, is_some, ⊤}
 use Rattle.std.proofs.Common.{◌≡◌, inl, inr, ℕ, ℤ, ◌+◌, List, [], ◌∷◌, ◌++◌, map}
 use Rattle.std.proofs.Common.{◌&&◌, Some, None, Option, Result, OnOk, IsTrue}
 use Rattle.std.proofs.Common.{refl, ◌∙◌, arith, nat_eq}
@@ -35,7 +35,7 @@ use Rattle.sql_tables.proofs.Upserts.{pick}
 use Rattle.sql_rows.specs.Values.{nat, Group, PeriodNames, group_cells, group_values, group_key}
 use Rattle.sql_rows.specs.Values.{group_in_row, flag_number}
 use Rattle.sql_rows.specs.Content.{with_rows, with_group_row, rows_in, tables_content}
-use Rattle.sql_rows.specs.Makes.{Makes}
+use Rattle.sql_rows.specs.Makes.{HasRun, Makes}
 use Rattle.sql_rows.proofs.Keyed.{IsKeyed}
 use Rattle.sql_rows.proofs.Plains.{plain_group}
 use Rattle.sql_rows.proofs.Stays.{only_changed, rows_turn, at_each}
@@ -130,8 +130,8 @@ module _ (a s : List ℕ) (g : ℕ) (row : Group) where
       (text_text_number a x s t g h) ∙ apart_if (same_name a x) (same_name s t && nat_eq g h) _ _)))
 
   pub makes_group : (params : Row) → params ≡ values
-      → (old new : State) (r : Result ℕ Error) → HasBook old
-      → Attempts (λ old new. ExecutesInside 0 put_group_text params old new r) old new r
+      → (old new : State) (r : Result ⊤ Error) → HasBook old
+      → Attempts (HasRun put_group_text params) old new r
       → Attempts (Makes (with_rows a (with_group_row s g row))) old new r
   makes_group = writes put_group_text values (Puts session_groups values)
       (with_rows a (with_group_row s g row)) puts

@@ -1,5 +1,5 @@
 -- What the text of `put_hold` does.
-use Rattle.std.specs.Prelude.{codes}
+use Rattle.std.specs.Prelude.{codes, ⊤}
 use Rattle.std.proofs.Common.{◌≡◌, inl, inr, ℕ, ℤ, ◌+◌, List, [], ◌∷◌, ◌++◌, map}
 use Rattle.std.proofs.Common.{◌&&◌, Some, Result, OnOk, IsTrue, refl, ◌∙◌, arith, nat_eq}
 use Rattle.std.specs.Ordering.{eq_by_cmp}
@@ -33,7 +33,7 @@ use Rattle.sql_tables.proofs.Ties.{agree_ties}
 use Rattle.sql_tables.proofs.Upserts.{pick}
 use Rattle.sql_rows.specs.Values.{nat, hold_values, hold_key, hold_in}
 use Rattle.sql_rows.specs.Content.{with_rows, with_hold_row, rows_in, tables_content}
-use Rattle.sql_rows.specs.Makes.{Makes}
+use Rattle.sql_rows.specs.Makes.{HasRun, Makes}
 use Rattle.sql_rows.proofs.Plains.{plain_beside}
 use Rattle.sql_rows.proofs.Stays.{only_changed, rows_turn, at_each}
 use Rattle.sql_rows.proofs.Writes.{writes, puts_make}
@@ -109,8 +109,8 @@ module _ (a s : List ℕ) (g n amount : ℕ) where
       ∙ apart_if (same_name a x) (same_name s t && (nat_eq g h && nat_eq n m)) _ _))))
 
   pub makes_hold : (params : Row) → params ≡ values
-      → (old new : State) (r : Result ℕ Error) → HasBook old
-      → Attempts (λ old new. ExecutesInside 0 put_hold_text params old new r) old new r
+      → (old new : State) (r : Result ⊤ Error) → HasBook old
+      → Attempts (HasRun put_hold_text params) old new r
       → Attempts (Makes (with_rows a (with_hold_row s g n amount))) old new r
   makes_hold =
       writes put_hold_text values (Puts holds values) (with_rows a (with_hold_row s g n amount))

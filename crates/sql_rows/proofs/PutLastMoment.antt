@@ -1,5 +1,5 @@
 -- What the text of `put_last_moment` does.
-use Rattle.std.specs.Prelude.{codes, if◌then◌else◌, is_some, length, option_map, ◌+◌}
+use Rattle.std.specs.Prelude.{codes, if◌then◌else◌, is_some, length, option_map, ◌+◌, ⊤}
 use Rattle.std.proofs.Common.{◌≡◌, inl, inr, ℕ, ℤ, List, [], ◌∷◌, map, drop, Bool, true, Some, None}
 use Rattle.std.proofs.Common.{Option, Equal, Ok, Err, Result, OnOk, IsTrue, refl, sym, ap, ap₂}
 use Rattle.std.proofs.Common.{subst, ◌∙◌, arith, pos}
@@ -44,7 +44,7 @@ use Rattle.sql_tables.proofs.Ties.{equal_present, tie_parts}
 use Rattle.sql_tables.proofs.Upserts.{Moved, Upserted}
 use Rattle.sql_rows.specs.Values.{nat, nat_in, Meta, meta_values, meta_cells, meta_key, meta_in}
 use Rattle.sql_rows.specs.Content.{TablesContent, tables_content, with_last_moment, with_meta}
-use Rattle.sql_rows.specs.Makes.{Makes}
+use Rattle.sql_rows.specs.Makes.{HasRun, Makes}
 use Rattle.sql_rows.specs.Plain.{ArePlain}
 use Rattle.sql_rows.proofs.MetaRules.{fitting, number_there}
 use Rattle.sql_rows.proofs.Plains.{plain_beside, plain_stays}
@@ -251,28 +251,31 @@ module _ (t : ℕ) where
       }
 
   pub makes_last_moment : (ps : Row) → ps ≡ params
-      → (old new : State) (r : Result ℕ Error) → HasBook old → HasRules old
-      → Attempts (λ old new. ExecutesInside 0 put_last_moment_text ps old new r) old new r
+      → (old new : State) (r : Result ⊤ Error) → HasBook old → HasRules old
+      → Attempts (HasRun put_last_moment_text ps) old new r
       → Attempts (Makes (with_last_moment t)) old new r
   makes_last_moment ps same old new r has rules =
-      done_as _ (Makes (with_last_moment t)) old new r (λ clean ran. made_of r
-      (runs old new r (has clean) (rules clean)
-      (subst (λ p. OnOk r (ExecutesInside 0 put_last_moment_text p old new r)) same ran)))
+      done_as _ (Makes (with_last_moment t)) old new r (λ clean. made_of r (has clean) (rules clean))
     where
-      made_of : (r : Result ℕ Error) → OnOk r (Runs old new)
+      made_of : (r : Result ⊤ Error) → (IsTrue old.is_open → IsBook old)
+          → (IsTrue old.is_open → Fits book_schema old.now.trees)
+          → OnOk r (HasRun put_last_moment_text ps old new)
           → OnOk r (Makes (with_last_moment t) old new)
-      made_of (Ok count) h = h.makes
-      made_of (Err e) h = tt
+      made_of (Ok x) book fits h = (runs old new (Ok h.count) book fits
+          (subst (λ p. ExecutesInside 0 put_last_moment_text p old new (Ok h.count)) same
+          h.ran)).makes
+      made_of (Err e) book fits h = tt
 
   pub rules_last_moment : (ps : Row) → ps ≡ params
-      → (old new : State) (r : Result ℕ Error) → HasBook old → HasRules old
-      → Attempts (λ old new. ExecutesInside 0 put_last_moment_text ps old new r) old new r
+      → (old new : State) (r : Result ⊤ Error) → HasBook old → HasRules old
+      → Attempts (HasRun put_last_moment_text ps) old new r
       → OnOk r (HasRules new)
-  rules_last_moment ps same old new (Ok count) has rules a = λ clean on.
+  rules_last_moment ps same old new (Ok x) has rules a = λ clean on.
       let before : HasCleanDisk old = omega (arith, a.survives.clean, clean) in
-      (runs old new (Ok count) (has before) (rules before)
-      (subst (λ p. ExecutesInside 0 put_last_moment_text p old new (Ok count)) same
-      (a.done clean))).fits
+      let done : HasRun put_last_moment_text ps old new = a.done clean in
+      (runs old new (Ok done.count) (has before) (rules before)
+      (subst (λ p. ExecutesInside 0 put_last_moment_text p old new (Ok done.count)) same
+      done.ran)).fits
   rules_last_moment ps same old new (Err e) has rules a = tt
 
   -- the parameter, as it is bound

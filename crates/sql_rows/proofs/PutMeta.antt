@@ -1,5 +1,5 @@
 -- What the text of `put_meta` does.
-use Rattle.std.specs.Prelude.{codes, is_some, length, if◌then◌else◌}
+use Rattle.std.specs.Prelude.{codes, is_some, length, if◌then◌else◌, ⊤}
 use Rattle.std.proofs.Common.{◌≡◌, inl, ℕ, ℤ, ◌+◌, List, [], ◌∷◌, ◌++◌, map}
 use Rattle.std.proofs.Common.{true, Some, Result, OnOk, IsTrue, refl, sym, ap, ◌∙◌, arith}
 use Rattle.std.specs.Ordering.{eq_by_cmp}
@@ -33,7 +33,7 @@ use Rattle.sql_tables.proofs.Ties.{agree_ties}
 use Rattle.sql_tables.proofs.Upserts.{pick}
 use Rattle.sql_rows.specs.Values.{nat, Meta, meta_values, meta_key, meta_in}
 use Rattle.sql_rows.specs.Content.{with_meta, tables_content}
-use Rattle.sql_rows.specs.Makes.{Makes}
+use Rattle.sql_rows.specs.Makes.{HasRun, Makes}
 use Rattle.sql_rows.proofs.Plains.{plain_beside}
 use Rattle.sql_rows.proofs.Stays.{only_changed}
 use Rattle.sql_rows.proofs.Writes.{writes, makes_turned, rules_after}
@@ -103,8 +103,8 @@ module _ (m : Meta) where
   })
 
   pub makes_meta : (params : Row) → params ≡ values
-      → (old new : State) (r : Result ℕ Error) → HasBook old
-      → Attempts (λ old new. ExecutesInside 0 put_meta_text params old new r) old new r
+      → (old new : State) (r : Result ⊤ Error) → HasBook old
+      → Attempts (HasRun put_meta_text params) old new r
       → Attempts (Makes (with_meta m)) old new r
   makes_meta = writes put_meta_text values (Puts meta values) (with_meta m) puts
       (λ old new p. makes_turned (with_meta m) old new
@@ -114,8 +114,8 @@ module _ (m : Meta) where
       p.book p.shows)
 
   pub rules_meta : (params : Row) → params ≡ values
-      → (old new : State) (r : Result ℕ Error) → HasBook old
-      → Attempts (λ old new. ExecutesInside 0 put_meta_text params old new r) old new r
+      → (old new : State) (r : Result ⊤ Error) → HasBook old
+      → Attempts (HasRun put_meta_text params) old new r
       → OnOk r (HasRules new)
   rules_meta =
       rules_after put_meta_text values (Puts meta values) put_is put_plain puts

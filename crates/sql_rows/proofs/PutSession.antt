@@ -1,5 +1,5 @@
 -- What the text of `put_session` does.
-use Rattle.std.specs.Prelude.{codes}
+use Rattle.std.specs.Prelude.{codes, ⊤}
 use Rattle.std.proofs.Common.{◌≡◌, inl, inr, ℕ, ℤ, ◌+◌, List, [], ◌∷◌, ◌++◌, map}
 use Rattle.std.proofs.Common.{◌&&◌, Some, Result, OnOk, IsTrue, refl, ◌∙◌, arith}
 use Rattle.std.specs.Ordering.{eq_by_cmp}
@@ -37,7 +37,7 @@ use Rattle.sql_tables.proofs.Upserts.{pick}
 use Rattle.sql_rows.specs.Values.{nat, session_cells, session_values, session_key, session_in_row}
 use Rattle.sql_rows.specs.Values.{state_number}
 use Rattle.sql_rows.specs.Content.{with_rows, with_session_row, rows_in, tables_content}
-use Rattle.sql_rows.specs.Makes.{Makes}
+use Rattle.sql_rows.specs.Makes.{HasRun, Makes}
 use Rattle.sql_rows.proofs.Keyed.{IsKeyed}
 use Rattle.sql_rows.proofs.Plains.{plain_session}
 use Rattle.sql_rows.proofs.Stays.{only_changed, rows_turn, at_each}
@@ -129,8 +129,8 @@ module _ (a : List ℕ) (row : Session) where
       (text_text a x row.id s) ∙ apart_if (same_name a x) (same_name row.id s) _ _))
 
   pub makes_session : (params : Row) → params ≡ values
-      → (old new : State) (r : Result ℕ Error) → HasBook old
-      → Attempts (λ old new. ExecutesInside 0 put_session_text params old new r) old new r
+      → (old new : State) (r : Result ⊤ Error) → HasBook old
+      → Attempts (HasRun put_session_text params) old new r
       → Attempts (Makes (with_rows a (with_session_row row))) old new r
   makes_session =
       writes put_session_text values (Puts sessions values) (with_rows a (with_session_row row))

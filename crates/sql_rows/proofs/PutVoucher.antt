@@ -1,5 +1,5 @@
 -- What the text of `put_voucher` does.
-use Rattle.std.specs.Prelude.{codes}
+use Rattle.std.specs.Prelude.{codes, ⊤}
 use Rattle.std.proofs.Common.{◌≡◌, inl, inr, ℕ, ℤ, List, [], ◌∷◌, ◌++◌, map}
 use Rattle.std.proofs.Common.{Some, None, Option, Result, OnOk, IsTrue, refl, ◌∙◌, arith}
 use Rattle.std.specs.Ordering.{eq_by_cmp}
@@ -34,7 +34,7 @@ use Rattle.sql_rows.specs.declared.voucher_rows.VoucherColumns.{VoucherColumns}
 use Rattle.sql_rows.specs.Values.{nat, voucher_cells, voucher_values, voucher_key}
 use Rattle.sql_rows.specs.Values.{voucher_in_row, optional_in, optional_text_in}
 use Rattle.sql_rows.specs.Content.{with_voucher_row, tables_content}
-use Rattle.sql_rows.specs.Makes.{Makes}
+use Rattle.sql_rows.specs.Makes.{HasRun, Makes}
 use Rattle.sql_rows.proofs.Plains.{plain_beside}
 use Rattle.sql_rows.proofs.Stays.{only_changed}
 use Rattle.sql_rows.proofs.PutAccount.{terms, project, places}
@@ -110,8 +110,8 @@ module _ (code : List ℕ) (row : VoucherColumns) where
   })
 
   pub makes_voucher : (params : Row) → params ≡ values
-      → (old new : State) (r : Result ℕ Error) → HasBook old
-      → Attempts (λ old new. ExecutesInside 0 put_voucher_text params old new r) old new r
+      → (old new : State) (r : Result ⊤ Error) → HasBook old
+      → Attempts (HasRun put_voucher_text params) old new r
       → Attempts (Makes (with_voucher_row code row)) old new r
   makes_voucher = writes put_voucher_text values (Puts vouchers values) (with_voucher_row code row)
       puts

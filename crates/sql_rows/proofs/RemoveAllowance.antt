@@ -1,5 +1,5 @@
 -- What the text of `remove_allowance` does.
-use Rattle.std.specs.Prelude.{codes, if◌then◌else◌, is_some}
+use Rattle.std.specs.Prelude.{codes, if◌then◌else◌, is_some, ⊤}
 use Rattle.std.proofs.Common.{◌≡◌, ℕ, List, [], ◌∷◌, map, take, Bool, true, false, Option, None}
 use Rattle.std.proofs.Common.{◌&&◌, Ok, Err, Result, OnOk, IsTrue, refl, ap, ◌∙◌, arith, nat_eq}
 use Rattle.std.specs.List.{list_all}
@@ -32,7 +32,7 @@ use Rattle.sql_tables.proofs.Removes.{RemovesRows, rowids_where, removes_rows, r
 use Rattle.sql_tables.proofs.Ties.{agree_ties_at}
 use Rattle.sql_rows.specs.Values.{nat, bucket_key, allowance_in}
 use Rattle.sql_rows.specs.Content.{with_rows, without_allowance, rows_in, tables_content}
-use Rattle.sql_rows.specs.Makes.{Makes}
+use Rattle.sql_rows.specs.Makes.{HasRun, Makes}
 use Rattle.sql_rows.proofs.Plains.{plain_without}
 use Rattle.sql_rows.proofs.Stays.{only_changed, rows_turn, at_each}
 use Rattle.sql_rows.proofs.Writes.{writes, makes_turned}
@@ -124,8 +124,8 @@ module _ (a : List ℕ) (n : ℕ) where
       ∙ apart_if (same_name a x) (nat_eq n m) _ _))
 
   pub makes_none : (params : Row) → params ≡ wanted
-      → (old new : State) (r : Result ℕ Error) → HasBook old
-      → Attempts (λ old new. ExecutesInside 0 remove_allowance_text params old new r) old new r
+      → (old new : State) (r : Result ⊤ Error) → HasBook old
+      → Attempts (HasRun remove_allowance_text params) old new r
       → Attempts (Makes (with_rows a (without_allowance n))) old new r
   makes_none = writes remove_allowance_text wanted (Removes allowance_buckets wanted)
       (with_rows a (without_allowance n)) removes

@@ -1,5 +1,5 @@
 -- What the text of `remove_covered` does.
-use Rattle.std.specs.Prelude.{codes}
+use Rattle.std.specs.Prelude.{codes, ⊤}
 use Rattle.std.proofs.Common.{◌≡◌, ℕ, List, [], ◌∷◌, map, take, Bool, ◌&&◌, Ok, Err, Result, OnOk}
 use Rattle.std.proofs.Common.{IsTrue, refl, ◌∙◌, arith, nat_eq}
 use Rattle.std.specs.List.{list_all}
@@ -32,7 +32,7 @@ use Rattle.sql_tables.proofs.Removes.{RemovesRows, rowids_where, removes_rows, r
 use Rattle.sql_tables.proofs.Ties.{agree_ties_at}
 use Rattle.sql_rows.specs.Values.{nat, charge_key, covered_in_row}
 use Rattle.sql_rows.specs.Content.{with_rows, without_covered, rows_in, tables_content}
-use Rattle.sql_rows.specs.Makes.{Makes}
+use Rattle.sql_rows.specs.Makes.{HasRun, Makes}
 use Rattle.sql_rows.proofs.Plains.{plain_without}
 use Rattle.sql_rows.proofs.Stays.{only_changed, rows_turn, at_each}
 use Rattle.sql_rows.proofs.Writes.{writes, makes_turned}
@@ -115,8 +115,8 @@ module _ (a : List ℕ) (n : ℕ) where
       ∙ apart_if (same_name a x) (nat_eq n m) _ _))
 
   pub makes_none : (params : Row) → params ≡ wanted
-      → (old new : State) (r : Result ℕ Error) → HasBook old
-      → Attempts (λ old new. ExecutesInside 0 remove_covered_text params old new r) old new r
+      → (old new : State) (r : Result ⊤ Error) → HasBook old
+      → Attempts (HasRun remove_covered_text params) old new r
       → Attempts (Makes (with_rows a (without_covered n))) old new r
   makes_none = writes remove_covered_text wanted (Removes covered wanted)
       (with_rows a (without_covered n)) removes

@@ -1,5 +1,5 @@
 -- What the text of `remove_holds` does.
-use Rattle.std.specs.Prelude.{codes}
+use Rattle.std.specs.Prelude.{codes, ⊤}
 use Rattle.std.proofs.Common.{◌≡◌, ℕ, List, [], ◌∷◌, map, take, Bool}
 use Rattle.std.proofs.Common.{◌&&◌, Ok, Err, Result, OnOk, IsTrue, refl, ◌∙◌, arith, nat_eq}
 use Rattle.std.specs.List.{list_all}
@@ -32,7 +32,7 @@ use Rattle.sql_tables.proofs.Removes.{RemovesRows, rowids_where, removes_rows, r
 use Rattle.sql_tables.proofs.Ties.{agree_ties_at}
 use Rattle.sql_rows.specs.Values.{nat, group_key, hold_key, hold_in}
 use Rattle.sql_rows.specs.Content.{with_rows, without_holds, rows_in, tables_content}
-use Rattle.sql_rows.specs.Makes.{Makes}
+use Rattle.sql_rows.specs.Makes.{HasRun, Makes}
 use Rattle.sql_rows.proofs.Plains.{plain_without}
 use Rattle.sql_rows.proofs.Stays.{only_changed, rows_turn, at_each}
 use Rattle.sql_rows.proofs.Writes.{writes, makes_turned}
@@ -114,8 +114,8 @@ module _ (a s : List ℕ) (g : ℕ) where
       ∙ apart_if (same_name a x) (same_name s t && nat_eq g h) _ _))))
 
   pub makes_none : (params : Row) → params ≡ wanted
-      → (old new : State) (r : Result ℕ Error) → HasBook old
-      → Attempts (λ old new. ExecutesInside 0 remove_holds_text params old new r) old new r
+      → (old new : State) (r : Result ⊤ Error) → HasBook old
+      → Attempts (HasRun remove_holds_text params) old new r
       → Attempts (Makes (with_rows a (without_holds s g))) old new r
   makes_none = writes remove_holds_text wanted (Removes holds wanted)
       (with_rows a (without_holds s g)) removes

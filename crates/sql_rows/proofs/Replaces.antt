@@ -4,7 +4,7 @@ use Rattle.std.proofs.Common.{◌≡◌, ◌≢◌, ◌⊎◌, inl, inr, ℕ, �
 use Rattle.std.proofs.Common.{slice_get, Bool, true, false, Some, None, Option, Ok, Err, Result}
 use Rattle.std.proofs.Common.{IsTrue, OnOk, OnErr, is_eq, refl, sym, ap, subst, ◌∙◌, ◌+◌, ◌==◌}
 use Rattle.std.proofs.Common.{suc, drop, eq-eqb, true-eqb, ap₂, arith}
-use Rattle.std.specs.Prelude.{IfOk, is_some, if◌then◌else◌, unwrap_or}
+use Rattle.std.specs.Prelude.{IfOk, is_some, if◌then◌else◌, unwrap_or, ⊤}
 use Rattle.std.proofs.lemmas.Bool.{and_parts, not-true}
 use Rattle.std.proofs.lemmas.Cmp.{tied_itself}
 use Rattle.std.proofs.lemmas.List.{nil_from_length}
@@ -540,7 +540,7 @@ module _ (stands : TablesContent → Bool) (change : TablesContent → TablesCon
   chosen_false : (c : TablesContent) → false ≡ stands c → chosen_of c ≡ c
   chosen_false c e = ap (λ b. if b then change c else c) (sym e)
 
-  pub was_put : (b : Bool) → b ≡ false → (old mid new : State) (r : Result ℕ Error)
+  pub was_put : (b : Bool) → b ≡ false → (old mid new : State) (r : Result ⊤ Error)
       → ReplacesIfSome {E = Error} stands change old mid (Ok b)
       → Attempts (Makes change) mid new r → Attempts (Makes change) old new r
   was_put b is old mid new r h a = record {
@@ -553,10 +553,10 @@ module _ (stands : TablesContent → Bool) (change : TablesContent → TablesCon
       first : HasCleanDisk new → Makes chosen_of old mid
       first clean = h.makes.done (omega (arith, a.survives.clean, clean))
 
-      made : (r : Result ℕ Error) → HasCleanDisk new → OnOk r (Makes change mid new)
+      made : (r : Result ⊤ Error) → HasCleanDisk new → OnOk r (Makes change mid new)
           → OnOk r (Makes change old new)
       made (Err e) clean m = tt
-      made (Ok count) clean m =
+      made (Ok x) clean m =
           let f = first clean in
           makes_turned change old new
           (m.turns.content ∙ ap change (f.turns.content ∙ chosen_false
@@ -571,9 +571,9 @@ module _ (stands : TablesContent → Bool) (change : TablesContent → TablesCon
             mode = m.shows.mode;
           })
 
-      kept : (r : Result ℕ Error) → HasCleanDisk new → OnErr r (KeepsCommit mid new)
+      kept : (r : Result ⊤ Error) → HasCleanDisk new → OnErr r (KeepsCommit mid new)
           → OnErr r (KeepsCommit old new)
-      kept (Ok count) clean k = tt
+      kept (Ok x) clean k = tt
       kept (Err e) clean k =
           let f = first clean in
           record {

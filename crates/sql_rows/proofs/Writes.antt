@@ -1,5 +1,6 @@
 -- From what a text does to a table to what it makes of the content.
 use Rattle.std.proofs.Common.{◌≡◌, ℕ, true, List, Ok, Err, Result, OnOk, IsTrue, subst, arith}
+use Rattle.std.specs.Prelude.{⊤}
 use Rattle.sqlite_value.specs.Order.{Row}
 use Rattle.sqlite_trees.specs.Objects.{catalog_tree}
 use Rattle.sqlite_trees.specs.Tree.{Trees}
@@ -17,7 +18,7 @@ use Rattle.sql_tables.specs.Schema.{book_schema}
 use Rattle.sql_tables.specs.Statements.{Attempts, Changes, HasBook, HasRules, IsBook, Puts}
 use Rattle.sql_tables.proofs.Keeps.{done_as, sound_fits}
 use Rattle.sql_rows.specs.Content.{TablesContent, tables_content}
-use Rattle.sql_rows.specs.Makes.{Makes}
+use Rattle.sql_rows.specs.Makes.{HasRun, Makes}
 use Rattle.sql_rows.specs.Plain.{ArePlain}
 
 -- the parameters are the values that the text was read with
@@ -26,16 +27,17 @@ pub writes : (text : List ℕ) (values : Row) (does : State → State → Type 0
     → ((old new : State) (r : Result ℕ Error) → (IsTrue old.is_open → IsBook old)
     → OnOk r (ExecutesInside 0 text values old new r) → OnOk r (does old new))
     → ((old new : State) → does old new → Makes change old new)
-    → (params : Row) → params ≡ values → (old new : State) (r : Result ℕ Error) → HasBook old
-    → Attempts (λ old new. ExecutesInside 0 text params old new r) old new r
+    → (params : Row) → params ≡ values → (old new : State) (r : Result ⊤ Error) → HasBook old
+    → Attempts (HasRun text params) old new r
     → Attempts (Makes change) old new r
 writes text values does change runs makes params same old new r has =
-    done_as _ (Makes change) old new r (λ clean ran. made r
-    (runs old new r (has clean) (subst (λ p. OnOk r (ExecutesInside 0 text p old new r)) same ran)))
+    done_as _ (Makes change) old new r (λ clean. made r (has clean))
   where
-    made : (r : Result ℕ Error) → OnOk r (does old new) → OnOk r (Makes change old new)
-    made (Ok count) h = makes old new h
-    made (Err e) h = tt
+    made : (r : Result ⊤ Error) → (IsTrue old.is_open → IsBook old)
+        → OnOk r (HasRun text params old new) → OnOk r (Makes change old new)
+    made (Ok x) book h = makes old new (runs old new (Ok h.count) book
+        (subst (λ p. ExecutesInside 0 text p old new (Ok h.count)) same h.ran))
+    made (Err e) book h = tt
 
 -- the parameters are these values
 pub runs_with : (text : List ℕ) (params values : Row) → params ≡ values
@@ -45,6 +47,17 @@ pub runs_with : (text : List ℕ) (params values : Row) → params ≡ values
 runs_with text params values same old new r =
     subst (λ p. Attempts (λ old new. ExecutesInside 0 text p old new r) old new r) same
 
+-- the number of rows is left out
+pub ran_with : (text : List ℕ) (values : Row) (old new : State) (count : ℕ)
+    → Attempts {A = ℕ} {E = Error}
+    (λ old new. ExecutesInside 0 text values old new (Ok count)) old new (Ok count)
+    → (x : ⊤) → Attempts {A = ⊤} {E = Error} (HasRun text values) old new (Ok x)
+ran_with text values old new count a x = record {
+  done = λ clean. record { count = count; ran = a.done clean };
+  kept = a.kept;
+  survives = a.survives;
+}
+
 -- an upsert leaves tables that obey their rules
 pub rules_after : {at : ℕ} {how : Conflict} {from : Source} {clauses : List Upsert}
     (text : List ℕ) (values : Row) (does : State → State → Type 0)
@@ -53,13 +66,15 @@ pub rules_after : {at : ℕ} {how : Conflict} {from : Source} {clauses : List Up
     → ((old new : State) (r : Result ℕ Error) → (IsTrue old.is_open → IsBook old)
     → OnOk r (ExecutesInside 0 text values old new r) → OnOk r (does old new))
     → ((old new : State) → does old new → IsBook new)
-    → (params : Row) → params ≡ values → (old new : State) (r : Result ℕ Error) → HasBook old
-    → Attempts (λ old new. ExecutesInside 0 text params old new r) old new r → OnOk r (HasRules new)
+    → (params : Row) → params ≡ values → (old new : State) (r : Result ⊤ Error) → HasBook old
+    → Attempts (HasRun text params) old new r → OnOk r (HasRules new)
 rules_after {at} {how} {from} {clauses} text values does is plain runs books params same old new
-    (Ok count) has a = λ clean on.
+    (Ok x) has a = λ clean on.
     let before : HasCleanDisk old = omega (arith, a.survives.clean, clean) in
+    let done : HasRun text params old new = a.done clean in
+    let count : ℕ = done.count in
     let ran : ExecutesInside 0 text values old new (Ok count) =
-    subst (λ p. ExecutesInside 0 text p old new (Ok count)) same (a.done clean) in
+    subst (λ p. ExecutesInside 0 text p old new (Ok count)) same done.ran in
     let book : IsBook old = has before ran.1.was_open in
     let after : IsBook new = books old new (runs old new (Ok count) (has before) ran) in
     let w = runs_as text values old new book_schema book.schema (InsertOr at how from clauses) is

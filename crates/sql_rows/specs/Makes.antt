@@ -1,9 +1,11 @@
 -- What a statement does to a connection, by the content of the tables.
 -- Source: profile.
-use Rattle.std.specs.Prelude.{◌≡◌, Bool, true, false, not, IsTrue, Result, IfOk, if◌then◌else◌}
+use Rattle.std.specs.Prelude.{◌≡◌, ℕ, List, Bool, true, false, not, IsTrue, Result, Ok, IfOk}
+use Rattle.std.specs.Prelude.{if◌then◌else◌}
+use Rattle.sqlite_value.specs.Order.{Row}
 use Rattle.sqlite_trees.specs.Objects.{catalog_tree}
 use Rattle.sqlite_trees.specs.Tree.{Trees}
-use Rattle.sqlite.specs.State.{State, HasCleanDisk, Shows}
+use Rattle.sqlite.specs.State.{State, ExecutesInside, HasCleanDisk, Shows}
 use Rattle.sql_tables.specs.Statements.{AreStored, Attempts, IsBook, IsIdle}
 use Rattle.sql_rows.specs.Content.{TablesContent, tables_content}
 use Rattle.sql_rows.specs.Plain.{ArePlain}
@@ -15,6 +17,11 @@ pub record Turns (change : TablesContent → TablesContent) (old new : Trees) : 
   pub catalog : new catalog_tree ≡ old catalog_tree
   pub stored : AreStored new
   pub plain : ArePlain old → ArePlain new
+
+-- a statement has run with these parameters, whatever number of rows it reports
+pub record HasRun (text : List ℕ) (params : Row) (old new : State) : Type 0 where
+  pub count : ℕ
+  pub ran : ExecutesInside 0 text params old new (Ok count)
 
 -- inside a transaction
 pub record Makes (change : TablesContent → TablesContent) (old new : State) : Type 0 where

@@ -79,7 +79,7 @@ fn insert_account<S: Alter>(
     tx: &mut Transaction<'_, S>,
     account: &AccountNumber,
     head: &HeadColumns,
-) -> Result<usize, Error>
+) -> Result<(), Error>
     requires book { HasBook (state S.Store tx.old.conn.now) }
     ensures same_reference { tx.new.conn.ghost_name ≡ tx.old.conn.ghost_name }
     ensures makes { Attempts (Makes (with_account account.now head.now))
@@ -95,7 +95,8 @@ fn insert_account<S: Alter>(
          next_bucket = excluded.next_bucket, next_charge = excluded.next_charge",
         account,
         head,
-    )
+    )?;
+    Ok(())
 }
 
 /// Puts what is kept of an account once. An account that is opened already is the more frequent
@@ -108,7 +109,7 @@ pub fn put_account<S: Alter>(
     tx: &mut Transaction<'_, S>,
     account: &AccountNumber,
     head: &HeadColumns,
-) -> Result<usize, Error>
+) -> Result<(), Error>
     requires book { HasBook (state S.Store tx.old.conn.now) }
     ensures same_reference { tx.new.conn.ghost_name ≡ tx.old.conn.ghost_name }
     ensures makes { Attempts (Makes (with_account account.now head.now))
@@ -117,7 +118,7 @@ pub fn put_account<S: Alter>(
     ensures rules { OnOk result (HasRules (state S.Store tx.new.conn.now)) }
 {
     if replace_account(tx, account, head)? {
-        return Ok(1);
+        return Ok(());
     }
     insert_account(tx, account, head)
 }

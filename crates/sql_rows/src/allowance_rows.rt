@@ -11,8 +11,9 @@ ghost use Rattle.sql_tables.specs.Selects.{one_or_none};
 ghost use Rattle.sqlite.specs.Held.{state};
 
 use crate::ascending::{InOrder, do_ascend};
+use crate::running::run;
 use identifiers::AccountNumber;
-use sql_tables::{ReadFault, has_columns, one_of, read, read_within, small_at, text, whole, write};
+use sql_tables::{ReadFault, has_columns, one_of, read, read_within, small_at, text, whole};
 use sqlite::{Alter, Connection, Error, Row, Transaction};
 use std::alloc::Global;
 
@@ -24,14 +25,14 @@ pub fn put_allowance<S: Alter>(
     tx: &mut Transaction<'_, S>,
     account: &AccountNumber,
     bucket: u32,
-) -> Result<usize, Error>
+) -> Result<(), Error>
     requires book { HasBook (state S.Store tx.old.conn.now) }
     ensures { AttemptsOver S.Store (Makes (with_rows account.now (with_allowance bucket)))
         tx.old.conn tx.new.conn result }
 {
     let of_account = text(account.as_str());
     let number = whole(bucket);
-    write(
+    run(
         tx,
         "INSERT INTO allowance_buckets VALUES (?1, ?2) \
          ON CONFLICT (account, number) DO UPDATE SET \
@@ -48,14 +49,14 @@ pub fn remove_allowance<S: Alter>(
     tx: &mut Transaction<'_, S>,
     account: &AccountNumber,
     bucket: u32,
-) -> Result<usize, Error>
+) -> Result<(), Error>
     requires book { HasBook (state S.Store tx.old.conn.now) }
     ensures { AttemptsOver S.Store (Makes (with_rows account.now (without_allowance bucket)))
         tx.old.conn tx.new.conn result }
 {
     let of_account = text(account.as_str());
     let number = whole(bucket);
-    write(
+    run(
         tx,
         "DELETE FROM allowance_buckets WHERE account = ?1 AND number = ?2",
         &[of_account, number],

@@ -9,8 +9,9 @@ ghost use Rattle.sql_tables.specs.Statements.{HasBook, HasIdleBook, Reads, Attem
 ghost use Rattle.sql_tables.specs.Selects.{one_or_none};
 ghost use Rattle.sqlite.specs.Held.{state};
 
+use crate::running::run;
 use identifiers::AccountNumber;
-use sql_tables::{ReadFault, has_columns, one_of, read, text, text_at, whole, write};
+use sql_tables::{ReadFault, has_columns, one_of, read, text, text_at, whole};
 use sqlite::{Alter, Connection, Error, Row, Transaction};
 
 /// The texts that are kept of an accepted command.
@@ -35,7 +36,7 @@ pub fn put_answer<S: Alter>(
     name: &str,
     number: u32,
     texts: &KeptTexts,
-) -> Result<usize, Error>
+) -> Result<(), Error>
     requires book { HasBook (state S.Store tx.old.conn.now) }
     ensures { AttemptsOver S.Store (Makes (with_rows account.now (with_answer kind name.now number
         (kept_of texts.now)))) tx.old.conn tx.new.conn result }
@@ -46,7 +47,7 @@ pub fn put_answer<S: Alter>(
     let of_number = whole(number);
     let of_content = text(texts.content.as_str());
     let of_answer = text(texts.answer.as_str());
-    write(
+    run(
         tx,
         "INSERT INTO answers VALUES (?1, ?2, ?3, ?4, ?5, ?6) \
          ON CONFLICT (account, kind, name, number) DO UPDATE SET \

@@ -14,8 +14,9 @@ ghost use Rattle.sqlite.specs.Held.{state};
 ghost use Rattle.sqlite.specs.State.{HasCleanDisk};
 
 use crate::decoding::moment_at;
+use crate::running::run;
 use sql_tables::{
-    ReadFault, has_columns, large, read, read_within, small_at, text, text_at, whole, write,
+    ReadFault, has_columns, large, read, read_within, small_at, text, text_at, whole,
 };
 use sqlite::{Alter, Connection, Error, Row, Transaction};
 use std::alloc::Global;
@@ -51,7 +52,7 @@ pub fn put_book<S: Alter>(
     number: u32,
     starts: Moment,
     content: &str,
-) -> Result<usize, Error>
+) -> Result<(), Error>
     requires book { HasBook (state S.Store tx.old.conn.now) }
     ensures { AttemptsOver S.Store
         (Makes (with_book_row number (record { starts = starts; content = content.now })))
@@ -60,7 +61,7 @@ pub fn put_book<S: Alter>(
     let of_number = whole(number);
     let moment = large(starts.seconds());
     let of_content = text(content);
-    write(
+    run(
         tx,
         "INSERT INTO books VALUES (?1, ?2, ?3) \
          ON CONFLICT (number) DO UPDATE SET \

@@ -92,7 +92,7 @@ fn insert_bucket<S: Alter>(
     tx: &mut Transaction<'_, S>,
     account: &AccountNumber,
     bucket: &Bucket,
-) -> Result<usize, Error>
+) -> Result<(), Error>
     requires book { HasBook (state S.Store tx.old.conn.now) }
     ensures { AttemptsOver S.Store
         (Makes (with_rows account.now (with_bucket (plain_bucket bucket.now))))
@@ -108,7 +108,8 @@ fn insert_bucket<S: Alter>(
          charged = excluded.charged, expired = excluded.expired",
         account,
         bucket,
-    )
+    )?;
+    Ok(())
 }
 
 /// Puts the columns of an account's bucket. Whether they count money or blocks is beside them
@@ -120,14 +121,14 @@ pub fn put_bucket<S: Alter>(
     tx: &mut Transaction<'_, S>,
     account: &AccountNumber,
     bucket: &Bucket,
-) -> Result<usize, Error>
+) -> Result<(), Error>
     requires book { HasBook (state S.Store tx.old.conn.now) }
     ensures { AttemptsOver S.Store
         (Makes (with_rows account.now (with_bucket (plain_bucket bucket.now))))
         tx.old.conn tx.new.conn result }
 {
     if replace_bucket(tx, account, bucket)? {
-        return Ok(1);
+        return Ok(());
     }
     insert_bucket(tx, account, bucket)
 }

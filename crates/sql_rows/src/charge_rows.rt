@@ -10,6 +10,7 @@ ghost use Rattle.sql_tables.specs.Statements.{HasBook, HasIdleBook, IsInside, Re
 ghost use Rattle.sqlite.specs.Held.{state};
 
 use crate::decoding::{moment_at, session_at};
+use crate::running::run;
 use identifiers::AccountNumber;
 use ledger::ChargeRow;
 use sql_tables::{
@@ -28,7 +29,7 @@ pub fn put_charge<S: Alter>(
     tx: &mut Transaction<'_, S>,
     account: &AccountNumber,
     charge: &ChargeRow,
-) -> Result<usize, Error>
+) -> Result<(), Error>
     requires book { HasBook (state S.Store tx.old.conn.now) }
     ensures { AttemptsOver S.Store
         (Makes (with_rows account.now (with_charge_row (plain_charge charge.now))))
@@ -43,7 +44,7 @@ pub fn put_charge<S: Alter>(
     let rated = checked(charge.rated.0, 7)?;
     let collected = checked(charge.collected.0, 8)?;
     let uncollected = checked(charge.uncollected.0, 9)?;
-    write(
+    run(
         tx,
         "INSERT INTO charges VALUES (?1, ?2, ?3, ?4, ?5, ?6, ?7, ?8, ?9) \
          ON CONFLICT (account, number) DO UPDATE SET \

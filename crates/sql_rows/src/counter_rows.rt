@@ -74,7 +74,7 @@ fn insert_counter<S: Alter>(
     tx: &mut Transaction<'_, S>,
     account: &AccountNumber,
     counter: &Counter,
-) -> Result<usize, Error>
+) -> Result<(), Error>
     requires book { HasBook (state S.Store tx.old.conn.now) }
     ensures { AttemptsOver S.Store (Makes (with_rows account.now (with_counter_row counter.now)))
         tx.old.conn tx.new.conn result }
@@ -87,7 +87,8 @@ fn insert_counter<S: Alter>(
          cycle = excluded.cycle, blocks = excluded.blocks",
         account,
         counter,
-    )
+    )?;
+    Ok(())
 }
 
 /// Puts a counter of an account.
@@ -99,13 +100,13 @@ pub fn put_counter<S: Alter>(
     tx: &mut Transaction<'_, S>,
     account: &AccountNumber,
     counter: &Counter,
-) -> Result<usize, Error>
+) -> Result<(), Error>
     requires book { HasBook (state S.Store tx.old.conn.now) }
     ensures { AttemptsOver S.Store (Makes (with_rows account.now (with_counter_row counter.now)))
         tx.old.conn tx.new.conn result }
 {
     if replace_counter(tx, account, counter)? {
-        return Ok(1);
+        return Ok(());
     }
     insert_counter(tx, account, counter)
 }

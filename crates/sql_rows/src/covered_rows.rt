@@ -9,8 +9,9 @@ ghost use Rattle.sql_tables.specs.Statements.{HasBook, HasIdleBook, Reads, Attem
 ghost use Rattle.sqlite.specs.Held.{state};
 
 use crate::ascending::{InOrder, do_ascend};
+use crate::running::run;
 use identifiers::AccountNumber;
-use sql_tables::{ReadFault, checked, has_columns, number_at, read, small_at, text, whole, write};
+use sql_tables::{ReadFault, checked, has_columns, number_at, read, small_at, text, whole};
 use sqlite::{Alter, Connection, Error, Row, Transaction};
 use std::alloc::Global;
 use units::Blocks;
@@ -34,7 +35,7 @@ pub fn put_covered<S: Alter>(
     account: &AccountNumber,
     charge: u32,
     covered: Blocks,
-) -> Result<usize, Error>
+) -> Result<(), Error>
     requires book { HasBook (state S.Store tx.old.conn.now) }
     ensures { AttemptsOver S.Store (Makes (with_rows account.now
         (with_covered (record { number = charge; blocks = covered.0 })))) tx.old.conn tx.new.conn
@@ -43,7 +44,7 @@ pub fn put_covered<S: Alter>(
     let of_account = text(account.as_str());
     let number = whole(charge);
     let blocks = checked(covered.0 as u128, 3)?;
-    write(
+    run(
         tx,
         "INSERT INTO covered VALUES (?1, ?2, ?3) \
          ON CONFLICT (account, number) DO UPDATE SET \
@@ -60,14 +61,14 @@ pub fn remove_covered<S: Alter>(
     tx: &mut Transaction<'_, S>,
     account: &AccountNumber,
     charge: u32,
-) -> Result<usize, Error>
+) -> Result<(), Error>
     requires book { HasBook (state S.Store tx.old.conn.now) }
     ensures { AttemptsOver S.Store (Makes (with_rows account.now (without_covered charge)))
         tx.old.conn tx.new.conn result }
 {
     let of_account = text(account.as_str());
     let number = whole(charge);
-    write(
+    run(
         tx,
         "DELETE FROM covered WHERE account = ?1 AND number = ?2",
         &[of_account, number],

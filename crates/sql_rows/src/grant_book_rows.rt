@@ -8,8 +8,9 @@ ghost use Rattle.sql_tables.specs.Statements.{HasBook, HasIdleBook, Reads, Attem
 ghost use Rattle.sqlite.specs.Held.{state};
 
 use crate::ascending::{InOrder, do_ascend};
+use crate::running::run;
 use identifiers::{AccountNumber, SessionId};
-use sql_tables::{ReadFault, has_columns, read, small_at, text, whole, write};
+use sql_tables::{ReadFault, has_columns, read, small_at, text, whole};
 use sqlite::{Alter, Connection, Error, Row, Transaction};
 use std::alloc::Global;
 
@@ -32,7 +33,7 @@ pub fn put_grant_book<S: Alter>(
     session: &SessionId,
     group: u32,
     book: u32,
-) -> Result<usize, Error>
+) -> Result<(), Error>
     requires book { HasBook (state S.Store tx.old.conn.now) }
     ensures { AttemptsOver S.Store
         (Makes (with_rows account.now (with_grant_book session.now group book)))
@@ -42,7 +43,7 @@ pub fn put_grant_book<S: Alter>(
     let of_session = text(session.as_str());
     let of_group = whole(group);
     let number = whole(book);
-    write(
+    run(
         tx,
         "INSERT INTO grant_books VALUES (?1, ?2, ?3, ?4) \
          ON CONFLICT (account, session, rating_group) DO UPDATE SET \
@@ -61,7 +62,7 @@ pub fn remove_grant_book<S: Alter>(
     account: &AccountNumber,
     session: &SessionId,
     group: u32,
-) -> Result<usize, Error>
+) -> Result<(), Error>
     requires book { HasBook (state S.Store tx.old.conn.now) }
     ensures { AttemptsOver S.Store
         (Makes (with_rows account.now (without_grant_book session.now group)))
@@ -70,7 +71,7 @@ pub fn remove_grant_book<S: Alter>(
     let of_account = text(account.as_str());
     let of_session = text(session.as_str());
     let of_group = whole(group);
-    write(
+    run(
         tx,
         "DELETE FROM grant_books WHERE account = ?1 AND session = ?2 AND rating_group = ?3",
         &[of_account, of_session, of_group],

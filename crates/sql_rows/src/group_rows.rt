@@ -13,10 +13,11 @@ ghost use Rattle.sqlite.specs.Values.{bound_value, or_null};
 
 use crate::ascending::{InOrder, do_ascend};
 use crate::decoding::flag_at;
+use crate::running::run;
 use identifiers::{AccountNumber, SessionId};
 use sql_tables::{
     ReadFault, checked, flag, has_columns, null, null_at, number_at, read, small_at, text, text_at,
-    whole, write,
+    whole,
 };
 use sqlite::types::ValueRef;
 use sqlite::{Alter, Connection, Error, Row, Transaction};
@@ -112,7 +113,7 @@ pub fn put_group<S: Alter>(
     group: u32,
     used: u64,
     periods: Option<PutNames<'_>>,
-) -> Result<usize, Error>
+) -> Result<(), Error>
     requires book { HasBook (state S.Store tx.old.conn.now) }
     ensures { AttemptsOver S.Store (Makes (with_rows account.now (with_group_row session.now group
         (record { used = used; periods = option_map names_put periods.entry }))))
@@ -125,7 +126,7 @@ pub fn put_group<S: Alter>(
     let reserved = flag(periods.is_some());
     let at_grant = before_or_null(periods);
     let at_switch = after_or_null(periods);
-    write(
+    run(
         tx,
         "INSERT INTO session_groups VALUES (?1, ?2, ?3, ?4, ?5, ?6, ?7) \
          ON CONFLICT (account, session, rating_group) DO UPDATE SET \
@@ -151,7 +152,7 @@ pub fn add_group<S: Alter>(
     group: u32,
     used: u64,
     periods: Option<PutNames<'_>>,
-) -> Result<usize, Error>
+) -> Result<(), Error>
     requires book { HasBook (state S.Store tx.old.conn.now) }
     ensures { AttemptsOver S.Store (Adds (has_group account.now session.now group)
         (with_rows account.now (with_group_row session.now group
@@ -165,7 +166,7 @@ pub fn add_group<S: Alter>(
     let reserved = flag(periods.is_some());
     let at_grant = before_or_null(periods);
     let at_switch = after_or_null(periods);
-    write(
+    run(
         tx,
         "INSERT INTO session_groups VALUES (?1, ?2, ?3, ?4, ?5, ?6, ?7)",
         &[

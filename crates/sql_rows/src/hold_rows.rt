@@ -10,9 +10,10 @@ ghost use Rattle.sql_tables.specs.Statements.{AttemptsOver};
 ghost use Rattle.sqlite.specs.Held.{state};
 
 use crate::ascending::{InOrder, do_ascend};
+use crate::running::run;
 use buckets::HeldAmount;
 use identifiers::{AccountNumber, SessionId};
-use sql_tables::{ReadFault, checked, has_columns, number_at, read, small_at, text, whole, write};
+use sql_tables::{ReadFault, checked, has_columns, number_at, read, small_at, text, whole};
 use sqlite::{Alter, Connection, Error, Row, Transaction};
 use std::alloc::Global;
 
@@ -46,7 +47,7 @@ pub fn put_hold<S: Alter>(
     session: &SessionId,
     group: u32,
     hold: &HeldAmount,
-) -> Result<usize, Error>
+) -> Result<(), Error>
     requires book { HasBook (state S.Store tx.old.conn.now) }
     ensures { AttemptsOver S.Store (Makes (with_rows account.now
         (with_hold_row session.now group hold.now.bucket hold.now.amount))) tx.old.conn tx.new.conn
@@ -57,7 +58,7 @@ pub fn put_hold<S: Alter>(
     let of_group = whole(group);
     let bucket = whole(hold.bucket);
     let amount = checked(hold.amount as u128, 5)?;
-    write(
+    run(
         tx,
         "INSERT INTO holds VALUES (?1, ?2, ?3, ?4, ?5) \
          ON CONFLICT (account, session, rating_group, bucket) DO UPDATE SET \
@@ -76,7 +77,7 @@ pub fn remove_holds<S: Alter>(
     account: &AccountNumber,
     session: &SessionId,
     group: u32,
-) -> Result<usize, Error>
+) -> Result<(), Error>
     requires book { HasBook (state S.Store tx.old.conn.now) }
     ensures { AttemptsOver S.Store (Makes (with_rows account.now (without_holds session.now group)))
         tx.old.conn tx.new.conn result }
@@ -84,7 +85,7 @@ pub fn remove_holds<S: Alter>(
     let of_account = text(account.as_str());
     let of_session = text(session.as_str());
     let of_group = whole(group);
-    write(
+    run(
         tx,
         "DELETE FROM holds WHERE account = ?1 AND session = ?2 AND rating_group = ?3",
         &[of_account, of_session, of_group],

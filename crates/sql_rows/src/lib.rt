@@ -22,6 +22,7 @@ mod live_bucket_rows;
 mod meta_rows;
 mod open_group_rows;
 mod reserved_rows;
+mod running;
 mod session_book_rows;
 mod session_hold_rows;
 mod session_rows;

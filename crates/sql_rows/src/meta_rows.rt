@@ -13,8 +13,9 @@ ghost use Rattle.sqlite.specs.Held.{state};
 ghost use Rattle.sqlite.specs.State.{HasCleanDisk};
 
 use crate::decoding::moment_at;
+use crate::running::run;
 use sql_tables::{
-    ReadFault, has_columns, large, one_of, read, read_within, small_at, text, text_at, whole, write,
+    ReadFault, has_columns, large, one_of, read, read_within, small_at, text, text_at, whole,
 };
 use sqlite::{Alter, Connection, Error, Row, Transaction};
 use units::Moment;
@@ -40,7 +41,7 @@ pub fn put_meta<S: Alter>(
     version: u32,
     book: &str,
     last: Moment,
-) -> Result<usize, Error>
+) -> Result<(), Error>
     requires book { HasBook (state S.Store tx.old.conn.now) }
     ensures same_reference { tx.new.conn.ghost_name ≡ tx.old.conn.ghost_name }
     ensures makes { Attempts
@@ -53,7 +54,7 @@ pub fn put_meta<S: Alter>(
     let of_version = whole(version);
     let of_book = text(book);
     let moment = large(last.seconds());
-    write(
+    run(
         tx,
         "INSERT INTO meta VALUES (?1, ?2, ?3, ?4) \
          ON CONFLICT (id) DO UPDATE SET \
@@ -69,7 +70,7 @@ pub fn put_meta<S: Alter>(
 ///
 /// # Errors
 /// An error of the store. Then nothing is committed.
-pub fn put_last_moment<S: Alter>(tx: &mut Transaction<'_, S>, last: Moment) -> Result<usize, Error>
+pub fn put_last_moment<S: Alter>(tx: &mut Transaction<'_, S>, last: Moment) -> Result<(), Error>
     requires book { HasBook (state S.Store tx.old.conn.now) }
     requires rules { HasRules (state S.Store tx.old.conn.now) }
     ensures same_reference { tx.new.conn.ghost_name ≡ tx.old.conn.ghost_name }
@@ -79,7 +80,7 @@ pub fn put_last_moment<S: Alter>(tx: &mut Transaction<'_, S>, last: Moment) -> R
     ensures rules { OnOk result (HasRules (state S.Store tx.new.conn.now)) }
 {
     let moment = large(last.seconds());
-    write(
+    run(
         tx,
         "UPDATE meta SET last_moment = ?1 WHERE id = 1",
         &[moment],

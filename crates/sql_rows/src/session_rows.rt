@@ -15,11 +15,10 @@ ghost use Rattle.sqlite.specs.State.{HasCleanDisk};
 
 use crate::ascending::{InOrder, do_ascend};
 use crate::decoding::{moment_at, session_at, state_at};
+use crate::running::run;
 use identifiers::{AccountNumber, SessionId};
 use reserving::{Session, SessionState};
-use sql_tables::{
-    ReadFault, has_columns, large, one_of, read, read_within, small_at, text, whole, write,
-};
+use sql_tables::{ReadFault, has_columns, large, one_of, read, read_within, small_at, text, whole};
 use sqlite::{Alter, Connection, Error, Row, Transaction};
 use std::alloc::Global;
 
@@ -39,7 +38,7 @@ pub fn put_session<S: Alter>(
     tx: &mut Transaction<'_, S>,
     account: &AccountNumber,
     session: &Session,
-) -> Result<usize, Error>
+) -> Result<(), Error>
     requires book { HasBook (state S.Store tx.old.conn.now) }
     ensures { AttemptsOver S.Store (Makes (with_rows account.now (with_session_row session.now)))
         tx.old.conn tx.new.conn result }
@@ -49,7 +48,7 @@ pub fn put_session<S: Alter>(
     let last_number = whole(session.last_number);
     let touched = large(session.touched.seconds());
     let state = whole(state_number(session.state));
-    write(
+    run(
         tx,
         "INSERT INTO sessions VALUES (?1, ?2, ?3, ?4, ?5) \
          ON CONFLICT (account, session) DO UPDATE SET \
@@ -68,7 +67,7 @@ pub fn add_session<S: Alter>(
     tx: &mut Transaction<'_, S>,
     account: &AccountNumber,
     session: &Session,
-) -> Result<usize, Error>
+) -> Result<(), Error>
     requires book { HasBook (state S.Store tx.old.conn.now) }
     ensures { AttemptsOver S.Store (Adds (has_session account.now session.now.id)
         (with_rows account.now (with_session_row session.now)))
@@ -79,7 +78,7 @@ pub fn add_session<S: Alter>(
     let last_number = whole(session.last_number);
     let touched = large(session.touched.seconds());
     let state = whole(state_number(session.state));
-    write(
+    run(
         tx,
         "INSERT INTO sessions VALUES (?1, ?2, ?3, ?4, ?5)",
         &[of_account, name, last_number, touched, state],

@@ -12,10 +12,10 @@ ghost use Rattle.sqlite.specs.Held.{state};
 ghost use Rattle.sqlite.specs.Values.{bound_value, or_null};
 
 use crate::decoding::redeemer_at;
+use crate::running::run;
 use identifiers::AccountNumber;
 use sql_tables::{
     ReadFault, has_columns, large, null, number_at, one_of, optional, optional_at, read, text,
-    write,
 };
 use sqlite::types::ValueRef;
 use sqlite::{Alter, Connection, Error, Row, Transaction};
@@ -58,7 +58,7 @@ pub fn put_voucher<S: Alter>(
     days: Option<u32>,
     scope: Option<u32>,
     account: Option<&AccountNumber>,
-) -> Result<usize, Error>
+) -> Result<(), Error>
     requires book { HasBook (state S.Store tx.old.conn.now) }
     ensures { AttemptsOver S.Store (Makes (with_voucher_row code.now (record {
       amount = amount;
@@ -72,7 +72,7 @@ pub fn put_voucher<S: Alter>(
     let of_days = optional(days);
     let of_scope = optional(scope);
     let redeemer = redeemer_or_null(account);
-    write(
+    run(
         tx,
         "INSERT INTO vouchers VALUES (?1, ?2, ?3, ?4, ?5) \
          ON CONFLICT (code) DO UPDATE SET \

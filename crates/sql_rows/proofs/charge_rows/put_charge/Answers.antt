@@ -21,5 +21,5 @@ returns g c = record {
       (c.in_ok-rated.ensures ∙ ap (λ (x : ChargeRow). nat x.rated.0) c.charge.view_is)
       (c.in_ok-collected.ensures ∙ ap (λ (x : ChargeRow). nat x.collected.0) c.charge.view_is)
       (c.in_ok-uncollected.ensures ∙ ap (λ (x : ChargeRow). nat x.uncollected.0) c.charge.view_is))
-      _ _ c.write.result c.requires.book c.write.ensures.runs;
+      _ _ c.run.result c.requires.book c.run.ensures.makes;
 }

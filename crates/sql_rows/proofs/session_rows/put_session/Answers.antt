@@ -15,5 +15,5 @@ returns g c = record {
       c.whole-last_number.ensures
       (c.large-touched.ensures ∙ ap nat c.seconds.ensures.value)
       (c.whole-state.ensures ∙ ap nat c.state_number.ensures))
-      _ _ c.write.result c.requires.book c.write.ensures.runs;
+      _ _ c.run.result c.requires.book c.run.ensures.makes;
 }
