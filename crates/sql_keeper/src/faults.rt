@@ -8,7 +8,10 @@ use keepers::StoreFault;
 use sql_tables::ReadFault;
 use sqlite::{Error, ErrorCode};
 
-/// Counts a failure; the count stays at 10^18.
+/// The count of failures stays at it.
+const MOST_FAILURES: u64 = 1_000_000_000_000_000_000;
+
+/// Counts a failure, up to `MOST_FAILURES`.
 fn raise(failures: &mut u64)
     requires { failures.old ≤ max_failures }
     ensures bounded { failures.new ≤ max_failures }
@@ -16,7 +19,7 @@ fn raise(failures: &mut u64)
     ensures raised { min (failures.old + 1) max_failures ≤ failures.new }
     ensures once { failures.new ≡ min (failures.old + 1) max_failures }
 {
-    if *failures < 1_000_000_000_000_000_000 {
+    if *failures < MOST_FAILURES {
         *failures += 1;
     }
 }
@@ -25,10 +28,7 @@ fn raise(failures: &mut u64)
 fn is_memory(error: Error) -> bool
     ensures { result ≡ is_memory error }
 {
-    match error {
-        Error::SqliteFailure(ErrorCode::OutOfMemory) => true,
-        _ => false,
-    }
+    matches!(error, Error::SqliteFailure(ErrorCode::OutOfMemory))
 }
 
 /// The fault of a call that failed. Where it isn't lack of memory it counts: so does a row out of

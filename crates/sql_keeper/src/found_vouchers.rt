@@ -24,13 +24,8 @@ use voucher_rules::{Voucher, VoucherTerms};
 fn terms_of(amount: u64, days: Option<u32>, scope: Option<u32>) -> Result<VoucherTerms, ReadFault>
     ensures { IfOk result (λ t. t ≡ record { amount = amount; days = days; scope = scope }) }
 {
-    let Some(amount) = Money::new(amount) else {
-        return Err(ReadFault::Rules);
-    };
-    match VoucherTerms::new(amount, days, scope) {
-        Some(terms) => Ok(terms),
-        None => Err(ReadFault::Rules),
-    }
+    let amount = Money::new(amount).ok_or(ReadFault::Rules)?;
+    VoucherTerms::new(amount, days, scope).ok_or(ReadFault::Rules)
 }
 
 /// The voucher of a row. It is out of the rules where its terms are.

@@ -66,32 +66,21 @@ pub(crate) enum Standing {
 pub(crate) fn is_unknown(standing: Standing) -> bool
     ensures { result ≡ is_unknown standing }
 {
-    match standing {
-        Standing::Unknown => true,
-        Standing::Open => false,
-        Standing::Over => false,
-    }
+    matches!(standing, Standing::Unknown)
 }
 
 /// Whether a session is open.
 pub(crate) fn stands_open(standing: Standing) -> bool
     ensures { result ≡ stands_open standing }
 {
-    match standing {
-        Standing::Unknown => false,
-        Standing::Open => true,
-        Standing::Over => false,
-    }
+    matches!(standing, Standing::Open)
 }
 
 /// A copy of a session's name; None for lack of memory.
 fn copy_of(session: &SessionId) -> Option<SessionId>
     ensures { IfSome result (λ s. s ≡ session.now) }
 {
-    match session.clone() {
-        Ok(copy) => Some(copy),
-        Err(_) => None,
-    }
+    session.clone().ok()
 }
 
 /// Whether a session's state is that of an open one.
@@ -207,10 +196,8 @@ fn seen_as(account: AccountNumber, rows: &EarlierRows) -> SeenAccount
 fn seen_of(account: &AccountNumber, rows: &EarlierRows) -> Option<SeenAccount>
     ensures { IfSome result (IsSeenOf account.now rows.now) }
 {
-    match account.clone() {
-        Ok(copy) => Some(seen_as(copy, rows)),
-        Err(_) => None,
-    }
+    let copy = account.clone().ok()?;
+    Some(seen_as(copy, rows))
 }
 
 /// What is seen of an account that is loaded; None for lack of memory.
@@ -247,10 +234,7 @@ pub(crate) fn seen_in(read: &Result<Option<Loaded<'_>>, ReadFault>) -> Option<Se
 fn has_no_row(read: &Result<bool, ReadFault>) -> bool
     ensures { IsTrue result → read.now ≡ Ok false }
 {
-    match read {
-        Ok(known) => !*known,
-        Err(_) => false,
-    }
+    matches!(read, Ok(false))
 }
 
 /// Whether two numbers are those of one account.
@@ -264,16 +248,14 @@ fn is_same_account(one: &AccountNumber, other: &AccountNumber) -> bool
 fn unknown_alone(account: &AccountNumber, session: &SessionId) -> Option<SeenAccount>
     ensures { IfSome result (IsUnknownAlone account.now session.now) }
 {
-    match account.clone() {
-        Ok(account) => Some(SeenAccount {
-            account,
-            head: None,
-            live: None,
-            grant: None,
-            unknown: copy_of(session),
-        }),
-        Err(_) => None,
-    }
+    let account = account.clone().ok()?;
+    Some(SeenAccount {
+        account,
+        head: None,
+        live: None,
+        grant: None,
+        unknown: copy_of(session),
+    })
 }
 
 /// What is seen, with a session that has no row in the place of another one.
