@@ -110,12 +110,11 @@ module _ (a : List ℕ) (row : ChargeRow) (none : row.covered.0 ≡ 0) where
             told = ap (λ n. n == 1) x.none ∙ ap not (sym standing);
           }
 
-  pub adds_charge : (params : Row) → params ≡ values → (old new : State) (count : ℕ)
-      → HasBook old
+  pub adds_charge : (old new : State) (count : ℕ) → HasBook old
       → Attempts {A = ℕ} {E = Error}
-      (λ old new. ExecutesInside 0 add_charge_text params old new (Ok count)) old new (Ok count)
+      (λ old new. ExecutesInside 0 add_charge_text values old new (Ok count)) old new (Ok count)
       → AddsIfNone {E = Error} stands (with_rows a (with_charge_row row)) old new (Ok (count == 1))
-  adds_charge params same old new count has ran = record {
+  adds_charge old new count has ran = record {
     makes = record {
       done = λ clean. (is clean).made;
       kept = ran.kept;
@@ -127,6 +126,4 @@ module _ (a : List ℕ) (row : ChargeRow) (none : row.covered.0 ≡ 0) where
       is : HasCleanDisk new → IsCharged old new count
       is clean =
           charged old new count (adds old new (Ok count)
-          (has (omega (arith, ran.survives.clean, clean)))
-          (subst (λ p. ExecutesInside 0 add_charge_text p old new (Ok count)) same
-          (ran.done clean)))
+          (has (omega (arith, ran.survives.clean, clean))) (ran.done clean))

@@ -1,7 +1,6 @@
 -- What the text of `add_session` does.
 use Rattle.std.specs.Prelude.{codes, ⊤}
 use Rattle.std.proofs.Common.{◌≡◌, inl, inr, ℕ, List, Result, OnOk, IsTrue, refl, arith}
-use Rattle.sqlite_value.specs.Order.{Row}
 use Rattle.sqlite_schema.specs.declared.command.Source.TheVariants.{Values}
 use Rattle.sqlite_schema.specs.declared.command.Command.TheVariants.{Insert}
 use Rattle.sqlite_tied.specs.Compute.{everything}
@@ -40,11 +39,10 @@ module _ (a : List ℕ) (row : Session) where
       (inr (inr (inr (inr (inl refl))))) refl (λ e. omega arith) refl
       add_session_text terms 6 add_is add_plain (values a row) refl (keyed a row)
 
-  pub adds_session : (params : Row) → params ≡ values a row
-      → (old new : State) (r : Result ⊤ Error) → HasBook old
-      → Attempts (HasRun add_session_text params) old new r
+  pub adds_session : (old new : State) (r : Result ⊤ Error) → HasBook old
+      → Attempts (HasRun add_session_text (values a row)) old new r
       → Attempts (Adds (has_session a row.id) (with_rows a (with_session_row row))) old new r
   adds_session = inserts sessions (values a row) (has_session a row.id)
       (with_rows a (with_session_row row)) add_session_text (λ trees. is_some_map session_in_row _)
       (puts_make sessions (values a row) (with_rows a (with_session_row row)) (turns a row)
-      (plain_session a row)) runs
+      (plain_session a row)) runs (values a row) refl

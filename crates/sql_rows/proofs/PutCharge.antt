@@ -127,14 +127,13 @@ module _ (a : List ℕ) (row : ChargeRow) (none : row.covered.0 ≡ 0) where
       (same_name a x && (nat_eq row.number n))
       (text_number a x row.number n) ∙ apart_if (same_name a x) (nat_eq row.number n) _ _))
 
-  pub makes_charge : (params : Row) → params ≡ values
-      → (old new : State) (r : Result ⊤ Error) → HasBook old
-      → Attempts (HasRun put_charge_text params) old new r
+  pub makes_charge : (old new : State) (r : Result ⊤ Error) → HasBook old
+      → Attempts (HasRun put_charge_text values) old new r
       → Attempts (Makes (with_rows a (with_charge_row row))) old new r
   makes_charge =
       writes put_charge_text values (Puts charges values) (with_rows a (with_charge_row row)) puts
       (puts_make charges values (with_rows a (with_charge_row row)) charge_turns
-      (plain_beside charges values (omega arith) (omega arith) (omega arith)))
+      (plain_beside charges values (omega arith) (omega arith) (omega arith))) values refl
 
   -- the parameters, as they are bound
   pub bound_charge : (v1 v2 v3 v4 v5 v6 v7 v8 v9 : Value)

@@ -1,6 +1,6 @@
 -- What the text of `put_last_moment` does.
 use Rattle.std.specs.Prelude.{codes, if◌then◌else◌, is_some, length, option_map, ◌+◌, ⊤}
-use Rattle.std.proofs.Common.{◌≡◌, inl, inr, ℕ, ℤ, List, [], ◌∷◌, map, drop, Bool, true, Some, None}
+use Rattle.std.proofs.Common.{◌≡◌, inl, inr, ℕ, List, [], ◌∷◌, map, drop, Bool, true, Some, None}
 use Rattle.std.proofs.Common.{Option, Equal, Ok, Err, Result, OnOk, IsTrue, refl, sym, ap, ap₂}
 use Rattle.std.proofs.Common.{subst, ◌∙◌, arith, pos}
 use Rattle.std.specs.Cmp.{unsigned_Decides}
@@ -255,7 +255,8 @@ module _ (t : ℕ) where
       → Attempts (HasRun put_last_moment_text ps) old new r
       → Attempts (Makes (with_last_moment t)) old new r
   makes_last_moment ps same old new r has rules =
-      done_as _ (Makes (with_last_moment t)) old new r (λ clean. made_of r (has clean) (rules clean))
+      done_as _ (Makes (with_last_moment t)) old new r
+      (λ clean. made_of r (has clean) (rules clean))
     where
       made_of : (r : Result ⊤ Error) → (IsTrue old.is_open → IsBook old)
           → (IsTrue old.is_open → Fits book_schema old.now.trees)

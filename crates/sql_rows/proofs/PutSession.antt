@@ -128,15 +128,14 @@ module _ (a : List ℕ) (row : Session) where
       (session_key x s) (same_name a x && (same_name row.id s))
       (text_text a x row.id s) ∙ apart_if (same_name a x) (same_name row.id s) _ _))
 
-  pub makes_session : (params : Row) → params ≡ values
-      → (old new : State) (r : Result ⊤ Error) → HasBook old
-      → Attempts (HasRun put_session_text params) old new r
+  pub makes_session : (old new : State) (r : Result ⊤ Error) → HasBook old
+      → Attempts (HasRun put_session_text values) old new r
       → Attempts (Makes (with_rows a (with_session_row row))) old new r
   makes_session =
       writes put_session_text values (Puts sessions values) (with_rows a (with_session_row row))
       puts
       (puts_make sessions values (with_rows a (with_session_row row)) turns
-      (plain_session a row))
+      (plain_session a row)) values refl
 
   -- the parameters, as they are bound
   pub bound_session : (v1 v2 v3 v4 v5 : Value)

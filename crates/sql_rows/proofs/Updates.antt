@@ -25,7 +25,7 @@ use Rattle.sqlite_rules.specs.declared.error.Rowids.TheVariants.{Given}
 use Rattle.sqlite_rules.proofs.PlaceLemmas.{given as given_news}
 use Rattle.sqlite.specs.Does.{Tally}
 use Rattle.sqlite.specs.Effect.{Answers, Database}
-use Rattle.sqlite.specs.Rows.{Task, Updates, Written}
+use Rattle.sqlite.specs.Rows.{Updates, Written}
 use Rattle.sqlite.specs.State.{State, Writes}
 use Rattle.sqlite.proofs.Callers.{one_step}
 use Rattle.sql_tables.specs.Keyed.{key_of, IsStored}

@@ -2,15 +2,15 @@
 
 ghost use Rattle.std.specs.Prelude.{◌≡◌, map, false, IsTrue, IfOk};
 ghost use Rattle.sql_rows.specs.Content.{has_charge, rows_in, with_charge_row, with_rows};
-ghost use Rattle.sql_rows.specs.Values.{charge_cells, plain_charge};
+ghost use Rattle.sql_rows.specs.Values.{charge_cells, charge_values, plain_charge};
 ghost use Rattle.sql_rows.specs.Lists.{AreChargeRows, NumbersRise, is_row_within};
 ghost use Rattle.sql_rows.specs.Each.{with_charges};
 ghost use Rattle.sql_rows.specs.Makes.{AddsIfNone, Makes, MakesIfOpen};
 ghost use Rattle.sql_tables.specs.Statements.{HasBook, HasIdleBook, IsInside, Reads, AttemptsOver};
 ghost use Rattle.sqlite.specs.Held.{state};
+ghost use Rattle.sqlite.specs.State.{ExecutesInside};
 
 use crate::decoding::{moment_at, session_at};
-use crate::running::run;
 use identifiers::AccountNumber;
 use ledger::ChargeRow;
 use sql_tables::{
@@ -19,6 +19,47 @@ use sql_tables::{
 use sqlite::{Alter, Connection, Error, Row, Transaction};
 use std::alloc::Global;
 use units::{Amount, Blocks};
+
+/// Runs a statement whose parameters are the columns of an account's charge, in their order. It
+/// answers the number of rows.
+///
+/// # Errors
+/// As of `put_charge`.
+fn write_charge<S: Alter>(
+    tx: &mut Transaction<'_, S>,
+    sql: &str,
+    account: &AccountNumber,
+    charge: &ChargeRow,
+) -> Result<usize, Error>
+    ensures { AttemptsOver S.Store (λ old new.
+        ExecutesInside 0 sql.now (charge_values account.now charge.now) old new result)
+        tx.old.conn tx.new.conn result }
+{
+    let of_account = text(account.as_str());
+    let number = whole(charge.number);
+    let moment = large(charge.moment.seconds());
+    let session = text(charge.session.as_str());
+    let group = whole(charge.group);
+    let blocks = checked(charge.blocks.0 as u128, 6)?;
+    let rated = checked(charge.rated.0, 7)?;
+    let collected = checked(charge.collected.0, 8)?;
+    let uncollected = checked(charge.uncollected.0, 9)?;
+    write(
+        tx,
+        sql,
+        &[
+            of_account,
+            number,
+            moment,
+            session,
+            group,
+            blocks,
+            rated,
+            collected,
+            uncollected,
+        ],
+    )
+}
 
 /// Puts the columns of an account's charge. Its covered blocks are beside them (`put_covered`).
 ///
@@ -35,16 +76,7 @@ pub fn put_charge<S: Alter>(
         (Makes (with_rows account.now (with_charge_row (plain_charge charge.now))))
         tx.old.conn tx.new.conn result }
 {
-    let of_account = text(account.as_str());
-    let number = whole(charge.number);
-    let moment = large(charge.moment.seconds());
-    let session = text(charge.session.as_str());
-    let group = whole(charge.group);
-    let blocks = checked(charge.blocks.0 as u128, 6)?;
-    let rated = checked(charge.rated.0, 7)?;
-    let collected = checked(charge.collected.0, 8)?;
-    let uncollected = checked(charge.uncollected.0, 9)?;
-    run(
+    write_charge(
         tx,
         "INSERT INTO charges VALUES (?1, ?2, ?3, ?4, ?5, ?6, ?7, ?8, ?9) \
          ON CONFLICT (account, number) DO UPDATE SET \
@@ -52,18 +84,10 @@ pub fn put_charge<S: Alter>(
          session = excluded.session, rating_group = excluded.rating_group, \
          blocks = excluded.blocks, rated = excluded.rated, collected = excluded.collected, \
          uncollected = excluded.uncollected",
-        &[
-            of_account,
-            number,
-            moment,
-            session,
-            group,
-            blocks,
-            rated,
-            collected,
-            uncollected,
-        ],
-    )
+        account,
+        charge,
+    )?;
+    Ok(())
 }
 
 /// Adds the columns of an account's charge, if it has none of its number, and answers whether it
@@ -82,30 +106,12 @@ pub fn add_charge<S: Alter>(
         (with_rows account.now (with_charge_row (plain_charge charge.now)))
         (state S.Store tx.old.conn.now) (state S.Store tx.new.conn.now) result }
 {
-    let of_account = text(account.as_str());
-    let number = whole(charge.number);
-    let moment = large(charge.moment.seconds());
-    let session = text(charge.session.as_str());
-    let group = whole(charge.group);
-    let blocks = checked(charge.blocks.0 as u128, 6)?;
-    let rated = checked(charge.rated.0, 7)?;
-    let collected = checked(charge.collected.0, 8)?;
-    let uncollected = checked(charge.uncollected.0, 9)?;
-    let count = write(
+    let count = write_charge(
         tx,
         "INSERT INTO charges VALUES (?1, ?2, ?3, ?4, ?5, ?6, ?7, ?8, ?9) \
          ON CONFLICT (account, number) DO NOTHING",
-        &[
-            of_account,
-            number,
-            moment,
-            session,
-            group,
-            blocks,
-            rated,
-            collected,
-            uncollected,
-        ],
+        account,
+        charge,
     )?;
     Ok(count == 1)
 }

@@ -2,7 +2,7 @@
 
 ghost use Rattle.std.specs.Prelude.{◌≡◌, map, None, IfOk};
 ghost use Rattle.sql_rows.specs.Content.{has_session, rows_in, with_rows, with_session_row};
-ghost use Rattle.sql_rows.specs.Values.{session_cells, state_number};
+ghost use Rattle.sql_rows.specs.Values.{session_cells, session_values, state_number};
 ghost use Rattle.sql_rows.specs.Lists.{AreSessions, Ascends, HasNoGroups};
 ghost use Rattle.reserving.specs.Sessions.{is_open, session_before};
 ghost use Rattle.sql_rows.specs.Each.{with_sessions};
@@ -11,14 +11,16 @@ ghost use Rattle.sql_tables.specs.Statements.{HasBook, HasIdleBook, HasRules, Is
 ghost use Rattle.sql_tables.specs.Statements.{Reads, ReadsWithin, AttemptsOver};
 ghost use Rattle.sql_tables.specs.Selects.{one_or_none};
 ghost use Rattle.sqlite.specs.Held.{state};
+ghost use Rattle.sqlite.specs.State.{ExecutesInside};
 ghost use Rattle.sqlite.specs.State.{HasCleanDisk};
 
 use crate::ascending::{InOrder, do_ascend};
 use crate::decoding::{moment_at, session_at, state_at};
-use crate::running::run;
 use identifiers::{AccountNumber, SessionId};
 use reserving::{Session, SessionState};
-use sql_tables::{ReadFault, has_columns, large, one_of, read, read_within, small_at, text, whole};
+use sql_tables::{
+    ReadFault, has_columns, large, one_of, read, read_within, small_at, text, whole, write,
+};
 use sqlite::{Alter, Connection, Error, Row, Transaction};
 use std::alloc::Global;
 
@@ -28,6 +30,29 @@ impl InOrder for Session {
     fn is_before(&self, other: &Session) -> bool {
         self.id.cmp(&other.id).is_lt()
     }
+}
+
+/// Runs a statement whose parameters are the columns of a session of an account, in their order. It
+/// answers the number of rows.
+///
+/// # Errors
+/// An error of the store. Then nothing is committed.
+fn write_session<S: Alter>(
+    tx: &mut Transaction<'_, S>,
+    sql: &str,
+    account: &AccountNumber,
+    session: &Session,
+) -> Result<usize, Error>
+    ensures { AttemptsOver S.Store (λ old new.
+        ExecutesInside 0 sql.now (session_values account.now session.now) old new result)
+        tx.old.conn tx.new.conn result }
+{
+    let of_account = text(account.as_str());
+    let name = text(session.id.as_str());
+    let last_number = whole(session.last_number);
+    let touched = large(session.touched.seconds());
+    let state = whole(state_number(session.state));
+    write(tx, sql, &[of_account, name, last_number, touched, state])
 }
 
 /// Puts a session of an account, or a recorded event.
@@ -43,19 +68,16 @@ pub fn put_session<S: Alter>(
     ensures { AttemptsOver S.Store (Makes (with_rows account.now (with_session_row session.now)))
         tx.old.conn tx.new.conn result }
 {
-    let of_account = text(account.as_str());
-    let name = text(session.id.as_str());
-    let last_number = whole(session.last_number);
-    let touched = large(session.touched.seconds());
-    let state = whole(state_number(session.state));
-    run(
+    write_session(
         tx,
         "INSERT INTO sessions VALUES (?1, ?2, ?3, ?4, ?5) \
          ON CONFLICT (account, session) DO UPDATE SET \
          account = excluded.account, session = excluded.session, \
          last_number = excluded.last_number, touched = excluded.touched, state = excluded.state",
-        &[of_account, name, last_number, touched, state],
-    )
+        account,
+        session,
+    )?;
+    Ok(())
 }
 
 /// Adds a session of an account, or a recorded event, where the account has none of its name. That
@@ -73,16 +95,13 @@ pub fn add_session<S: Alter>(
         (with_rows account.now (with_session_row session.now)))
         tx.old.conn tx.new.conn result }
 {
-    let of_account = text(account.as_str());
-    let name = text(session.id.as_str());
-    let last_number = whole(session.last_number);
-    let touched = large(session.touched.seconds());
-    let state = whole(state_number(session.state));
-    run(
+    write_session(
         tx,
         "INSERT INTO sessions VALUES (?1, ?2, ?3, ?4, ?5)",
-        &[of_account, name, last_number, touched, state],
-    )
+        account,
+        session,
+    )?;
+    Ok(())
 }
 
 /// The number of a state in the column.

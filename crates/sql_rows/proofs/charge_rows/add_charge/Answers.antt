@@ -1,24 +1,9 @@
-use Rattle.std.proofs.Common.{ap, refl, ◌∙◌}
-use Rattle.sqlite_value.specs.declared.value.Value.TheVariants.{Text}
-use Rattle.ledger.specs.declared.charge.ChargeRow.{ChargeRow}
-use Rattle.sql_rows.specs.Values.{nat, plain_charge}
+use Rattle.std.proofs.Common.{refl}
+use Rattle.sql_rows.specs.Values.{plain_charge}
 use Rattle.sql_rows.proofs.AddCharge.{adds_charge}
-use Rattle.sql_rows.proofs.PutCharge.{bound_charge}
 use Rattle.sql_rows.proofs.charge_rows.add_charge.Goals as goal
 
 pub returns-clause-adds : goal.returns-clause-adds
 returns-clause-adds g c =
-    adds_charge c.args.account.now (plain_charge c.args.charge.now) refl _
-    (bound_charge c.args.account.now (plain_charge c.args.charge.now) refl _ _ _ _ _ _ _ _ _
-    (c.text-of_account.ensures ∙ ap Text c.as_str.ensures.value)
-    (c.whole-number.ensures ∙ ap (λ (x : ChargeRow). nat x.number) c.charge.view_is)
-    (c.large-moment.ensures ∙ ap nat c.seconds.ensures.value
-    ∙ ap (λ (x : ChargeRow). nat x.moment) c.charge.view_is)
-    (c.text-session.ensures ∙ ap Text c.as_str-2.ensures.value
-    ∙ ap (λ (x : ChargeRow). Text x.session) c.charge.view_is)
-    (c.whole-group.ensures ∙ ap (λ (x : ChargeRow). nat x.group) c.charge.view_is)
-    (c.in_ok-blocks.ensures ∙ ap (λ (x : ChargeRow). nat x.blocks.0) c.charge.view_is)
-    (c.in_ok-rated.ensures ∙ ap (λ (x : ChargeRow). nat x.rated.0) c.charge.view_is)
-    (c.in_ok-collected.ensures ∙ ap (λ (x : ChargeRow). nat x.collected.0) c.charge.view_is)
-    (c.in_ok-uncollected.ensures ∙ ap (λ (x : ChargeRow). nat x.uncollected.0) c.charge.view_is))
-    _ _ c.in_ok-count.count c.requires.book c.in_ok-count.ensures.runs
+    adds_charge c.args.account.now (plain_charge c.args.charge.now) refl _ _
+    c.in_ok-count.count c.requires.book c.in_ok-count.ensures.makes

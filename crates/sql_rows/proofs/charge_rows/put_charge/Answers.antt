@@ -1,25 +1,13 @@
-use Rattle.std.proofs.Common.{rules, refl, ◌∙◌, ap}
-use Rattle.sqlite_value.specs.declared.value.Value.TheVariants.{Text}
-use Rattle.ledger.specs.declared.charge.ChargeRow.{ChargeRow}
-use Rattle.sql_rows.specs.Values.{nat, plain_charge}
-use Rattle.sql_rows.proofs.PutCharge.{makes_charge, bound_charge}
+use Rattle.std.proofs.Common.{Ok, refl}
+use Rattle.sql_rows.specs.Values.{plain_charge}
+use Rattle.sql_rows.proofs.PutCharge.{makes_charge}
+use Rattle.sql_rows.proofs.Writes.{ran_with}
 use Rattle.sql_rows.proofs.charge_rows.put_charge.Goals as goal
 
 pub returns : goal.returns
 returns g c = record {
-  same_reference = search rules;
-  makes = makes_charge c.args.account.now (plain_charge c.args.charge.now) refl _
-      (bound_charge c.args.account.now (plain_charge c.args.charge.now) refl _ _ _ _ _ _ _ _ _
-      (c.text-of_account.ensures ∙ ap Text c.as_str.ensures.value)
-      (c.whole-number.ensures ∙ ap (λ (x : ChargeRow). nat x.number) c.charge.view_is)
-      (c.large-moment.ensures ∙ ap nat c.seconds.ensures.value
-      ∙ ap (λ (x : ChargeRow). nat x.moment) c.charge.view_is)
-      (c.text-session.ensures ∙ ap Text c.as_str-2.ensures.value
-      ∙ ap (λ (x : ChargeRow). Text x.session) c.charge.view_is)
-      (c.whole-group.ensures ∙ ap (λ (x : ChargeRow). nat x.group) c.charge.view_is)
-      (c.in_ok-blocks.ensures ∙ ap (λ (x : ChargeRow). nat x.blocks.0) c.charge.view_is)
-      (c.in_ok-rated.ensures ∙ ap (λ (x : ChargeRow). nat x.rated.0) c.charge.view_is)
-      (c.in_ok-collected.ensures ∙ ap (λ (x : ChargeRow). nat x.collected.0) c.charge.view_is)
-      (c.in_ok-uncollected.ensures ∙ ap (λ (x : ChargeRow). nat x.uncollected.0) c.charge.view_is))
-      _ _ c.run.result c.requires.book c.run.ensures.makes;
+  same_reference = c.in_ok-write_charge.ensures.same_reference;
+  makes = makes_charge c.args.account.now (plain_charge c.args.charge.now) refl _ _
+      (Ok tt) c.requires.book
+      (ran_with _ _ _ _ c.in_ok-write_charge.field-0 c.in_ok-write_charge.ensures.makes tt);
 }

@@ -1,4 +1,4 @@
-use Rattle.std.proofs.Common.{rules, ◌∙◌, ap}
+use Rattle.std.proofs.Common.{◌∙◌, ap}
 use Rattle.sql_rows.specs.Values.{nat}
 use Rattle.sql_rows.proofs.PutMeta.{makes_meta, rules_meta, bound_meta}
 use Rattle.sql_rows.proofs.meta_rows.put_meta.Goals as goal

@@ -1,19 +1,11 @@
-use Rattle.std.proofs.Common.{rules, ◌∙◌, ap}
-use Rattle.sqlite.specs.Held.{state}
-use Rattle.sqlite_value.specs.declared.value.Value.TheVariants.{Text}
-use Rattle.sql_rows.specs.Values.{nat}
-use Rattle.sql_rows.proofs.PutSession.{makes_session, bound_session}
+use Rattle.std.proofs.Common.{Ok}
+use Rattle.sql_rows.proofs.PutSession.{makes_session}
+use Rattle.sql_rows.proofs.Writes.{ran_with}
 use Rattle.sql_rows.proofs.session_rows.put_session.Goals as goal
 
 pub returns : goal.returns
 returns g c = record {
-  same_reference = search rules;
-  makes = makes_session c.args.account.now c.args.session.now _
-      (bound_session c.args.account.now c.args.session.now _ _ _ _ _
-      (c.text-of_account.ensures ∙ ap Text c.as_str.ensures.value)
-      (c.text-name.ensures ∙ ap Text c.as_str-2.ensures.value)
-      c.whole-last_number.ensures
-      (c.large-touched.ensures ∙ ap nat c.seconds.ensures.value)
-      (c.whole-state.ensures ∙ ap nat c.state_number.ensures))
-      _ _ c.run.result c.requires.book c.run.ensures.makes;
+  same_reference = c.in_ok-write_session.ensures.same_reference;
+  makes = makes_session c.args.account.now c.args.session.now _ _ (Ok tt) c.requires.book
+      (ran_with _ _ _ _ c.in_ok-write_session.field-0 c.in_ok-write_session.ensures.makes tt);
 }
