@@ -1,7 +1,7 @@
 -- To name the rows that differ from those loaded is to name all; and what is named of the rows of
 -- an account.
-use Rattle.std.proofs.Common.{◌≡◌, ℕ, Some}
-use Rattle.std.specs.Prelude.{◌==◌, filter, not}
+use Rattle.std.proofs.Common.{Some}
+use Rattle.std.specs.Prelude.{◌==◌}
 use Rattle.buckets.specs.Row.{IsBalanced}
 use Rattle.reserving.specs.Sessions.{is_session, is_counter}
 use Rattle.reserving.specs.Stored.{StoredRows, IsStored}

@@ -1,10 +1,10 @@
 -- The rows of a change over those that are there: what is live after it, and what no longer is.
-use Rattle.std.proofs.Common.{◌≡◌, ℕ, Bool, true, false, cond, List, [], ◌∷◌, ◌++◌, refl, sym, ap}
+use Rattle.std.proofs.Common.{◌≡◌, ℕ, Bool, true, false, List, [], ◌++◌, refl, sym, ap}
 use Rattle.std.proofs.Common.{◌∙◌, subst, Option, Some, None}
 use Rattle.std.specs.Prelude.{if◌then◌else◌, ◌==◌, ◌&&◌, ◌||◌, not, filter, is_some, option_map}
 use Rattle.std.specs.List.{find, list_any}
 use Rattle.std.specs.List.Sorted.{IsPermutation}
-use Rattle.std.proofs.lemmas.Bool.{not_from_false, not-true}
+use Rattle.std.proofs.lemmas.Bool.{not-true}
 use Rattle.std.proofs.lemmas.List.Sorted.{IsPermutation-refl}
 use Rattle.buckets.specs.Row.{BucketRow}
 use Rattle.reserving.specs.declared.session.Session.{Session}
@@ -14,7 +14,6 @@ use Rattle.reserving.specs.declared.session.Counter.{Counter}
 use Rattle.ledger.specs.Ledger.{is_same}
 use Rattle.reserving.specs.Sessions.{is_session, is_of, is_counter, is_open, session_in, group_in}
 use Rattle.reserving.specs.Sessions.{counter_in}
-use Rattle.ledger.specs.Lists.{EachIn}
 use Rattle.reserving.specs.Rows.{AreApart}
 use Rattle.reserving.specs.Stored.{StoredRows}
 use Rattle.ledger.specs.Laws.{IsDead}

@@ -1,16 +1,14 @@
 -- An account's charges, shown page by page.
-use Rattle.std.proofs.Common.{◌≡◌, ℕ, ◌+◌, ◌<◌, ◌≤◌, Bool, true, false, List, [], ◌∷◌, ◌++◌, Some}
+use Rattle.std.proofs.Common.{◌≡◌, ℕ, ◌+◌, ◌≤◌, Bool, true, false, List, [], ◌∷◌, ◌++◌}
 use Rattle.std.proofs.Common.{None, refl, sym, ap, ◌∙◌, subst, arith, take, length}
-use Rattle.std.specs.Prelude.{◌&&◌, nat_le, Option, Result, Ok, Err, IfOk}
-use Rattle.std.specs.Result.{IsErr}
+use Rattle.std.specs.Prelude.{◌&&◌, nat_le, Option, Result, Ok, Err}
 use Rattle.std.specs.List.{filter}
 use Rattle.std.proofs.Math.Seq.{take-append_seam}
-use Rattle.std.proofs.lemmas.Bool.{and_parts, and_from, true≢false}
+use Rattle.std.proofs.lemmas.Bool.{and_from}
 use Rattle.std.proofs.lemmas.Bool.Decides.{nat_tests}
 use Rattle.std.proofs.lemmas.List.Elements.{filter-append}
 use Rattle.std.proofs.lemmas.Option.{none-some}
 use Rattle.ledger.specs.ChargeColumns.{ChargeColumns}
-use Rattle.keepers.specs.Faults.{HasCause}
 use Rattle.keepers.specs.Keeping.{KeeperReads}
 use Rattle.keepers.specs.Seen.{Seen}
 use Rattle.keepers.specs.Tables.{Tables, charge_in}

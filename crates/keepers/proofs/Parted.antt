@@ -11,7 +11,7 @@ use Rattle.reserving.specs.Left.{only}
 use Rattle.keepers.specs.Tables.{charge_in}
 use Rattle.keepers.specs.Rows.{are_rising, AreCharges}
 use Rattle.keepers.specs.Pages.{is_number_within}
-use Rattle.keepers.proofs.Unique.{rising_parts, absent, itself, first_is, same_lists}
+use Rattle.keepers.proofs.Unique.{rising_parts, absent, first_is, same_lists}
 
 abbrev pub up_to : ℕ → List ChargeColumns → List ChargeColumns
 up_to a rows = filter (λ c. nat_le c.number a) rows

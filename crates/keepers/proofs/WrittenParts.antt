@@ -1,5 +1,5 @@
 -- Rows that are written over the live ones of an account: what is found, and what is kept.
-use Rattle.std.proofs.Common.{◌≡◌, ℕ, ◌≤◌, Bool, true, false, cond, List, [], ◌∷◌, ◌++◌, refl, sym}
+use Rattle.std.proofs.Common.{◌≡◌, ℕ, Bool, true, false, List, [], ◌∷◌, ◌++◌, refl, sym}
 use Rattle.std.proofs.Common.{ap, subst, ◌∙◌, Option, Some, None}
 use Rattle.std.specs.Prelude.{if◌then◌else◌, ◌==◌, ◌&&◌, not, filter, is_some, option_map}
 use Rattle.std.specs.List.{find, list_any}
@@ -21,7 +21,6 @@ use Rattle.reserving.specs.Written.{written, rows_written, are_held_on, is_writa
 use Rattle.reserving.proofs.Lists.{not_both, no_some, find-passes, EachIn-found, EachIn-weaker}
 use Rattle.reserving.proofs.Lists.{none_passing, none_each, each_none}
 use Rattle.ledger.proofs.Holds.{same_from}
-use Rattle.ledger.proofs.Names.{number_same}
 use Rattle.reserving.proofs.Keys.{second_true, same_number}
 use Rattle.reserving.proofs.KeysFound.{is_none_is}
 use Rattle.reserving.proofs.LeftTests.{apart_append}

@@ -10,9 +10,7 @@ use Rattle.ledger.specs.Words.{ChargeNumber}
 use Rattle.identifiers.specs.Texts.{same_name}
 use Rattle.buckets.specs.Row.{BucketRow}
 use Rattle.shelves.specs.Shelves.{Shelf}
-use Rattle.reserving.specs.declared.session.Session.{Session}
 use Rattle.reserving.specs.declared.session.SessionGroup.{SessionGroup}
-use Rattle.reserving.specs.declared.session.Counter.{Counter}
 use Rattle.ledger.specs.Ledger.{Ledger}
 use Rattle.ledger.specs.Pricing.{cycle_at}
 use Rattle.reserving.specs.Sessions.{is_open, session_in, group_in, counter_in}

@@ -1,10 +1,9 @@
 use Rattle.std.proofs.Common.{◌≡◌, [], ◌∷◌, ◌++◌, length, sym, ap, ◌∙◌, Some, None}
-use Rattle.std.proofs.Common.{rules, subst, Option}
+use Rattle.std.proofs.Common.{rules}
 use Rattle.std.specs.Prelude.{position, if◌then◌else◌}
 use Rattle.std.proofs.lemmas.List.{length-set}
 use Rattle.identifiers.specs.Texts.{same_name}
 use Rattle.keepers.specs.Change.{kept_after}
-use Rattle.keepers.specs.declared.entries.AccountEntry.{AccountEntry}
 use Rattle.keepers.specs.Change.{over}
 use Rattle.keepers.specs.Parts.{rows_of_parts}
 use Rattle.keepers.specs.Memory.{is_entry, entry_in, rows_of_entry, answer_of_entry}

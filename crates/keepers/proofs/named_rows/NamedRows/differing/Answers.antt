@@ -1,4 +1,4 @@
-use Rattle.std.proofs.Common.{◌≡◌, ◌∙◌, ap, subst, sym}
+use Rattle.std.proofs.Common.{◌∙◌, ap, subst, sym}
 use Rattle.reserving.specs.Left.{differing}
 use Rattle.reserving.specs.Stored.{StoredRows}
 use Rattle.keepers.specs.Differing.{equal_bucket, equal_counter, equal_session, equal_group}
