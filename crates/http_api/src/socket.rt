@@ -23,8 +23,8 @@ pub const SOCKET_SECONDS: u64 = 30;
 ///
 /// An answer leaves at once where no more bytes have come. Where more requests have come already
 /// (RFC 9112 section 9.3.2) their answers are written together: such an answer waits until the
-/// last of them is answered, or the socket is read again, or the connection ends, or more than 8,192
-/// bytes would wait.
+/// last of them is answered, or the socket is read again, or the connection ends, or more than
+/// 8,192 bytes would wait.
 ///
 /// # Errors
 /// As `serve`, and `Read` where the socket can't be set so; then nothing is read. `Write` where the

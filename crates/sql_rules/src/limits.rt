@@ -12,8 +12,8 @@ pub const GREATEST_NUMBER: u64 = 4_294_967_295;
 /// The number after it: once it is the next, all are given.
 pub const END_OF_NUMBERS: u64 = 4_294_967_296;
 
-/// The most money of a credit, a hold or a voucher, in micro-units; the most that a bucket of either
-/// kind was credited.
+/// The most money of a credit, a hold or a voucher, in micro-units; the most that a bucket of
+/// either kind was credited.
 pub const MOST_MONEY: u64 = 1_000_000_000_000_000;
 
 /// The most units that a session may have used of a rating group.
