@@ -35,21 +35,14 @@ fn end_alike(a: &SessionId, b: &SessionId) -> bool {
 fn is_one_name(a: &SessionId, b: &SessionId) -> bool
     ensures { result ≡ true → is_same a.now b.now ≡ true }
 {
-    if !end_alike(a, b) {
-        return false;
-    }
-    *a == *b
+    end_alike(a, b) && *a == *b
 }
 
 /// Whether the row of a session is at a place.
 fn stands_at(rows: &[Session], place: usize, session: &SessionId) -> bool
     ensures { result ≡ true → is_some (session_in session.now rows.now) ≡ true }
 {
-    if place < rows.len() {
-        let row = &rows[place];
-        return is_one_name(&row.id, session);
-    }
-    false
+    place < rows.len() && is_one_name(&rows[place].id, session)
 }
 
 /// Whether there is a row of this session, for a walk that asks for sessions in their order: the
