@@ -59,14 +59,14 @@ become text code terms t last ruled old new turns = record {
 
 -- so it is where the moment alone is put, or is there already
 pub become_added : (text code : List ℕ) (terms : VoucherTerms) (t : ℕ) → t ≤ 4_102_488_000
-    → is_ruled_addition code terms t ≡ true → (stands : Bool) (old : State)
-    → Stands stands (meta_at text t) old → HasCleanDisk old → IsTrue old.is_open → (db : Trees)
-    → Turns (with_addition_put stands code terms t) old.now.trees db
+    → is_ruled_addition code terms t ≡ true → (is_there : Bool) (old : State)
+    → Stands is_there (meta_at text t) old → HasCleanDisk old → IsTrue old.is_open → (db : Trees)
+    → Turns (with_addition_put is_there code terms t) old.now.trees db
     → BecomesAdded text code terms t old.now.trees db
-become_added text code terms t last ruled stands old there clean on db turns =
+become_added text code terms t last ruled is_there old there clean on db turns =
     become text code terms t last ruled old.now.trees db (record {
       content = turns.content ∙ ap (with_voucher_row code (voucher_row (unspent terms)))
-          (moment_put stands (meta_at text t) (tables_content old.now.trees) (there clean on));
+          (moment_put is_there (meta_at text t) (tables_content old.now.trees) (there clean on));
       catalog = turns.catalog;
       stored = turns.stored;
       plain = turns.plain;

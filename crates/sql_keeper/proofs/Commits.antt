@@ -168,33 +168,33 @@ module _ (names : Names) (text : List ℕ) (change : Change) (texts : Option Kep
   }
 
   -- the groups that are new are put without a removal, and so is what stays
-  turned : (new : Bool) (seen : Option SeenAccount) (stands : Bool) (old db : Trees) →
+  turned : (new : Bool) (seen : Option SeenAccount) (is_there : Bool) (old db : Trees) →
       IsTested names change (rows_in old change.number) new → Sees seen old →
-      IsKeptOnce stands (meta_with text change) (tables_content old).meta →
-      Turns (with_change_put names new seen stands change texts) old db →
+      IsKeptOnce is_there (meta_with text change) (tables_content old).meta →
+      Turns (with_change_put names new seen is_there change texts) old db →
       Turns (with_change names (meta_with text change) change texts) old db
-  turned new seen stands old db found sees there turns = record {
+  turned new seen is_there old db found sees there turns = record {
     content = turns.content
-        ∙ put_over names new seen stands text change texts (tables_content old) named found
+        ∙ put_over names new seen is_there text change texts (tables_content old) named found
         (λ x e. sees_kept seen old change.number x sees e) there;
     catalog = turns.catalog;
     stored = turns.stored;
     plain = turns.plain;
   }
 
-  pub become_at : (new : Bool) (seen : Option SeenAccount) (stands : Bool) (old mid : State)
+  pub become_at : (new : Bool) (seen : Option SeenAccount) (is_there : Bool) (old mid : State)
       → OnlyReads old mid
       → (HasCleanDisk mid → IsTrue mid.is_open
       → IsTested names change (rows_in old.now.trees change.number) new) → AreSeen seen old
-      → Stands stands (meta_with text change) old
+      → Stands is_there (meta_with text change) old
       → HasCleanDisk mid → IsTrue mid.is_open → (db : Trees)
-      → Turns (with_change_put names new seen stands change texts) mid.now.trees db
+      → Turns (with_change_put names new seen is_there change texts) mid.now.trees db
       → BecomesOver names text change old.now.trees db
-  become_at new seen stands old mid only may sees there clean on db turns =
+  become_at new seen is_there old mid only may sees there clean on db turns =
       let was : IsTrue old.is_open = (only.still clean on).was_open in
       become_over old.now.trees db (may clean on).made
-      (turned new seen stands old.now.trees db (may clean on) (sees (only.cleanness clean) was)
+      (turned new seen is_there old.now.trees db (may clean on) (sees (only.cleanness clean) was)
       (there (only.cleanness clean) was)
       (subst (λ (d : Database).
-      Turns (with_change_put names new seen stands change texts) d.trees db)
+      Turns (with_change_put names new seen is_there change texts) d.trees db)
       (only.still clean on).now_is turns))

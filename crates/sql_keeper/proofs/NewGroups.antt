@@ -266,23 +266,23 @@ moment_same m last c stood o is = λ i. record c { meta = is i; kept = count i }
     count : c.kept ≡ (if is_some c.meta then c.kept else c.kept + 1)
     count = ap (λ (x : Option Meta). if is_some x then c.kept else c.kept + 1) (sym stood)
 
-pub moment_put : (stands : Bool) (m : Meta) (c : TablesContent) → IsKeptOnce stands m c.meta
-    → with_moment_put stands m.last c ≡ with_meta m c
+pub moment_put : (is_there : Bool) (m : Meta) (c : TablesContent) → IsKeptOnce is_there m c.meta
+    → with_moment_put is_there m.last c ≡ with_meta m c
 moment_put false m c it = moment_same m it.last c it.row
     (option_map (λ (x : Meta). record x { last = m.last }) c.meta)
     (ap (option_map (λ (x : Meta). record x { last = m.last })) it.row)
 moment_put true m c it = moment_same m it.last c it.row c.meta
     (it.row ∙ ap (λ t. Some (record m { last = t })) (it.moment refl))
 
-pub put_over : (names : Names) (new : Bool) (seen : Option SeenAccount) (stands : Bool)
+pub put_over : (names : Names) (new : Bool) (seen : Option SeenAccount) (is_there : Bool)
     (text : List ℕ) (change : Change) (texts : Option Kept) (c : TablesContent) →
     IsNamed change.rows
     → IsTested names change (c.rows change.number) new →
     ((x : SessionGroup) → is_kept seen change.number x ≡ true → IsKeptIn (c.rows change.number) x)
-    → IsKeptOnce stands (meta_with text change) c.meta
-    → with_change_put names new seen stands change texts c
+    → IsKeptOnce is_there (meta_with text change) c.meta
+    → with_change_put names new seen is_there change texts c
     ≡ with_change names (meta_with text change) change texts c
-put_over names new seen stands text change texts c named t kept is =
+put_over names new seen is_there text change texts c named t kept is =
     ap (with_change_put names new seen true change texts)
-    (moment_put stands (meta_with text change) c is)
+    (moment_put is_there (meta_with text change) c is)
     ∙ put_is names new seen (meta_with text change) change texts c named t kept

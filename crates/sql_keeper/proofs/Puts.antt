@@ -222,16 +222,16 @@ module _ {A B C E : Type 0} (a : List ℕ) (p q r s : State) (x : A) (y : B) (z 
       (makes_all_then money (with_sessions a xs) p q r x (Ok y) one two) three)
 
 -- the moment unless it is there, and a voucher that no account has redeemed
-pub puts_addition : {A B E : Type 0} (stands : Bool) (code k : List ℕ) (terms : VoucherTerms)
+pub puts_addition : {A B E : Type 0} (is_there : Bool) (code k : List ℕ) (terms : VoucherTerms)
     (t : ℕ) (v : VoucherColumns) (a b c : State) (x : A) (r : Result B E) → k ≡ code
     → v ≡ voucher_row (unspent terms)
-    → Attempts {A = A} {E = E} (MakesIfOpen (with_moment_put stands t)) a b (Ok x)
+    → Attempts {A = A} {E = E} (MakesIfOpen (with_moment_put is_there t)) a b (Ok x)
     → Attempts {A = B} {E = E} (Makes (with_voucher_row k v)) b c r
-    → Attempts {A = B} {E = E} (Makes (with_addition_put stands code terms t)) a c r
-puts_addition {A} {B} {E} stands code k terms t v a b c x r same row one two =
+    → Attempts {A = B} {E = E} (Makes (with_addition_put is_there code terms t)) a c r
+puts_addition {A} {B} {E} is_there code k terms t v a b c x r same row one two =
     subst (λ (f : TablesContent → TablesContent). Attempts {A = B} {E = E} (Makes f) a c r)
-    (λ i d. with_voucher_row (same i) (row i) (with_moment_put stands t d))
-    (list_makes (with_moment_put stands t) (with_voucher_row k v) a b c x r one two)
+    (λ i d. with_voucher_row (same i) (row i) (with_moment_put is_there t d))
+    (list_makes (with_moment_put is_there t) (with_voucher_row k v) a b c x r one two)
 
 -- the charges of the same list
 pub puts_paid : {A E : Type 0} (a : List ℕ) (xs ys : List ChargeRow) → ys ≡ xs

@@ -27,8 +27,8 @@ with_addition text code terms t c =
 -- the same as it is put: without the moment, where that is kept already
 abbrev pub with_addition_put : Bool → VoucherCode → VoucherTerms → Moment → TablesContent →
     TablesContent
-with_addition_put stands code terms t c =
-    with_voucher_row code (voucher_row (unspent terms)) (with_moment_put stands t c)
+with_addition_put is_there code terms t c =
+    with_voucher_row code (voucher_row (unspent terms)) (with_moment_put is_there t c)
 
 -- the tables hold the voucher; they would be found again: the catalog is the same, and so are the
 -- version and the books, no rowid comes twice, and the moment is in the range of moments

@@ -251,9 +251,9 @@ with_moment_put false t c = with_last_moment t c
 -- all of a change, as it is put
 abbrev pub with_change_put : Names → Bool → Option SeenAccount → Bool → Change → Option Kept →
     TablesContent → TablesContent
-with_change_put names new seen stands change texts c =
+with_change_put names new seen is_there change texts c =
     with_redeemed change.redeemed (with_kept change.number change.kept texts
-    (with_changed_rows names new seen change (with_moment_put stands change.moment c)))
+    (with_changed_rows names new seen change (with_moment_put is_there change.moment c)))
 
 -- all of a change
 abbrev pub with_change : Names → Meta → Change → Option Kept → TablesContent → TablesContent

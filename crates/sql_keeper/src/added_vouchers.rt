@@ -29,7 +29,7 @@ use voucher_rules::VoucherTerms;
 /// Puts the moment unless it is there already, and a voucher that no account has redeemed.
 fn put_addition<S: Alter>(
     tx: &mut Transaction<'_, S>,
-    stands: bool,
+    is_there: bool,
     code: &VoucherCode,
     terms: VoucherTerms,
     moment: Moment,
@@ -38,10 +38,10 @@ fn put_addition<S: Alter>(
     requires book { HasBook (state S.Store tx.old.conn.now) }
     requires rules { HasRules (state S.Store tx.old.conn.now) }
     ensures same_reference { tx.new.conn.ghost_name ≡ tx.old.conn.ghost_name }
-    ensures makes { Attempts (Makes (with_addition_put stands code.now terms moment))
+    ensures makes { Attempts (Makes (with_addition_put is_there code.now terms moment))
         (state S.Store tx.old.conn.now) (state S.Store tx.new.conn.now) result }
 {
-    put_moment(tx, moment, stands)?;
+    put_moment(tx, moment, is_there)?;
     let code = code.as_str();
     put_voucher(tx, code, terms.amount(), terms.days(), terms.scope(), None)
 }
@@ -49,7 +49,7 @@ fn put_addition<S: Alter>(
 /// Writes a voucher in one transaction.
 fn write_addition<S: Alter>(
     conn: &mut Connection<S>,
-    stands: bool,
+    is_there: bool,
     code: &VoucherCode,
     terms: VoucherTerms,
     moment: Moment,
@@ -57,13 +57,13 @@ fn write_addition<S: Alter>(
     requires plain { conn.old.in_transaction ≡ false }
     requires idle { HasIdleBook (state S.Store conn.old) }
     ensures plain { conn.new.in_transaction ≡ false }
-    ensures transacts { Transacts (with_addition_put stands code.now terms moment)
+    ensures transacts { Transacts (with_addition_put is_there code.now terms moment)
         (state S.Store conn.old) (state S.Store conn.new) result }
 {
     // For the prover alone: looking at the value makes known here what its type keeps.
     let _ours = conn.schema();
     let mut tx = conn.transaction();
-    put_addition(&mut tx, stands, code, terms, moment)?;
+    put_addition(&mut tx, is_there, code, terms, moment)?;
     tx.commit()
 }
 
@@ -72,14 +72,14 @@ fn write_addition<S: Alter>(
 fn make_addition<S: Alter>(
     conn: &mut Connection<S>,
     text: &str,
-    stands: bool,
+    is_there: bool,
     code: &VoucherCode,
     terms: VoucherTerms,
     moment: Moment,
 ) -> Result<(), ReadFault>
     requires plain { conn.old.in_transaction ≡ false }
     requires idle { HasIdleBook (state S.Store conn.old) }
-    requires stands { Stands stands (meta_at text.now moment) (state S.Store conn.old) }
+    requires is_there { Stands is_there (meta_at text.now moment) (state S.Store conn.old) }
     ensures plain { conn.new.in_transaction ≡ false }
     ensures commits { CommitsWhole (BecomesAdded text.now code.now terms moment)
         (state S.Store conn.old) (state S.Store conn.new) result }
@@ -89,7 +89,7 @@ fn make_addition<S: Alter>(
     if !is_ruled_addition(code, terms, moment) {
         return Err(ReadFault::Rules);
     }
-    write_addition(conn, stands, code, terms, moment)?;
+    write_addition(conn, is_there, code, terms, moment)?;
     Ok(())
 }
 
@@ -97,20 +97,20 @@ fn make_addition<S: Alter>(
 fn ask_to_add<S: Alter>(
     conn: &mut Connection<S>,
     text: &str,
-    stands: bool,
+    is_there: bool,
     code: &VoucherCode,
     terms: VoucherTerms,
     moment: Moment,
 ) -> Result<(), ReadFault>
     requires plain { conn.old.in_transaction ≡ false }
     requires idle { HasIdleBook (state S.Store conn.old) }
-    requires stands { Stands stands (meta_at text.now moment) (state S.Store conn.old) }
+    requires is_there { Stands is_there (meta_at text.now moment) (state S.Store conn.old) }
     ensures plain { conn.new.in_transaction ≡ false }
     ensures commits { CommitsStanding (BecomesAdded text.now code.now terms moment)
         (state S.Store conn.old) (state S.Store conn.new) result }
 {
     still_open(conn)?;
-    make_addition(conn, text, stands, code, terms, moment)
+    make_addition(conn, text, is_there, code, terms, moment)
 }
 
 impl<S: Alter> SqlKeeper<S> {
@@ -131,8 +131,8 @@ impl<S: Alter> SqlKeeper<S> {
             self.old self.new result }
     {
         let text = self.text.as_str();
-        let stands = is_last(self.last, moment);
-        let made = ask_to_add(&mut self.connection, text, stands, &code, terms, moment);
+        let is_there = is_last(self.last, moment);
+        let made = ask_to_add(&mut self.connection, text, is_there, &code, terms, moment);
         self.seen = None;
         self.kept = None;
         self.last = last_after(&made, self.last, moment);

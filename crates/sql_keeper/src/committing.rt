@@ -36,7 +36,7 @@ fn write_change<S: Alter>(
     books: &TariffShelf,
     are_new: bool,
     seen: &Option<SeenAccount>,
-    stands: bool,
+    is_there: bool,
     change: &Change,
     texts: &Option<KeptTexts>,
 ) -> Result<(), Error>
@@ -44,13 +44,13 @@ fn write_change<S: Alter>(
     requires idle { HasIdleBook (state S.Store conn.old) }
     ensures plain { conn.new.in_transaction ≡ false }
     ensures transacts { Transacts (with_change_put (shelf_names books.now) are_new seen.now
-        stands change.now (option_map kept_of texts.now))
+        is_there change.now (option_map kept_of texts.now))
         (state S.Store conn.old) (state S.Store conn.new) result }
 {
     // For the prover alone: looking at the value makes known here what its type keeps.
     let _ours = conn.schema();
     let mut tx = conn.transaction();
-    put_change(&mut tx, books, are_new, seen, stands, change, texts)?;
+    put_change(&mut tx, books, are_new, seen, is_there, change, texts)?;
     tx.commit()
 }
 
@@ -63,13 +63,13 @@ fn make_change<S: Alter>(
     books: &TariffShelf,
     seen: &Option<SeenAccount>,
     text: &str,
-    stands: bool,
+    is_there: bool,
     change: &Change,
 ) -> Result<(), ReadFault>
     requires plain { conn.old.in_transaction ≡ false }
     requires idle { HasIdleBook (state S.Store conn.old) }
     requires seen { AreSeen seen.now (state S.Store conn.old) }
-    requires stands { Stands stands (meta_with text.now change.now) (state S.Store conn.old) }
+    requires is_there { Stands is_there (meta_with text.now change.now) (state S.Store conn.old) }
     ensures plain { conn.new.in_transaction ≡ false }
     ensures commits { CommitsWhole (BecomesOver (shelf_names books.now) text.now change.now)
         (state S.Store conn.old) (state S.Store conn.new) result }
@@ -79,7 +79,7 @@ fn make_change<S: Alter>(
     let _moment = change.moment.seconds();
     let are_new = test_change(conn, alloc, books, seen, change)?;
     let texts = kept_texts(alloc, &change.number, &change.kept)?;
-    write_change(conn, books, are_new, seen, stands, change, &texts)?;
+    write_change(conn, books, are_new, seen, is_there, change, &texts)?;
     Ok(())
 }
 
@@ -90,19 +90,19 @@ fn ask_to_change<S: Alter>(
     books: &TariffShelf,
     seen: &Option<SeenAccount>,
     text: &str,
-    stands: bool,
+    is_there: bool,
     change: &Change,
 ) -> Result<(), ReadFault>
     requires plain { conn.old.in_transaction ≡ false }
     requires idle { HasIdleBook (state S.Store conn.old) }
     requires seen { AreSeen seen.now (state S.Store conn.old) }
-    requires stands { Stands stands (meta_with text.now change.now) (state S.Store conn.old) }
+    requires is_there { Stands is_there (meta_with text.now change.now) (state S.Store conn.old) }
     ensures plain { conn.new.in_transaction ≡ false }
     ensures commits { CommitsStanding (BecomesOver (shelf_names books.now) text.now change.now)
         (state S.Store conn.old) (state S.Store conn.new) result }
 {
     still_open(conn)?;
-    make_change(conn, alloc, books, seen, text, stands, change)
+    make_change(conn, alloc, books, seen, text, is_there, change)
 }
 
 impl<S: Alter> SqlKeeper<S> {
@@ -120,14 +120,14 @@ impl<S: Alter> SqlKeeper<S> {
             self.old self.new result }
     {
         let text = self.text.as_str();
-        let stands = is_last(self.last, change.moment);
+        let is_there = is_last(self.last, change.moment);
         let made = ask_to_change(
             &mut self.connection,
             self.alloc,
             &self.shelf,
             &self.seen,
             text,
-            stands,
+            is_there,
             &change,
         );
         let seen = self.seen.take();

@@ -182,16 +182,16 @@ fn put_rows<S: Alter>(
 pub(crate) fn put_moment<S: Alter>(
     tx: &mut Transaction<'_, S>,
     moment: Moment,
-    stands: bool,
+    is_there: bool,
 ) -> Result<(), Error>
     requires open { IsInside (state S.Store tx.old.conn.now) }
     requires book { HasBook (state S.Store tx.old.conn.now) }
     requires rules { HasRules (state S.Store tx.old.conn.now) }
     ensures same_reference { tx.new.conn.ghost_name ≡ tx.old.conn.ghost_name }
-    ensures makes { Attempts (MakesIfOpen (with_moment_put stands moment))
+    ensures makes { Attempts (MakesIfOpen (with_moment_put is_there moment))
         (state S.Store tx.old.conn.now) (state S.Store tx.new.conn.now) result }
 {
-    if stands {
+    if is_there {
         return Ok(());
     }
     put_last_moment(tx, moment)?;
@@ -207,7 +207,7 @@ pub(crate) fn put_change<S: Alter>(
     books: &TariffShelf,
     are_new: bool,
     seen: &Option<SeenAccount>,
-    stands: bool,
+    is_there: bool,
     change: &Change,
     texts: &Option<KeptTexts>,
 ) -> Result<(), Error>
@@ -216,10 +216,10 @@ pub(crate) fn put_change<S: Alter>(
     requires rules { HasRules (state S.Store tx.old.conn.now) }
     ensures same_reference { tx.new.conn.ghost_name ≡ tx.old.conn.ghost_name }
     ensures makes { Attempts (Makes (with_change_put (shelf_names books.now) are_new seen.now
-        stands change.now (option_map kept_of texts.now)))
+        is_there change.now (option_map kept_of texts.now)))
         (state S.Store tx.old.conn.now) (state S.Store tx.new.conn.now) result }
 {
-    put_moment(tx, change.moment, stands)?;
+    put_moment(tx, change.moment, is_there)?;
     put_rows(tx, books, are_new, seen, change)?;
     put_kept(tx, &change.number, &change.kept, texts)?;
     put_redeemed(tx, &change.redeemed)

@@ -10,8 +10,8 @@ returns-in_err-write_addition-clause-commits g c =
     rw p.1 (not_put_at_once _ _ _ _
     (become_added _ _ _ c.args.moment
     (omega (arith, c.seconds-moment.ensures.in_range, c.seconds-moment.ensures.value))
-    (sym c.if-not-is_ruled_addition.ensures) c.args.stands (state g.S.Store c.args.conn.now)
-    c.requires.stands) _ _
+    (sym c.if-not-is_ruled_addition.ensures) c.args.is_there (state g.S.Store c.args.conn.now)
+    c.requires.is_there) _ _
     c.in_err-write_addition.ensures.transacts)
 
 pub returns-clause-commits : goal.returns-clause-commits
@@ -19,8 +19,8 @@ returns-clause-commits g c =
     put_at_once _ _ _ _
     (become_added _ _ _ c.args.moment
     (omega (arith, c.seconds-moment.ensures.in_range, c.seconds-moment.ensures.value))
-    (sym c.if-not-is_ruled_addition.ensures) c.args.stands (state g.S.Store c.args.conn.now)
-    c.requires.stands) _ _
+    (sym c.if-not-is_ruled_addition.ensures) c.args.is_there (state g.S.Store c.args.conn.now)
+    c.requires.is_there) _ _
     c.in_ok-write_addition.ensures.transacts
 
 pub returns-then-not-is_ruled_addition-clause-commits :

@@ -4,7 +4,7 @@ use Rattle.sql_keeper.proofs.added_vouchers.put_addition.Goals as goal
 
 pub returns-clause-makes : goal.returns-clause-makes
 returns-clause-makes g c =
-    puts_addition c.args.stands c.args.code.now c.as_str-code.result.now
+    puts_addition c.args.is_there c.args.code.now c.as_str-code.result.now
     c.args.terms c.args.moment _ _ _ _ c.in_ok-put_moment.field-0 c.put_voucher.result
     c.as_str-code.ensures.value
     (λ i. record {

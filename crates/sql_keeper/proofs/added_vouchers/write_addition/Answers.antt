@@ -13,7 +13,7 @@ put_addition-requires-clause-rules g c =
 
 pub returns-clause-transacts : goal.returns-clause-transacts
 returns-clause-transacts g c =
-    let change = (with_addition_put c.args.stands c.args.code.now
+    let change = (with_addition_put c.args.is_there c.args.code.now
     c.args.terms c.args.moment) in
     let same : c.commit.new.self.0 ≡ c.conn-2-1.given.0 =
     sym (c.conn-2-1.given.1 (sym (c.in_ok-put_addition.ensures.same_reference

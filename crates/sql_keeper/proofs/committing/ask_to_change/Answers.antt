@@ -8,10 +8,10 @@ make_change-requires-clause-seen g c =
     seen_after c.args.seen.now (state g.S.Store c.args.conn.now)
     (state g.S.Store c.still_open.new.conn) c.requires.seen c.in_ok-still_open.ensures.only
 
-pub make_change-requires-clause-stands : goal.make_change-requires-clause-stands
-make_change-requires-clause-stands g c =
-    stands_after c.args.stands _ (state g.S.Store c.args.conn.now)
-    (state g.S.Store c.still_open.new.conn) c.requires.stands c.in_ok-still_open.ensures.only
+pub make_change-requires-clause-is_there : goal.make_change-requires-clause-is_there
+make_change-requires-clause-is_there g c =
+    stands_after c.args.is_there _ (state g.S.Store c.args.conn.now)
+    (state g.S.Store c.still_open.new.conn) c.requires.is_there c.in_ok-still_open.ensures.only
 
 pub make_change-requires-clause-plain : goal.make_change-requires-clause-plain
 make_change-requires-clause-plain g c = c.in_ok-still_open.ensures.only.mode c.requires.plain

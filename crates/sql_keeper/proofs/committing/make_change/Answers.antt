@@ -13,8 +13,8 @@ returns-in_err-write_change-clause-commits g c =
     (become_at _ _ c.args.change.now _ c.as_of-named.ensures.named c.in_ok-texts.ensures.told
     c.in_ok-texts.ensures.rules
     (omega (arith, c.seconds-moment.ensures.in_range, c.seconds-moment.ensures.value)) _
-    c.args.seen.now c.args.stands _ _ c.in_ok-are_new.ensures.only c.in_ok-are_new.ensures.found
-    c.requires.seen c.requires.stands) _ _
+    c.args.seen.now c.args.is_there _ _ c.in_ok-are_new.ensures.only c.in_ok-are_new.ensures.found
+    c.requires.seen c.requires.is_there) _ _
     c.in_err-write_change.ensures.transacts)
 
 pub returns-clause-commits : goal.returns-clause-commits
@@ -23,6 +23,6 @@ returns-clause-commits g c =
     (become_at _ _ c.args.change.now _ c.as_of-named.ensures.named c.in_ok-texts.ensures.told
     c.in_ok-texts.ensures.rules
     (omega (arith, c.seconds-moment.ensures.in_range, c.seconds-moment.ensures.value)) _
-    c.args.seen.now c.args.stands _ _ c.in_ok-are_new.ensures.only c.in_ok-are_new.ensures.found
-    c.requires.seen c.requires.stands) _ _
+    c.args.seen.now c.args.is_there _ _ c.in_ok-are_new.ensures.only c.in_ok-are_new.ensures.found
+    c.requires.seen c.requires.is_there) _ _
     c.in_ok-write_change.ensures.transacts

@@ -10,7 +10,7 @@ use Rattle.sql_keeper.proofs.putting.put_change.Goals as goal
 pub returns-clause-makes : goal.returns-clause-makes
 returns-clause-makes g c =
     let change = c.args.change.now in
-    let opened = with_moment_put c.args.stands change.moment in
+    let opened = with_moment_put c.args.is_there change.moment in
     let rows = with_changed_rows (shelf_names c.args.books.now) c.args.are_new c.args.seen.now
     change in
     let kept = with_kept change.number change.kept (option_map kept_of c.args.texts.now) in

@@ -7,10 +7,10 @@ use Rattle.sql_keeper.proofs.Standing.{keeps, standing_keeper, standing_whole}
 use Rattle.sql_keeper.proofs.Whole.{handed_on}
 use Rattle.sql_keeper.proofs.keeper.SqlKeeper.add_voucher.Goals as goal
 
-pub ask_to_add-made-requires-clause-stands : goal.ask_to_add-made-requires-clause-stands
-ask_to_add-made-requires-clause-stands g c = λ clean on.
+pub ask_to_add-made-requires-clause-is_there : goal.ask_to_add-made-requires-clause-is_there
+ask_to_add-made-requires-clause-is_there g c = λ clean on.
     held_stands _ c.self.inside.shelf _ _ c.args.moment _ _ c.as_str-text.ensures.value
-    c.is_last-stands.ensures (c.self.invariant.keeper.held clean on)
+    c.is_last-is_there.ensures (c.self.invariant.keeper.held clean on)
 
 pub invariant_of-self : goal.invariant_of-self
 invariant_of-self g c = record {
