@@ -5,6 +5,7 @@
 mod add_fault;
 mod added_vouchers;
 mod adding_books;
+mod among;
 mod asking;
 mod books;
 mod charge_pages;

@@ -1,10 +1,10 @@
 //! The rows of a change over those that a keeper keeps.
 
-ghost use Rattle.std.specs.Prelude.{◌≡◌, ◌∷◌, [], filter, is_some, map, not, option_copied, IfOk};
+ghost use Rattle.std.specs.Prelude.{◌≡◌, ◌∷◌, [], filter, is_some, map, not, IfOk};
 ghost use Rattle.std.specs.Prelude.{OnOk};
 ghost use Rattle.std.specs.List.{list_all};
-ghost use Rattle.reserving.specs.Left.{bucket_in, is_dead};
-ghost use Rattle.reserving.specs.Sessions.{group_in, is_open, session_in};
+ghost use Rattle.reserving.specs.Left.{is_dead};
+ghost use Rattle.reserving.specs.Sessions.{is_open, session_in};
 ghost use Rattle.sql_keeper.specs.KeptRows.{AreReplaced, AreWithBuckets, AreWithGroups};
 ghost use Rattle.sql_keeper.specs.KeptRows.{AreWithSessions, IsPutIn, bucket_over, buckets_over};
 ghost use Rattle.sql_keeper.specs.KeptRows.{group_over, groups_over, is_known, is_new_bucket};
@@ -12,6 +12,7 @@ ghost use Rattle.sql_keeper.specs.KeptRows.{is_new_group, is_new_session, is_unk
 ghost use Rattle.sql_keeper.specs.KeptRows.{session_over, sessions_over, stays_bucket};
 ghost use Rattle.sql_keeper.specs.KeptRows.{stays_session};
 
+use crate::among::{bucket_among, group_among, has_bucket, has_group, has_session, session_among};
 use crate::live_rows::{LiveRows, purse_of};
 use crate::seen::{SeenAccount, is_open, is_unknown_in};
 use buckets::{Bucket, Purse};
@@ -21,51 +22,7 @@ use reserving::{Session, SessionGroup};
 use sql_tables::ReadFault;
 use std::alloc::{AllocError, Global};
 
-/// The bucket of a number among these.
-fn bucket_among(rows: &[Bucket], number: u32) -> Option<&Bucket>
-    ensures { option_copied result ≡ bucket_in number rows.now }
-{
-    rows.iter().find(|row| row.number() == number)
-}
-
-/// The row of a session among these.
-fn session_among<'a>(rows: &'a [Session], id: &SessionId) -> Option<&'a Session>
-    ensures { option_copied result ≡ session_in id.now rows.now }
-{
-    rows.iter().find(|row| row.id == *id)
-}
-
-/// What a session has of a rating group among these.
-fn group_among<'a>(
-    rows: &'a [SessionGroup],
-    session: &SessionId,
-    group: u32,
-) -> Option<&'a SessionGroup>
-    ensures { option_copied result ≡ group_in session.now group rows.now }
-{
-    rows.iter()
-        .find(|row| row.session == *session && row.group == group)
-}
-
-// ---- what is there, and what stays
-
-fn has_bucket(rows: &[Bucket], number: u32) -> bool
-    ensures { result ≡ is_some (bucket_in number rows.now) }
-{
-    bucket_among(rows, number).is_some()
-}
-
-fn has_session(rows: &[Session], id: &SessionId) -> bool
-    ensures { result ≡ is_some (session_in id.now rows.now) }
-{
-    session_among(rows, id).is_some()
-}
-
-fn has_group(rows: &[SessionGroup], session: &SessionId, group: u32) -> bool
-    ensures { result ≡ is_some (group_in session.now group rows.now) }
-{
-    group_among(rows, session, group).is_some()
-}
+// ---- what stays
 
 /// Whether a bucket stays: it isn't named, or isn't dead as it is named.
 fn stays_bucket(named: &[Bucket], row: &Bucket) -> bool
@@ -110,18 +67,6 @@ fn keep_groups(rows: &mut Vec<SessionGroup>, named: &[Session])
 
 // ---- in the places
 
-fn copy_of_bucket(row: &Bucket) -> Result<Bucket, AllocError>
-    ensures { IfOk result (λ copy. copy ≡ row.now) }
-{
-    row.clone()
-}
-
-fn copy_of_session(row: &Session) -> Result<Session, AllocError>
-    ensures { IfOk result (λ copy. copy ≡ row.now) }
-{
-    row.clone()
-}
-
 fn copy_of_group(row: &SessionGroup) -> Result<SessionGroup, AllocError>
     ensures { IfOk result (λ copy. copy ≡ row.now) }
 {
@@ -133,7 +78,7 @@ fn put_bucket(row: &mut Bucket, named: &[Bucket]) -> Result<(), AllocError>
     ensures { OnOk result (row.new ≡ bucket_over named.now row.old) }
 {
     if let Some(new) = bucket_among(named, row.number()) {
-        *row = copy_of_bucket(new)?;
+        *row = new.clone()?;
     }
     Ok(())
 }
@@ -143,7 +88,7 @@ fn put_session(row: &mut Session, named: &[Session]) -> Result<(), AllocError>
     ensures { OnOk result (row.new ≡ session_over named.now row.old) }
 {
     if let Some(new) = session_among(named, &row.id) {
-        *row = copy_of_session(new)?;
+        *row = new.clone()?;
     }
     Ok(())
 }
@@ -204,16 +149,14 @@ fn place_in_use(rows: &[Bucket], row: &Bucket) -> usize {
             .cmp(&row.until())
             .then(other.number().cmp(&row.number()))
     }) {
-        Ok(place) => place,
-        Err(place) => place,
+        Ok(place) | Err(place) => place,
     }
 }
 
 /// Where a session would be among others in the order of their names.
 fn place_of_session(rows: &[Session], row: &Session) -> usize {
     match rows.binary_search_by(|other| other.id.cmp(&row.id)) {
-        Ok(place) => place,
-        Err(place) => place,
+        Ok(place) | Err(place) => place,
     }
 }
 
@@ -225,8 +168,7 @@ fn place_of_group(rows: &[SessionGroup], row: &SessionGroup) -> usize {
             .cmp(&row.session)
             .then(other.group.cmp(&row.group))
     }) {
-        Ok(place) => place,
-        Err(place) => place,
+        Ok(place) | Err(place) => place,
     }
 }
 
@@ -260,7 +202,7 @@ fn add_bucket(rows: &mut Vec<Bucket>, row: &Bucket) -> Result<(), AllocError>
         return Ok(());
     }
     let place = place_in_use(rows, row);
-    let copy = copy_of_bucket(row)?;
+    let copy = row.clone()?;
     insert_at(rows, place, copy)?;
     Ok(())
 }
@@ -274,7 +216,7 @@ fn add_session(rows: &mut Vec<Session>, row: &Session) -> Result<(), AllocError>
         return Ok(());
     }
     let place = place_of_session(rows, row);
-    let copy = copy_of_session(row)?;
+    let copy = row.clone()?;
     insert_at(rows, place, copy)?;
     Ok(())
 }

@@ -1,8 +1,8 @@
 //! Whether a change may be made of what is stored: what of its account it has to name.
 
-ghost use Rattle.std.specs.Prelude.{◌≡◌, ◌&&◌, IfOk, IsTrue, false, is_some, not, position};
+ghost use Rattle.std.specs.Prelude.{◌≡◌, ◌&&◌, IfOk, IsTrue, false, is_some, not};
 ghost use Rattle.std.specs.List.{list_all};
-ghost use Rattle.reserving.specs.Sessions.{group_in, is_of, is_open, is_session, session_in};
+ghost use Rattle.reserving.specs.Sessions.{is_open};
 ghost use Rattle.sql_keeper.specs.Content.{shelf_names};
 ghost use Rattle.sql_keeper.specs.LiveGroups.{Gathers};
 ghost use Rattle.sql_keeper.specs.Seen.{AreSeen, IsStanding, standing_of, stands_open};
@@ -13,6 +13,7 @@ ghost use Rattle.sql_rows.specs.Texts.{group_at};
 ghost use Rattle.sql_tables.specs.Statements.{HasIdleBook};
 ghost use Rattle.sqlite.specs.Held.{state};
 
+use crate::among::{has_group, has_session};
 use crate::seen::{
     SeenAccount, Standing, head_seen, is_open, is_unknown, standing_seen, stands_open,
 };
@@ -116,37 +117,18 @@ fn find_head<S: Alter>(
     }
 }
 
-/// The place of what a change names of a session's group.
-fn place_of(groups: &[SessionGroup], session: &SessionId, group: u32) -> Option<usize>
-    ensures { result ≡ position (is_of session.now group) groups.now }
-{
-    groups
-        .iter()
-        .position(|row| row.session == *session && row.group == group)
-}
-
-/// Whether a change names what a session has of a group.
-fn is_named(groups: &[SessionGroup], session: &SessionId, group: u32) -> bool
-    ensures { result ≡ is_some (group_in session.now group groups.now) }
-{
-    place_of(groups, session, group).is_some()
-}
-
 /// Whether a stored group has no reservation.
 fn is_free(row: &GroupColumns) -> bool
     ensures { result ≡ not (is_some (group_at row.now).row.periods) }
 {
-    match row.periods {
-        None => true,
-        Some(_) => false,
-    }
+    row.periods.is_none()
 }
 
 /// Whether a stored group of a session is named, or has no reservation.
 fn is_beside(groups: &[SessionGroup], session: &SessionId, row: &GroupColumns) -> bool
     ensures { result ≡ is_beside groups.now session.now (group_at row.now) }
 {
-    is_named(groups, session, row.group) || is_free(row)
+    has_group(groups, session, row.group) || is_free(row)
 }
 
 /// So of each.
@@ -254,25 +236,11 @@ fn find_sessions<S: Alter>(
     })
 }
 
-/// The place of a session's row.
-fn place_among(sessions: &[Session], id: &SessionId) -> Option<usize>
-    ensures { result ≡ position (is_session id.now) sessions.now }
-{
-    sessions.iter().position(|session| session.id == *id)
-}
-
-/// Whether a session is one of these.
-fn is_among(sessions: &[Session], id: &SessionId) -> bool
-    ensures { result ≡ is_some (session_in id.now sessions.now) }
-{
-    place_among(sessions, id).is_some()
-}
-
 /// Whether each group is of one of the sessions.
 fn are_among(sessions: &[Session], groups: &[SessionGroup]) -> bool
     ensures { result ≡ are_among sessions.now groups.now }
 {
-    groups.iter().all(|row| is_among(sessions, &row.session))
+    groups.iter().all(|row| has_session(sessions, &row.session))
 }
 
 /// What is found of sessions, and of whether each group is of one of them.

@@ -9,6 +9,7 @@ ghost use Rattle.sql_keeper.specs.Tests.{AreNumbered, AreWritable, IsPeriodNamed
 ghost use Rattle.sql_keeper.specs.Tests.{MayStand};
 ghost use Rattle.sql_keeper.specs.Tests.{first_number};
 
+use crate::among::session_among;
 use crate::ruling::is_ruled_change;
 use calendar::Period;
 use identifiers::SessionId;
@@ -24,13 +25,7 @@ fn first_number(head: &Option<HeadColumns>) -> u64
 {
     match head {
         None => 1,
-        Some(head) => {
-            if head.next_charge == 0 {
-                1
-            } else {
-                head.next_charge
-            }
-        }
+        Some(head) => head.next_charge.max(1),
     }
 }
 
@@ -53,12 +48,10 @@ pub(crate) fn are_numbered(charges: &[ChargeRow], from: u64, next: u64) -> bool
 fn is_open(sessions: &[Session], id: &SessionId) -> bool
     ensures { result ≡ is_open_row (session_in id.now sessions.now) }
 {
-    for session in sessions {
-        if session.id == *id {
-            return session.state == SessionState::Open;
-        }
+    match session_among(sessions, id) {
+        None => false,
+        Some(session) => session.state == SessionState::Open,
     }
-    false
 }
 
 /// Whether the book of a number has a name for a period.

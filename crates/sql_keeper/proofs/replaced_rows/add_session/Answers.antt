@@ -1,4 +1,4 @@
-use Rattle.std.proofs.Common.{subst, sym}
+use Rattle.std.proofs.Common.{◌≡◌, subst, sym, rules}
 use Rattle.sql_keeper.specs.KeptRows.{IsPutIn}
 use Rattle.sql_keeper.proofs.RowsAdded.{session_added, session_unadded}
 use Rattle.sql_keeper.proofs.replaced_rows.add_session.Goals as goal
@@ -9,7 +9,8 @@ returns-then-not-is_new_session c =
 
 pub returns : goal.returns
 returns c =
+    let same : c.in_ok-copy.copy ≡ c.args.row.now = search rules in
     session_added c.args.row.now c.args.rows.now.items c.insert_at.new.rows.items
     (sym c.if-not-is_new_session.ensures)
     (subst (λ x. IsPutIn x c.args.rows.now.items c.insert_at.new.rows.items)
-    c.in_ok-copy.ensures c.in_ok-insert_at.ensures)
+    same c.in_ok-insert_at.ensures)

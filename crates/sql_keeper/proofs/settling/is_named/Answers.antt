@@ -1,9 +1,0 @@
-use Rattle.std.proofs.Common.{ap, ◌∙◌}
-use Rattle.std.specs.Prelude.{is_some}
-use Rattle.reserving.specs.Sessions.{is_of}
-use Rattle.keepers.proofs.PartsKept.{placed_found}
-use Rattle.sql_keeper.proofs.settling.is_named.Goals as goal
-
-pub returns : goal.returns
-returns c = c.is_some.ensures ∙ ap is_some c.place_of.ensures
-    ∙ placed_found (is_of c.args.session.now c.args.group) c.args.groups.now

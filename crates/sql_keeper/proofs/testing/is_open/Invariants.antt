@@ -1,7 +1,0 @@
-use Rattle.std.proofs.Common.{◌≡◌, drop}
-use Rattle.reserving.specs.Sessions.{session_in}
-use Rattle.sql_keeper.proofs.testing.is_open.Given as goal
-
-abbrev pub invariant-loop-session : goal.invariant-loop-session
-invariant-loop-session l =
-    session_in l.id l.sessions ≡ session_in l.id (drop l.session-index l.sessions)
