@@ -73,10 +73,7 @@ fn copy_if_of(alloc: Global, kept: &KeptRows, account: &AccountNumber) -> Option
     if !is_of(kept, account) {
         return None;
     }
-    match copied(alloc, &kept.rows) {
-        Ok(rows) => Some(rows),
-        Err(_) => None,
-    }
+    copied(alloc, &kept.rows).ok()
 }
 
 /// A copy of what is kept of an account; None where another is kept, or none, and for lack of
@@ -123,10 +120,7 @@ fn kept_of(alloc: Global, loaded: &Loaded<'_>) -> Option<KeptRows>
         IsLoadStored names shelf t a (rows_in trees a) (Some loaded.now) →
         Keeps names result trees }
 {
-    match rows_loaded(alloc, loaded) {
-        Ok(kept) => Some(kept),
-        Err(_) => None,
-    }
+    rows_loaded(alloc, loaded).ok()
 }
 
 /// Whether what is kept is of an account.
@@ -199,10 +193,8 @@ fn kept_with(
         return None;
     }
     let KeptRows { account, rows } = kept;
-    match rows_over(alloc, rows, seen, change) {
-        Ok(rows) => Some(KeptRows { account, rows }),
-        Err(_) => None,
-    }
+    let rows = rows_over(alloc, rows, seen, change).ok()?;
+    Some(KeptRows { account, rows })
 }
 
 /// What is kept once a change was made, or wasn't.
