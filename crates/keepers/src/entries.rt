@@ -299,6 +299,33 @@ fn put_place(
     Ok(())
 }
 
+/// Adds a new account, whose charges and answer are taken. At a fault no account has changed.
+// It isn't inlined: a change of an account that is there would clear the room of its locals.
+#[inline(never)]
+fn add_entry(
+    alloc: Global,
+    entries: &mut Vec<AccountEntry>,
+    places: &mut HashMap<AccountNumber, usize>,
+    number: AccountNumber,
+    rows: NamedRows,
+    charges: &mut Vec<ChargeRow>,
+    kept: &mut Option<KeptAnswer>,
+) -> Result<(), AllocError>
+    requires placed { ArePlaced places.old entries.old.items }
+    requires none { get same_name places.old number ≡ None }
+    ensures places { ArePlaced places.new entries.new.items }
+    ensures done { OnOk result (ArePut number rows charges.old.items kept.old entries.old.items
+        entries.new.items) }
+    ensures err { OnErr result (AreUnchanged entries.old.items entries.new.items) }
+{
+    let key = number.clone()?;
+    let entry = new_entry(alloc, number, rows, charges, kept)?;
+    entries.reserve(1)?;
+    put_place(places, key, entries.len())?;
+    entries.push_reserved(entry);
+    Ok(())
+}
+
 /// Puts the rows of a change over those of an account, which is new where there is none of its
 /// number, with its further charges and an answer, which are taken. At a fault no account has
 /// changed.
@@ -321,12 +348,7 @@ pub(crate) fn put_entry(
         write_entry(alloc, &mut entries[place], rows, charges, kept)?;
         return Ok(());
     }
-    let key = number.clone()?;
-    let entry = new_entry(alloc, number, rows, charges, kept)?;
-    entries.reserve(1)?;
-    put_place(places, key, entries.len())?;
-    entries.push_reserved(entry);
-    Ok(())
+    add_entry(alloc, entries, places, number, rows, charges, kept)
 }
 
 /// The charges of the account of this number, in order; none where there is no such account.
