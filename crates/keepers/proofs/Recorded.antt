@@ -31,7 +31,7 @@ use Rattle.reserving.proofs.LeftParted.{one_session, one_group, find_both}
 use Rattle.reserving.proofs.Restored.{all_told}
 use Rattle.keepers.specs.declared.left_rows.LeftStore.{LeftStore}
 use Rattle.keepers.specs.declared.known.Known.{Known}
-use Rattle.keepers.specs.Naming.{IsNamed}
+use Rattle.keepers.specs.Naming.{AreRowsApart, IsNamed}
 use Rattle.keepers.specs.Inside.{parts_by, AreKeptBy, AreSameRows}
 use Rattle.keepers.specs.Replacing.{KnowsMore, AreNoted, IsAppended}
 use Rattle.keepers.specs.Tables.{Rows, group_row, held_of}
@@ -305,16 +305,8 @@ module _ (names : Names) (cycles : Numbers) (rows others : GivenRows) (taken : L
       (λ (w : StoredRows). are_held_on w.groups p.live.groups p.live.buckets w.buckets ≡ true)
       beside (and_parts _ _ writable).1
 
-  sessions : AreApart same_session (given rows).sessions
-  sessions = subst (λ (w : StoredRows). AreApart same_session w.sessions) (sym of.same)
-      is.apart.sessions
-
-  groups : AreApart same_group (given rows).groups
-  groups = subst (λ (w : StoredRows). AreApart same_group w.groups) (sym of.same) is.apart.groups
-
-  counters : AreApart same_counter (given rows).counters
-  counters = subst (λ (w : StoredRows). AreApart same_counter w.counters) (sym of.same)
-      is.apart.counters
+  apart : AreRowsApart (record (given rows) { buckets = named.buckets })
+  apart = subst AreRowsApart (sym of.same) is.apart
 
   same_after : after (given rows) p ≡ recorded (given others) taken p
   same_after = after_is (given rows) p (given others) taken beside none none_counted own_sessions
@@ -323,15 +315,15 @@ module _ (names : Names) (cycles : Numbers) (rows others : GivenRows) (taken : L
   pub recorded_parts : AreParts (recorded (given others) taken p)
   recorded_parts = subst AreParts same_after
       (after_parts names cycles (given rows) named.buckets p h live new held of.buckets
-      is.apart.buckets sessions groups counters past fresh known_sessions known_groups
-      known_counters)
+      apart.buckets apart.sessions apart.groups apart.counters past fresh known_sessions
+      known_groups known_counters)
 
   pub recorded_rows : rows_of_parts (recorded (given others) taken p) ≡
       over named (rows_of_parts p)
   recorded_rows = ap rows_of_parts (sym same_after)
       ∙ after_rows names cycles (given rows) named.buckets p h live new held of.buckets
-      is.apart.buckets sessions groups counters past fresh known_sessions known_groups
-      known_counters
+      apart.buckets apart.sessions apart.groups apart.counters past fresh known_sessions
+      known_groups known_counters
       ∙ ap (λ (w : StoredRows). over w (rows_of_parts p)) of.same
 
 -- ---- what a store keeps, where rows are behind those that were left

@@ -38,7 +38,7 @@ use Rattle.keepers.specs.Named.{Names, Numbers, is_named, is_numbered}
 use Rattle.keepers.specs.Named.{AreLeftCounters, AreLeftSessions, AreLeftGroups}
 use Rattle.keepers.specs.Inside.{parts_by, AreKeptBy}
 use Rattle.keepers.specs.Keyed.{same_bucket, same_session, same_group, same_counter}
-use Rattle.keepers.specs.Naming.{IsNamed}
+use Rattle.keepers.specs.Naming.{AreRowsApart, IsNamed}
 use Rattle.keepers.specs.Overlaying.{stays_bucket, is_fresh, IsGivenOver}
 use Rattle.keepers.proofs.Found.{one_bucket, apart_first, apart_rest, distinct_apart}
 use Rattle.keepers.proofs.Fresh.{AreFresh, are_fresh, left_sessions, left_groups, alike_session}
@@ -321,34 +321,26 @@ module _ (names : Names) (cycles : Numbers) (named : StoredRows) (rows : GivenRo
   held : are_held_on (given rows).groups p.live.groups p.live.buckets (given rows).buckets ≡ true
   held = (and_parts _ _ writable).1
 
-  sessions : AreApart same_session (given rows).sessions
-  sessions = subst (λ (w : StoredRows). AreApart same_session w.sessions) (sym of.same)
-      is.apart.sessions
-
-  groups : AreApart same_group (given rows).groups
-  groups = subst (λ (w : StoredRows). AreApart same_group w.groups) (sym of.same) is.apart.groups
-
-  counters : AreApart same_counter (given rows).counters
-  counters = subst (λ (w : StoredRows). AreApart same_counter w.counters) (sym of.same)
-      is.apart.counters
+  apart : AreRowsApart (record (given rows) { buckets = named.buckets })
+  apart = subst AreRowsApart (sym of.same) is.apart
 
   pub put_parts : AreParts (record { live = rows_written (given rows) p.live; left = p.left })
   put_parts = written_parts names cycles (given rows) named.buckets p h live kept.stored held
-      of.buckets is.apart.buckets sessions groups counters fresh known_sessions known_groups
-      known_counters
+      of.buckets apart.buckets apart.sessions apart.groups apart.counters fresh known_sessions
+      known_groups known_counters
 
   pub put_rows : rows_of_parts (record { live = rows_written (given rows) p.live; left = p.left }) ≡
       over named (rows_of_parts p)
   put_rows = written_rows names cycles (given rows) named.buckets p h live kept.stored held
-      of.buckets is.apart.buckets sessions groups counters fresh known_sessions known_groups
-      known_counters
+      of.buckets apart.buckets apart.sessions apart.groups apart.counters fresh known_sessions
+      known_groups known_counters
       ∙ ap (λ (w : StoredRows). over w (rows_of_parts p)) of.same
 
   -- what a store keeps of them
-  pub put_kept : (left : LeftStore) (known : Known) (after : StoredRows) →
+  pub put_kept : (left : LeftStore) (known : Known) (new : StoredRows) →
       p ≡ parts_by p.live left → AreKeptBy p.live left known →
-      after ≡ rows_written (given rows) p.live → AreKeptBy after left known
-  put_kept left known after same was e = record {
+      new ≡ rows_written (given rows) p.live → AreKeptBy new left known
+  put_kept left known new same was e = record {
     parts = subst AreParts
         (λ i. record { live = sym e i; left = (ap (λ (q : Parts). q.left) same) i }) put_parts;
     buckets = was.buckets;
