@@ -71,10 +71,7 @@ fn put_new_blocks<S: Alter>(
 {
     match blocks {
         None => Ok(()),
-        Some(blocks) => {
-            put_covered(tx, account, number, Blocks(blocks))?;
-            Ok(())
-        }
+        Some(blocks) => put_covered(tx, account, number, Blocks(blocks)),
     }
 }
 

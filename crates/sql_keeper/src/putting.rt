@@ -150,10 +150,7 @@ fn put_kept<S: Alter>(
         None => Ok(()),
         Some(kept) => match texts {
             None => Ok(()),
-            Some(texts) => {
-                put_texts(tx, account, &kept.content, texts)?;
-                Ok(())
-            }
+            Some(texts) => put_texts(tx, account, &kept.content, texts),
         },
     }
 }
@@ -194,8 +191,7 @@ pub(crate) fn put_moment<S: Alter>(
     if is_there {
         return Ok(());
     }
-    put_last_moment(tx, moment)?;
-    Ok(())
+    put_last_moment(tx, moment)
 }
 
 /// Puts all that a change names: the moment unless it is there already, the account and its rows,

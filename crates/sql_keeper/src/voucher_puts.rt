@@ -43,9 +43,6 @@ pub(crate) fn put_redeemed<S: Alter>(
 {
     match redeemed {
         None => Ok(()),
-        Some(redeemed) => {
-            put_voucher(tx, &redeemed.code, &redeemed.voucher)?;
-            Ok(())
-        }
+        Some(redeemed) => put_voucher(tx, &redeemed.code, &redeemed.voucher),
     }
 }
