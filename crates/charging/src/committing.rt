@@ -65,15 +65,24 @@ pub(crate) fn commit<K: Keeper>(
     // For the prover alone: the call makes known here what each account keeps.
     let _moment = loaded.account.as_of();
     let Ok(given) = WrittenAnswer::new(alloc, answer) else {
-        keeper.abandon(loaded);
-        return Err(StoreFault::Memory);
+        return Err(given_up(keeper, loaded));
     };
     let Ok(kept) = kept_as(content, &given) else {
-        keeper.abandon(loaded);
-        return Err(StoreFault::Memory);
+        return Err(given_up(keeper, loaded));
     };
     commit_change(alloc, keeper, loaded, own, charges, kept, redeemed)?;
     Ok(given)
+}
+
+/// Gives a loaded account up where memory was refused: nothing changes.
+#[cold]
+#[inline(never)]
+fn given_up<K: Keeper>(keeper: &mut K, loaded: Loaded) -> StoreFault
+    ensures same { keeper.new ≡ keeper.old }
+    ensures fault { result ≡ StoreFault.Memory }
+{
+    keeper.abandon(loaded);
+    StoreFault::Memory
 }
 
 /// Commits an account as it is: the rows alone that differ from those loaded.
