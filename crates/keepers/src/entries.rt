@@ -300,7 +300,8 @@ fn put_place(
 }
 
 /// Adds a new account, whose charges and answer are taken. At a fault no account has changed.
-// It isn't inlined: a change of an account that is there would clear the room of its locals.
+// It isn't inlined, or else a change of an account that is there would clear the room of its
+// locals.
 #[inline(never)]
 fn add_entry(
     alloc: Global,

@@ -3,7 +3,7 @@
 use Rattle.std.proofs.Common.{◌≡◌, ◌≢◌, ◌⊎◌, inl, inr, ℕ, ℤ, List, [], ◌∷◌, map, filter, length}
 use Rattle.std.proofs.Common.{slice_get, Bool, true, false, Some, None, Option, Ok, Err, Result}
 use Rattle.std.proofs.Common.{IsTrue, OnOk, OnErr, is_eq, refl, sym, ap, subst, ◌∙◌, ◌+◌, ◌==◌}
-use Rattle.std.proofs.Common.{suc, drop, eq-eqb, true-eqb, ap₂, arith}
+use Rattle.std.proofs.Common.{suc, drop, eq-eqb, true-eqb, arith}
 use Rattle.std.specs.Prelude.{IfOk, is_some, if◌then◌else◌, unwrap_or, ⊤}
 use Rattle.std.proofs.lemmas.Bool.{and_parts, not-true}
 use Rattle.std.proofs.lemmas.Cmp.{tied_itself}
@@ -54,7 +54,8 @@ use Rattle.sql_tables.proofs.Counted.{counted}
 use Rattle.sql_tables.proofs.Keys.{keys_back}
 use Rattle.sql_tables.proofs.Selected.{answered, select_from, selected_to}
 use Rattle.sql_tables.proofs.Selections.{met_some, met_has}
-use Rattle.sql_tables.proofs.Steps.{does_over, mapped_to, permuted, same_value, went}
+use Rattle.sql_tables.proofs.Single.{only_one}
+use Rattle.sql_tables.proofs.Steps.{does_over, mapped_to, same_value, went}
 use Rattle.sql_tables.proofs.Stored.{stored_filter}
 use Rattle.sql_tables.proofs.Swaps.{PutsRow, no_clash, differ_ints, puts_key}
 use Rattle.sql_tables.proofs.Ties.{agree_ties}
@@ -90,20 +91,6 @@ pub record ReplacesRow (table : Table) (values : Row) (old new : State) (count :
   pub book : IsBook new
   pub shows : Shows old new new.now old.committed true
   pub fits : Fits book_schema new.now.trees
-
--- a list of one row that has this one
-one_had : {X : Type 0} (x : X) (ys : List X) → length ys ≡ 1 → Has ys x → ys ≡ x ∷ []
-one_had x [] long h = absurd h
-one_had x (y ∷ ys) long (inl same) = ap₂ ◌∷◌ (sym same) (nil_from_length ys (omega (arith, long)))
-one_had x (y ∷ ys) long (inr h) = absurd (none ys (nil_from_length ys (omega (arith, long))) h)
-  where
-    none : (zs : List _) → zs ≡ [] → Has zs x → ⊥
-    none [] e h = h
-    none (z ∷ zs) e h = cc
-
-only_one : {X : Type 0} (x : X) (ys : List X) → IsPermutation (x ∷ []) ys → ys ≡ x ∷ []
-only_one x ys p =
-    one_had x ys (length_permutation (x ∷ []) ys p) (permuted (x ∷ []) ys x p (inl refl))
 
 -- no foreign key of the tables acts, whether rows are taken out or replaced
 abbrev works_as : Bool → ℕ → List Row → List Row → List Work

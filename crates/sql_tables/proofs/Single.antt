@@ -33,7 +33,7 @@ one_had x (y ∷ ys) long (inr h) = absurd (none ys (nil_from_length ys (omega (
     none [] e h = h
     none (z ∷ zs) e h = cc
 
-only_one : {X : Type 0} (x : X) (ys : List X) → IsPermutation (x ∷ []) ys → ys ≡ x ∷ []
+pub only_one : {X : Type 0} (x : X) (ys : List X) → IsPermutation (x ∷ []) ys → ys ≡ x ∷ []
 only_one x ys p =
     one_had x ys (length_permutation (x ∷ []) ys p) (permuted (x ∷ []) ys x p (inl refl))
 
