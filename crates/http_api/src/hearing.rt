@@ -1,13 +1,14 @@
 //! A request taken off a stream, with what it asks.
 
-ghost use Rattle.std.specs.Prelude.{◌≡◌, ℕ, List, Option, IfOk, IsErrOf, IfSome};
+ghost use Rattle.std.specs.Prelude.{◌≡◌, ℕ, List, Option, Err, IfOk, OnErr, IsErrOf, IfSome};
 ghost use Rattle.http_messages.specs.Requests.{Next, Tells, seen};
 ghost use Rattle.http_messages.specs.Asking.{IsAsked};
 ghost use Rattle.http_messages.specs.Table.{table, asked_of};
 ghost use Rattle.http_api.specs.Hearing.{IsOfHead, Hears, HearsNext};
 
 use http_messages::{
-    Buffers, HttpAsked, HttpRefusal, HttpRequest, Route, Router, Taken, ask, next_request,
+    Buffers, HttpAsked, HttpRefusal, HttpRequest, Route, Router, Taken, ask, known_router,
+    next_request,
 };
 use std::alloc::Global;
 use std::io::BufRead;
@@ -21,25 +22,56 @@ pub(crate) struct Heard {
     pub(crate) closes: bool,
 }
 
-/// Takes the next request off a stream, and gives what it asks; None where the stream ends before a
-/// request does.
-///
-/// # Errors
-/// `Memory` where a growth was refused, `Read` where the reader failed.
-pub(crate) fn hear<R: BufRead>(
-    alloc: Global,
-    router: &Router<Route>,
-    reader: &mut R,
-    buffers: &mut Buffers,
-    scratch: &mut Scratch,
-) -> Result<Option<Heard>, StreamFault>
-    requires { router.now ≡ table }
-    ensures heard { IfOk result (λ heard.
-        IfSome (R.remaining reader.old) (λ stream. Hears stream heard (R.remaining reader.new))) }
-    ensures fault { IsErrOf result StreamFault.Write → ⊥ }
-{
-    let taken = next_request(alloc, reader, buffers)?;
-    Ok(heard_of(alloc, router, taken, buffers, scratch))
+/// What the requests of a connection are read with: the table of routes, and the memory of a
+/// request and of the members of its body.
+#[derive(Drop)]
+pub(crate) struct RequestParser {
+    router: Router<Route>,
+    buffers: Buffers,
+    scratch: Scratch,
+    ghost known: { router ≡ table },
+}
+
+impl RequestParser {
+    /// The parser of a connection, of which nothing was read yet.
+    ///
+    /// # Errors
+    /// `Memory` where a growth was refused.
+    pub(crate) fn new(alloc: Global) -> Result<RequestParser, StreamFault>
+        ensures { OnErr result (result ≡ Err StreamFault.Memory) }
+    {
+        let router = known_router(alloc)?;
+        let buffers = Buffers::empty(alloc)?;
+        Ok(RequestParser {
+            router,
+            buffers,
+            scratch: Scratch::new(alloc),
+        })
+    }
+
+    /// Takes the next request off a stream, and gives what it asks; None where the stream ends
+    /// before a request does.
+    ///
+    /// # Errors
+    /// `Memory` where a growth was refused, `Read` where the reader failed.
+    pub(crate) fn hear<R: BufRead>(
+        &mut self,
+        alloc: Global,
+        reader: &mut R,
+    ) -> Result<Option<Heard>, StreamFault>
+        ensures heard { IfOk result (λ heard. IfSome (R.remaining reader.old)
+            (λ stream. Hears stream heard (R.remaining reader.new))) }
+        ensures fault { IsErrOf result StreamFault.Write → ⊥ }
+    {
+        let taken = next_request(alloc, reader, &mut self.buffers)?;
+        Ok(heard_of(
+            alloc,
+            &self.router,
+            taken,
+            &mut self.buffers,
+            &mut self.scratch,
+        ))
+    }
 }
 
 /// What a request that was taken asks. A refusal ends the connection.

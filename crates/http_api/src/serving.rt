@@ -2,21 +2,18 @@
 
 ghost use Rattle.std.specs.Prelude.{◌≡◌, ◌<◌, ◌+◌};
 ghost use Rattle.std.specs.Io.Buffered.{reader_remaining};
-ghost use Rattle.http_messages.specs.Table.{table};
 ghost use Rattle.http_api.specs.Connections.{left_after, ServesConnection};
 ghost use Rattle.http_api.specs.Words.{most_requests};
 
 use crate::answering::answer_request;
 use crate::clock::Clock;
 use crate::fault::ServeFault;
-use crate::hearing::{Heard, hear};
+use crate::hearing::{Heard, RequestParser};
 use crate::telling::Following;
-use http_messages::{Buffers, Route, Router, known_router};
 use keepers::ChargeSource;
 use shelves::TariffShelf;
 use std::alloc::Global;
 use std::io::{BufReader, Read, Write};
-use wire::Scratch;
 
 /// The most requests of a connection.
 pub const MAX_REQUESTS: u32 = 1000;
@@ -53,18 +50,14 @@ pub fn serve<R: Read, W: Write, K: ChargeSource, C: Clock>(
         (W.contents writer.old) (W.contents writer.new) (K.seen keeper.old) (K.seen keeper.new)
         result }
 {
-    let router = known_router(alloc)?;
-    let mut buffers = Buffers::empty(alloc)?;
+    let mut parser = RequestParser::new(alloc)?;
     let Ok(mut buffered) = BufReader::new(alloc, reader) else {
         return Err(ServeFault::Memory);
     };
-    let mut scratch = Scratch::new(alloc);
     serve_requests(
         alloc,
-        &router,
+        &mut parser,
         &mut buffered,
-        &mut buffers,
-        &mut scratch,
         writer,
         keeper,
         shelf,
@@ -93,23 +86,20 @@ fn left_after(closes: bool, left: u32) -> u32
 /// Serves the requests of a connection.
 fn serve_requests<R: Read, W: Write, K: ChargeSource, C: Clock>(
     alloc: Global,
-    router: &Router<Route>,
+    parser: &mut RequestParser,
     reader: &mut BufReader<R>,
-    buffers: &mut Buffers,
-    scratch: &mut Scratch,
     writer: &mut W,
     keeper: &mut K,
     shelf: &TariffShelf,
     clock: &mut C,
 ) -> Result<Served, ServeFault>
-    requires { router.now ≡ table }
     ensures { ServesConnection C.gives shelf.now (reader_remaining R.remaining reader.old) clock.old
         clock.new (W.contents writer.old) (W.contents writer.new) (K.seen keeper.old)
         (K.seen keeper.new) result }
 {
     let mut left = MAX_REQUESTS;
     for served in 0..MAX_REQUESTS {
-        let Some(heard) = hear(alloc, router, reader, buffers, scratch)? else {
+        let Some(heard) = parser.hear(alloc, reader)? else {
             return Ok(Served { requests: served });
         };
         let Heard { asked, closes } = heard;

@@ -7,7 +7,7 @@ use Rattle.std.proofs.KnownBytes.{prepend_known-nil}
 use Rattle.http_api.specs.Connections.{ServesConnection}
 use Rattle.http_api.specs.declared.fault.ServeFault.{ServeFault}
 use Rattle.http_api.specs.declared.serving.Served.{Served}
-use Rattle.http_api.proofs.RequestReplies.{is_memory, memory_told}
+use Rattle.http_api.proofs.RequestReplies.{memory_told}
 use Rattle.http_api.proofs.Taking.{none_served}
 use Rattle.http_api.proofs.serving.serve.Goals as goal
 
@@ -22,25 +22,14 @@ unread r inner remaining capacity empty is =
     ∙ prepend_known-nil (remaining r.inner)
     ∙ ap remaining is
 
-pub returns-in_err-router : goal.returns-in_err-router
-returns-in_err-router g c =
+pub returns-in_err-parser : goal.returns-in_err-parser
+returns-in_err-parser g c =
     subst (λ (r : Result Served ServeFault). ServesConnection g.C.Clock.gives c.args.shelf.now
     (g.R.Read.remaining c.args.reader.now) c.args.clock.now c.args.clock.now
     (g.W.Write.contents c.args.writer.now) (g.W.Write.contents c.args.writer.now)
     (g.K.Keeper.seen c.args.keeper.now) (g.K.Keeper.seen c.args.keeper.now) r)
-    (sym (memory_told _ c.from_residual.result c.in_err-router.ensures.fault
+    (sym (memory_told _ c.from_residual.result c.in_err-parser.ensures
     c.from_residual.ensures.1))
-    (none_served g.C.Clock.gives c.args.shelf.now (g.R.Read.remaining c.args.reader.now)
-    c.args.clock.now (g.W.Write.contents c.args.writer.now) (g.K.Keeper.seen c.args.keeper.now))
-
-pub returns-in_err-buffers : goal.returns-in_err-buffers
-returns-in_err-buffers g c =
-    subst (λ (r : Result Served ServeFault). ServesConnection g.C.Clock.gives c.args.shelf.now
-    (g.R.Read.remaining c.args.reader.now) c.args.clock.now c.args.clock.now
-    (g.W.Write.contents c.args.writer.now) (g.W.Write.contents c.args.writer.now)
-    (g.K.Keeper.seen c.args.keeper.now) (g.K.Keeper.seen c.args.keeper.now) r)
-    (sym (is_memory c.from_residual-in_err-buffers.result
-    c.from_residual-in_err-buffers.ensures.1))
     (none_served g.C.Clock.gives c.args.shelf.now (g.R.Read.remaining c.args.reader.now)
     c.args.clock.now (g.W.Write.contents c.args.writer.now) (g.K.Keeper.seen c.args.keeper.now))
 

@@ -1,5 +1,5 @@
 use Rattle.http_api.proofs.HeadRefusals.{heard_next}
-use Rattle.http_api.proofs.hearing.hear.Goals as goal
+use Rattle.http_api.proofs.hearing.RequestParser.hear.Goals as goal
 
 pub returns-clause-heard : goal.returns-clause-heard
 returns-clause-heard g c = heard_next (g.R.Read.remaining c.args.reader.now)
