@@ -13,6 +13,7 @@ pub mod Keyed
 pub mod MetaRules
 pub mod NamedTexts
 pub mod NamesPut
+pub mod OfParts
 pub mod OfSession
 pub mod Periods
 pub mod Plains
@@ -48,6 +49,7 @@ pub mod ReadCovered
 pub mod ReadGrantBooks
 pub mod ReadGroups
 pub mod ReadHeadCounters
+pub mod ReadHeadCycles
 pub mod ReadHolds
 pub mod ReadLive
 pub mod ReadMeta
@@ -70,6 +72,7 @@ pub mod RowRules
 pub mod Stays
 pub mod Tests
 pub mod Unioned
+pub mod Unions
 pub mod Updates
 pub mod Within
 pub mod Writes

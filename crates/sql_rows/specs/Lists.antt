@@ -3,7 +3,7 @@
 -- Source: profile.
 use Rattle.std.specs.Prelude.{◌≡◌, ℕ, ◌&&◌, ◌||◌, nat_eq, nat_lt, nat_le, ◌<◌, Bool, not, List, []}
 use Rattle.std.specs.Prelude.{◌∷◌, ◌++◌, length, Option, Some, None, option_map, is_some, false}
-use Rattle.std.specs.Prelude.{if◌then◌else◌, IsTrue}
+use Rattle.std.specs.Prelude.{if◌then◌else◌, IsTrue, filter, map}
 use Rattle.std.specs.Ordering.{nat_cmp, is_lt, ordering_then}
 use Rattle.std.specs.Cmp.Lexicographic.{slice_cmp}
 use Rattle.std.specs.List.{find}
@@ -12,7 +12,7 @@ use Rattle.identifiers.specs.Words.{SessionName, AccountName}
 use Rattle.buckets.specs.Words.{BucketNumber}
 use Rattle.ledger.specs.Words.{ChargeNumber}
 use Rattle.sqlite_value.specs.declared.value.Value.TheVariants.{Text}
-use Rattle.sqlite_value.specs.Order.{Row as Values}
+use Rattle.sqlite_value.specs.Order.{Row as Values, column}
 use Rattle.buckets.specs.Row.{BucketRow}
 use Rattle.reserving.specs.declared.session.Session.{Session}
 use Rattle.reserving.specs.declared.session.Counter.{Counter}
@@ -20,9 +20,9 @@ use Rattle.ledger.specs.declared.charge.ChargeRow.{ChargeRow}
 use Rattle.reserving.specs.Left.{is_open_row}
 use Rattle.reserving.specs.Rows.{AreApart}
 use Rattle.sql_tables.specs.Keyed.{same_name}
-use Rattle.sql_tables.specs.Selects.{passing}
+use Rattle.sql_tables.specs.Selects.{one_or_none, passing}
 use Rattle.sql_rows.specs.Values.{BookRow, Group, book_values, flag_number}
-use Rattle.sql_rows.specs.Values.{counter_cells, group_cells, head_cells, nat}
+use Rattle.sql_rows.specs.Values.{counter_cells, group_cells, head_cells, nat, nat_in}
 use Rattle.sql_rows.specs.Content.{TablesContent, TableRows}
 use Rattle.sql_rows.specs.declared.covered_rows.CoveredColumns.{CoveredColumns}
 use Rattle.sql_rows.specs.declared.grant_book_rows.GrantBook.{GrantBook}
@@ -271,10 +271,20 @@ AreCountersIn cycle rows xs = (g : GroupId) (c : CycleNumber) →
     find (λ x. nat_eq x.group g && nat_eq x.cycle c) xs
     ≡ (if nat_eq c cycle then rows.counters g c else None)
 
--- the columns of an account's own row, and of its counters' rows behind it, as one selection gives
--- them
+-- the columns of an account's own row, and of its counters' rows, as one selection of parts gives
+-- them: behind the number of the part
 abbrev pub head_part : HeadColumns → Values
 head_part h = nat 0 ∷ head_cells h
 
-abbrev pub counter_part : Counter → Values
-counter_part k = nat 1 ∷ (counter_cells k ++ nat 0 ∷ [])
+abbrev pub counter_part : ℕ → Counter → Values
+counter_part part k = nat part ∷ (counter_cells k ++ nat 0 ∷ [])
+
+abbrev pub of_part : ℕ → Values → Bool
+of_part part r = nat_eq (nat_in (column r 0)) part
+
+-- the account's own row among those of all parts, and its counters of a part
+abbrev pub IsHeadAmong : List Values → Option HeadColumns → Type 0
+IsHeadAmong rows head = map head_part (one_or_none head) ≡ filter (of_part 0) rows
+
+abbrev pub AreCountersAmong : ℕ → List Values → List Counter → Type 0
+AreCountersAmong part rows xs = map (counter_part part) xs ≡ filter (of_part part) rows
