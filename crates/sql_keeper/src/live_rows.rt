@@ -170,7 +170,7 @@ fn read_cycles<S: Alter>(
         day: book.cycle_of(Cycle::Day, moment),
         month: book.cycle_of(Cycle::Month, moment),
     };
-    let read = read_head_cycles(conn, alloc, account, &cycles)?;
+    let read = read_head_cycles(conn, alloc, account, cycles)?;
     first_of(book, read)
 }
 

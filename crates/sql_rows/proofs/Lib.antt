@@ -6,6 +6,7 @@ pub mod Adds
 pub mod BookRules
 pub mod BucketRules
 pub mod ChargeBlocks
+pub mod Coupled
 pub mod Dead
 pub mod Each
 pub mod Inserts

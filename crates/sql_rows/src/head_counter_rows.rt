@@ -12,7 +12,7 @@ ghost use Rattle.sqlite.specs.Held.{state};
 ghost use Rattle.sqlite_value.specs.Order.{column};
 
 use crate::ascending::{InOrder, do_ascend};
-use crate::decoding::{flag_at, moment_at};
+use crate::decoding::{flag_at, is_of_part, moment_at};
 use crate::head::HeadColumns;
 use identifiers::AccountNumber;
 use reserving::Counter;
@@ -71,6 +71,7 @@ pub fn read_head_counters<S: Alter>(
 }
 
 /// The numbers of the cycles of a moment (TS 32.296 counters).
+#[derive(Clone, Copy)]
 pub struct CycleNumbers {
     /// Of counters that never begin again.
     pub never: u32,
@@ -103,13 +104,13 @@ pub fn read_head_cycles<S: Alter>(
     conn: &mut Connection<S>,
     alloc: Global,
     account: &AccountNumber,
-    cycles: &CycleNumbers,
+    cycles: CycleNumbers,
 ) -> Result<HeadCycles, ReadFault>
     requires idle { HasIdleBook (state S.Store conn.old) }
     ensures reads { Reads (λ trees x. (x.head ≡ (rows_in trees account.now).head)
-        × AreCountersIn cycles.now.never (rows_in trees account.now) x.never.items
-        × AreCountersIn cycles.now.day (rows_in trees account.now) x.daily.items
-        × AreCountersIn cycles.now.month (rows_in trees account.now) x.monthly.items)
+        × AreCountersIn cycles.never (rows_in trees account.now) x.never.items
+        × AreCountersIn cycles.day (rows_in trees account.now) x.daily.items
+        × AreCountersIn cycles.month (rows_in trees account.now) x.monthly.items)
         (state S.Store conn.old) (state S.Store conn.new) result }
     ensures order { IfOk result (λ x. Ascends counter_before x.never.items
         × Ascends counter_before x.daily.items × Ascends counter_before x.monthly.items) }
@@ -164,7 +165,7 @@ fn head_cycles_from(alloc: Global, rows: &[Row]) -> Result<HeadCycles, ReadFault
 }
 
 /// Whether a row is of the part of this number.
-fn is_of_part(row: &Row, part: u64) -> Result<bool, ReadFault>
+fn has_part(row: &Row, part: u64) -> Result<bool, ReadFault>
     ensures number { IfOk result (λ is. is ≡ of_part part row.now) }
     ensures column { IfOk result (λ is. is ≡ true → column row.now 0 ≡ nat part) }
 {
@@ -172,22 +173,11 @@ fn is_of_part(row: &Row, part: u64) -> Result<bool, ReadFault>
     Ok(number == part)
 }
 
-/// Tests that a row is of the part of this number.
-fn has_part(row: &Row, part: u64) -> Result<(), ReadFault>
-    ensures { IfOk result (λ _. column row.now 0 ≡ nat part) }
-{
-    if is_of_part(row, part)? {
-        Ok(())
-    } else {
-        Err(ReadFault::Rules)
-    }
-}
-
 fn head_in_part(row: &Row) -> Result<HeadColumns, ReadFault>
     ensures { IfOk result (λ h. row.now ≡ head_part h) }
 {
     has_columns(row, 5)?;
-    has_part(row, 0)?;
+    is_of_part(row, 0)?;
     let barred = flag_at(row, 1)?;
     let as_of = moment_at(row, 2)?;
     let next_bucket = number_at(row, 3)?;
@@ -206,7 +196,7 @@ fn head_of_part(rows: &[Row]) -> Result<Option<HeadColumns>, ReadFault>
 {
     let mut found = None;
     'rows: for row in rows {
-        if is_of_part(row, 0)? {
+        if has_part(row, 0)? {
             if found.is_some() {
                 return Err(ReadFault::Rules);
             }
@@ -231,7 +221,7 @@ fn counter_in_part(row: &Row, part: u64) -> Result<Counter, ReadFault>
     ensures { IfOk result (λ k. row.now ≡ counter_part part k) }
 {
     has_columns(row, 5)?;
-    has_part(row, part)?;
+    is_of_part(row, part)?;
     let group = small_at(row, 1)?;
     let cycle = small_at(row, 2)?;
     let blocks = number_at(row, 3)?;
@@ -250,7 +240,7 @@ fn counters_of_part(alloc: Global, rows: &[Row], part: u64) -> Result<Vec<Counte
 {
     let mut counters = Vec::new(alloc);
     'rows: for row in rows {
-        if is_of_part(row, part)? {
+        if has_part(row, part)? {
             let counter = counter_in_part(row, part)?;
             counters.push(counter)?;
         }

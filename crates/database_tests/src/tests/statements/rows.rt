@@ -154,7 +154,7 @@ fn tell_counters<S: Alter>(
         day: 5,
         month: 5,
     };
-    let read = read_head_cycles(conn, alloc, account, &cycles).expect(rt, "a reading");
+    let read = read_head_cycles(conn, alloc, account, cycles).expect(rt, "a reading");
     push(rt, text, "of cycle 3\n");
     push_counters(rt, text, &read.never);
     push(rt, text, "of cycle 5\n");

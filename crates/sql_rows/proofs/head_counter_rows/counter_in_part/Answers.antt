@@ -4,7 +4,7 @@ use Rattle.sql_rows.proofs.head_counter_rows.counter_in_part.Goals as goal
 
 pub returns : goal.returns
 returns c = row_is c.args.row.now _ (omega (arith, c.has_columns.ensures)) (
-  c.in_ok-has_part.ensures,
+  c.in_ok-is_of_part.ensures,
   (
     c.in_ok-group.ensures,
     (

@@ -16,4 +16,4 @@ returns-clause-reads g c =
     (λ i. map bound_value ((c.text-of_account.ensures ∙ ap Text c.as_str.ensures.value) i
     ∷ c.whole-never.ensures i ∷ c.whole-day.ensures i ∷ c.whole-month.ensures i ∷ []))
     c.deref.ensures.value c.head_cycles_from.ensures.cells
-    (λ x. head_cycles_read c.args.account.now c.args.cycles.now _ _ _ x)
+    (λ x. head_cycles_read c.args.account.now c.args.cycles _ _ _ x)
