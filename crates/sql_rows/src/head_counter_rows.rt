@@ -11,7 +11,7 @@ ghost use Rattle.sqlite.specs.Held.{state};
 ghost use Rattle.sqlite_value.specs.Order.{column};
 
 use crate::ascending::do_ascend;
-use crate::decoding::{flag_at, moment_at};
+use crate::decoding::{flag_at, is_of_part, moment_at};
 use crate::head::HeadColumns;
 use identifiers::AccountNumber;
 use reserving::Counter;
@@ -77,17 +77,6 @@ fn head_counters_from(alloc: Global, rows: &[Row]) -> Result<HeadCounters, ReadF
                 counters,
             })
         }
-    }
-}
-
-/// Tests that a row is of the part of this number.
-fn is_of_part(row: &Row, part: u64) -> Result<(), ReadFault>
-    ensures { IfOk result (λ _. column row.now 0 ≡ nat part) }
-{
-    if number_at(row, 0)? == part {
-        Ok(())
-    } else {
-        Err(ReadFault::Rules)
     }
 }
 
