@@ -70,6 +70,7 @@ pub mod RowRules
 pub mod Stays
 pub mod Tests
 pub mod Unioned
+pub mod Unions
 pub mod Updates
 pub mod Within
 pub mod Writes
