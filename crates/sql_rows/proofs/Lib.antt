@@ -6,6 +6,7 @@ pub mod Adds
 pub mod BookRules
 pub mod BucketRules
 pub mod ChargeBlocks
+pub mod Coupled
 pub mod Dead
 pub mod Each
 pub mod Inserts
@@ -53,6 +54,7 @@ pub mod ReadLive
 pub mod ReadMeta
 pub mod ReadOpen
 pub mod ReadOpenGroups
+pub mod ReadOpenRows
 pub mod ReadReserved
 pub mod ReadSession
 pub mod ReadVoucher

@@ -18,6 +18,7 @@ use Rattle.sqlite_schema.specs.Program.{lets_of}
 use Rattle.sqlite_schema.specs.declared.program.Program.{Program}
 use Rattle.sqlite_schema.specs.declared.program.Table.TheVariants.{Selected, Combined}
 use Rattle.sqlite_rules.specs.Lists.{Has}
+use Rattle.sql_rows.proofs.Coupled.{both_answered, part_both, passes}
 use Rattle.sql_rows.proofs.Unioned.{answered, part_from}
 use Rattle.sqlite_rules.proofs.ListLemmas.{has_either, has_left, has_right}
 use Rattle.sql_tables.specs.Selects.{Selects}
@@ -95,15 +96,15 @@ shown_both cut P Q first second all one two both = record {
   to = λ w said.
       elim said [
         | inl p ↦ let it = one.to w p in (
-            it.0,
-            subst (λ l. Has l it.0) (sym both) (has_left first second it.0 it.1),
-            it.2,
-          )
+          it.0,
+          subst (λ l. Has l it.0) (sym both) (has_left first second it.0 it.1),
+          it.2,
+        )
         | inr q ↦ let it = two.to w q in (
-            it.0,
-            subst (λ l. Has l it.0) (sym both) (has_right first second it.0 it.1),
-            it.2,
-          )
+          it.0,
+          subst (λ l. Has l it.0) (sym both) (has_right first second it.0 it.1),
+          it.2,
+        )
       ];
 }
 
@@ -172,6 +173,26 @@ one_part tree is_low terms project db params shown test columns tests shows cuts
     (answered tree terms (lit Null ∷ project) [] (Binary ∷ []) params test (λ r. Null ∷ columns r)
     tests (λ r. ap (λ v. Null ∷ v) (shows r)) (overlay db tables) rows a)))
 
+-- a part from two tables
+pub both_part : (first second : ℕ) → nat_le (2 ^ 31) first ≡ false → nat_le (2 ^ 31) second ≡ false
+    → (terms project : List Term) (db : Trees) (params : Row) (shown : List Term)
+    (test : Row → Row → Bool) (columns : Row → Row)
+    → ((s r : Row) → list_all (holds (params ∷ s ∷ r ∷ [])) terms ≡ test s r)
+    → ((s r : Row) → eval_all project (params ∷ s ∷ r ∷ []) ≡ columns r)
+    → ((r : Row) → eval_all shown (params ∷ (Null ∷ columns r) ∷ []) ≡ columns r)
+    → IsPart db params shown (part_both first second terms project)
+    (IsOf (passes test (db first)) columns (db second))
+both_part first second is_low also_low terms project db params shown test columns tests shows cuts
+    tables rows a =
+    shown_answered (λ r. eval_all shown (params ∷ r ∷ [])) columns (passes test (db first))
+    (db second) rows cuts
+    (subst (λ l. AreAnswered (passes test l) (λ r. Null ∷ columns r) (db second) rows)
+    (low first is_low db tables)
+    (subst (λ l. AreAnswered (passes test (overlay db tables first)) (λ r. Null ∷ columns r) l rows)
+    (low second also_low db tables)
+    (both_answered first second terms project params test (λ r. Null ∷ columns r) tests
+    (λ s r. ap (λ v. Null ∷ v) (shows s r)) (overlay db tables) rows a)))
+
 -- one that no recursion computes
 abbrev is_plain : Let → Bool
 is_plain (selected q) = true
@@ -194,12 +215,10 @@ computed db params done (combined op left right width by ∷ lets) P e (inr (row
     absurd none
 computed db params done (recursive first step once width by most ∷ lets) P e h = absurd (cc)
 
-module _ (db : Trees) (params : Row) (width : ℕ) (by : List Collation) (shown : List Term)
-    (order : List (Term × Key)) where
-  abbrev cut : Row → Row
-  cut r = eval_all shown (params ∷ r ∷ [])
+-- ---- parts one after another, in an order
 
-  -- the last of the tables, in an order
+module _ (width : ℕ) (by : List Collation) (shown : List Term) (order : List (Term × Key)) where
+  -- the table of this place
   abbrev in_order : ℕ → Query
   in_order at = select_from (2 ^ 31 + at) [] shown order
 
@@ -225,10 +244,27 @@ module _ (db : Trees) (params : Row) (width : ℕ) (by : List Collation) (shown 
     body = in_order 6;
   }
 
+module _ (db : Trees) (params : Row) (width : ℕ) (by : List Collation) (shown : List Term)
+    (order : List (Term × Key)) where
+  abbrev cut : Row → Row
+  cut r = eval_all shown (params ∷ r ∷ [])
+
+  abbrev body_at : ℕ → Query
+  body_at at = in_order width by shown order at
+
+  abbrev of_two : Query → Query → Program
+  of_two = two_parts width by shown order
+
+  abbrev of_three : Query → Query → Query → Program
+  of_three = three_parts width by shown order
+
+  abbrev of_four : Query → Query → Query → Query → Program
+  of_four = four_parts width by shown order
+
   -- what is shown of the last table
   last : (at : ℕ) (tables : List (List Row)) (all rows : List Row) (P : Row → Type 0)
       → overlay db tables (2 ^ 31 + at) ≡ all → AreShown cut P all
-      → IsSureAnswer (in_order at) (overlay db tables) params rows → AreThose P rows
+      → IsSureAnswer (body_at at) (overlay db tables) params rows → AreThose P rows
   last at tables all rows P is said sure =
       shown_those cut P all rows said
       (subst (λ l. Selects (λ r. true) cut l rows) is
@@ -237,57 +273,84 @@ module _ (db : Trees) (params : Row) (width : ℕ) (by : List Collation) (shown 
 
   pub two_said : (p q : Query) (P Q : Row → Type 0) → IsPart db params shown p P
       → IsPart db params shown q Q → (rows : List Row)
-      → IsProgramAnswer (lets_of (two_parts p q)) (two_parts p q).body db params rows
+      → IsProgramAnswer (lets_of (of_two p q)) (of_two p q).body db params rows
       → AreThose (λ v. P v ⊎ Q v) rows
-  two_said p q P Q is_p is_q rows h = go (computed db params [] (lets_of (two_parts p q))
-      (λ tables. IsSureAnswer (in_order 2) (overlay db tables) params rows) refl h)
+  two_said p q P Q is_p is_q rows h = go (computed db params [] (lets_of (of_two p q))
+      (λ tables. IsSureAnswer (body_at 2) (overlay db tables) params rows) refl h)
     where
-      go : (tables : List (List Row)) × AreLets db params [] (lets_of (two_parts p q)) tables
-          × IsSureAnswer (in_order 2) (overlay db tables) params rows
+      go : (tables : List (List Row)) × AreLets db params [] (lets_of (of_two p q)) tables
+          × IsSureAnswer (body_at 2) (overlay db tables) params rows
           → AreThose (λ v. P v ⊎ Q v) rows
       go (tables, (a, is_a, (b, is_b, (ab, both, is))), sure) =
           last 2 (a ∷ b ∷ ab ∷ []) ab rows (λ v. P v ⊎ Q v) refl
           (shown_both cut P Q a b ab (is_p [] a (is_a Null)) (is_q (a ∷ []) b (is_b Null)) both)
-          (subst (λ l. IsSureAnswer (in_order 2) (overlay db l) params rows) is sure)
+          (subst (λ l. IsSureAnswer (body_at 2) (overlay db l) params rows) is sure)
 
   pub three_said : (p q r : Query) (P Q R : Row → Type 0) → IsPart db params shown p P
       → IsPart db params shown q Q → IsPart db params shown r R → (rows : List Row)
-      → IsProgramAnswer (lets_of (three_parts p q r)) (three_parts p q r).body db params rows
+      → IsProgramAnswer (lets_of (of_three p q r)) (of_three p q r).body db params rows
       → AreThose (λ v. P v ⊎ (Q v ⊎ R v)) rows
   three_said p q r P Q R is_p is_q is_r rows h =
       those_as (λ v. (P v ⊎ Q v) ⊎ R v) (λ v. P v ⊎ (Q v ⊎ R v))
       (λ v. turned (P v) (Q v) (R v)) (λ v. turned_back (P v) (Q v) (R v)) rows
-      (go (computed db params [] (lets_of (three_parts p q r))
-      (λ tables. IsSureAnswer (in_order 4) (overlay db tables) params rows) refl h))
+      (go (computed db params [] (lets_of (of_three p q r))
+      (λ tables. IsSureAnswer (body_at 4) (overlay db tables) params rows) refl h))
     where
-      go : (tables : List (List Row)) × AreLets db params [] (lets_of (three_parts p q r)) tables
-          × IsSureAnswer (in_order 4) (overlay db tables) params rows
+      go : (tables : List (List Row)) × AreLets db params [] (lets_of (of_three p q r)) tables
+          × IsSureAnswer (body_at 4) (overlay db tables) params rows
           → AreThose (λ v. (P v ⊎ Q v) ⊎ R v) rows
       go (tables, (a, is_a, (b, is_b, (ab, first, (c, is_c, (abc, second, is))))), sure) =
           last 4 (a ∷ b ∷ ab ∷ c ∷ abc ∷ []) abc rows (λ v. (P v ⊎ Q v) ⊎ R v) refl
           (shown_both cut (λ v. P v ⊎ Q v) R ab c abc
           (shown_both cut P Q a b ab (is_p [] a (is_a Null)) (is_q (a ∷ []) b (is_b Null)) first)
           (is_r (a ∷ b ∷ ab ∷ []) c (is_c Null)) second)
-          (subst (λ l. IsSureAnswer (in_order 4) (overlay db l) params rows) is sure)
+          (subst (λ l. IsSureAnswer (body_at 4) (overlay db l) params rows) is sure)
 
   pub four_said : (p q r s : Query) (P Q R S : Row → Type 0) → IsPart db params shown p P
       → IsPart db params shown q Q → IsPart db params shown r R → IsPart db params shown s S
       → (rows : List Row)
-      → IsProgramAnswer (lets_of (four_parts p q r s)) (four_parts p q r s).body db params rows
+      → IsProgramAnswer (lets_of (of_four p q r s)) (of_four p q r s).body db params rows
       → AreThose (λ v. P v ⊎ (Q v ⊎ (R v ⊎ S v))) rows
   four_said p q r s P Q R S is_p is_q is_r is_s rows h =
       those_as (λ v. ((P v ⊎ Q v) ⊎ R v) ⊎ S v) (λ v. P v ⊎ (Q v ⊎ (R v ⊎ S v)))
       (λ v one. turned (P v) (Q v) (R v ⊎ S v) (turned (P v ⊎ Q v) (R v) (S v) one))
       (λ v one. turned_back (P v ⊎ Q v) (R v) (S v)
       (turned_back (P v) (Q v) (R v ⊎ S v) one)) rows
-      (go (computed db params [] (lets_of (four_parts p q r s))
-      (λ tables. IsSureAnswer (in_order 6) (overlay db tables) params rows) refl h))
+      (go (computed db params [] (lets_of (of_four p q r s))
+      (λ tables. IsSureAnswer (body_at 6) (overlay db tables) params rows) refl h))
     where
-      go : (tables : List (List Row)) × AreLets db params [] (lets_of (four_parts p q r s)) tables
-          × IsSureAnswer (in_order 6) (overlay db tables) params rows
+      go : (tables : List (List Row)) × AreLets db params [] (lets_of (of_four p q r s)) tables
+          × IsSureAnswer (body_at 6) (overlay db tables) params rows
           → AreThose (λ v. ((P v ⊎ Q v) ⊎ R v) ⊎ S v) rows
-      go (tables, (a, is_a, (b, is_b, (ab, first, (c, is_c, (abc, second, (d, is_d,
-          (abcd, third, is))))))), sure) =
+      go (
+        tables,
+        (
+          a,
+          is_a,
+          (
+            b,
+            is_b,
+            (
+              ab,
+              first,
+              (
+                c,
+                is_c,
+                (
+                  abc,
+                  second,
+                  (
+                    d,
+                    is_d,
+                    (abcd, third, is),
+                  ),
+                ),
+              ),
+            ),
+          ),
+        ),
+        sure,
+      ) =
           last 6 (a ∷ b ∷ ab ∷ c ∷ abc ∷ d ∷ abcd ∷ []) abcd rows
           (λ v. ((P v ⊎ Q v) ⊎ R v) ⊎ S v) refl
           (shown_both cut (λ v. (P v ⊎ Q v) ⊎ R v) S abc d abcd
@@ -295,4 +358,4 @@ module _ (db : Trees) (params : Row) (width : ℕ) (by : List Collation) (shown 
           (shown_both cut P Q a b ab (is_p [] a (is_a Null)) (is_q (a ∷ []) b (is_b Null)) first)
           (is_r (a ∷ b ∷ ab ∷ []) c (is_c Null)) second)
           (is_s (a ∷ b ∷ ab ∷ c ∷ abc ∷ []) d (is_d Null)) third)
-          (subst (λ l. IsSureAnswer (in_order 6) (overlay db l) params rows) is sure)
+          (subst (λ l. IsSureAnswer (body_at 6) (overlay db l) params rows) is sure)

@@ -25,9 +25,11 @@ use Rattle.sql_rows.specs.declared.session_book_rows.SessionBook.{SessionBook}
 use Rattle.sql_rows.specs.declared.session_hold_rows.SessionHold.{SessionHold}
 use Rattle.sql_tables.specs.Statements.{Reads, ReadsWithin}
 use Rattle.sql_rows.specs.Content.{TableRows, rows_in}
-use Rattle.sql_rows.specs.Lists.{AreAllGrantBooks, AreAllHolds, AreBuckets, AreOpenGroups, BookAt}
-use Rattle.sql_rows.specs.Lists.{GroupAt, OpenGroupAt, ReservedAt, SessionBookAt, SessionHoldAt}
-use Rattle.sql_rows.specs.Lists.{open_group_cells, session_book_cells, session_hold_cells}
+use Rattle.sql_rows.specs.Lists.{AreAllGrantBooks, AreAllHolds, AreBuckets, AreOpenGroups, Ascends}
+use Rattle.sql_rows.specs.Lists.{BookAt, GroupAt, OpenGroupAt, ReservedAt, SessionBookAt}
+use Rattle.sql_rows.specs.Lists.{SessionHoldAt, open_group_before, open_group_cells}
+use Rattle.sql_rows.specs.Lists.{session_book_before, session_book_cells, session_hold_before}
+use Rattle.sql_rows.specs.Lists.{session_hold_cells}
 use Rattle.sql_rows.specs.Values.{Kept, Meta, PeriodNames}
 
 abbrev pub kept_of : KeptTexts → Kept
@@ -89,6 +91,12 @@ pub record AreOpenRows (rows : TableRows) (x : OpenRows) : Type 0 where
   pub groups : AreOpenGroups rows (map open_group_at x.groups.items)
   pub holds : AreAllHolds rows (map session_hold_at x.holds.items)
   pub books : AreAllGrantBooks rows (map session_book_at x.books.items)
+
+-- each of the three lists is in the order of its keys
+pub record DoOpenRowsRise (x : OpenRows) : Type 0 where
+  pub groups : Ascends open_group_before (map open_group_at x.groups.items)
+  pub holds : Ascends session_hold_before (map session_hold_at x.holds.items)
+  pub books : Ascends session_book_before (map session_book_at x.books.items)
 
 -- the rows of the three parts, one after another
 abbrev pub open_cells : OpenRows → List Values

@@ -1,12 +1,9 @@
 //! What open sessions have of rating groups, with what is held for sessions and the books of their
 //! reservations, found by one selection.
 
-ghost use Rattle.std.specs.Prelude.{◌≡◌, ◌≤◌, length, map, IfOk};
+ghost use Rattle.std.specs.Prelude.{◌≡◌, ◌≤◌, length, IfOk};
 ghost use Rattle.sql_rows.specs.Content.{rows_in};
-ghost use Rattle.sql_rows.specs.Lists.{Ascends, open_group_before, session_book_before};
-ghost use Rattle.sql_rows.specs.Lists.{session_hold_before};
-ghost use Rattle.sql_rows.specs.Texts.{AreOpenRows, open_cells, open_group_at, session_book_at};
-ghost use Rattle.sql_rows.specs.Texts.{session_hold_at};
+ghost use Rattle.sql_rows.specs.Texts.{AreOpenRows, DoOpenRowsRise, open_cells};
 ghost use Rattle.sql_tables.specs.Statements.{HasBook, HasIdleBook, HasRules, Reads, ReadsWithin};
 ghost use Rattle.sqlite.specs.Held.{state};
 
@@ -48,12 +45,7 @@ pub fn read_open_rows<S: Alter>(
     requires idle { HasIdleBook (state S.Store conn.old) }
     ensures reads { Reads (λ trees x. AreOpenRows (rows_in trees account.now) x)
         (state S.Store conn.old) (state S.Store conn.new) result }
-    ensures groups { IfOk result
-        (λ x. Ascends open_group_before (map open_group_at x.groups.items)) }
-    ensures holds { IfOk result
-        (λ x. Ascends session_hold_before (map session_hold_at x.holds.items)) }
-    ensures books { IfOk result
-        (λ x. Ascends session_book_before (map session_book_at x.books.items)) }
+    ensures order { IfOk result (λ x. DoOpenRowsRise x) }
 {
     let rows = read(
         conn,
@@ -84,12 +76,7 @@ pub fn read_open_rows_within<S: Alter>(
     ensures same_reference { tx.new.conn.ghost_name ≡ tx.old.conn.ghost_name }
     ensures reads { ReadsWithin (λ trees x. AreOpenRows (rows_in trees account.now) x)
         (state S.Store tx.old.conn.now) (state S.Store tx.new.conn.now) result }
-    ensures groups { IfOk result
-        (λ x. Ascends open_group_before (map open_group_at x.groups.items)) }
-    ensures holds { IfOk result
-        (λ x. Ascends session_hold_before (map session_hold_at x.holds.items)) }
-    ensures books { IfOk result
-        (λ x. Ascends session_book_before (map session_book_at x.books.items)) }
+    ensures order { IfOk result (λ x. DoOpenRowsRise x) }
 {
     let rows = read_within(
         tx,
@@ -109,12 +96,7 @@ pub fn read_open_rows_within<S: Alter>(
 /// Of the rows of the three parts, which follow one another.
 fn open_rows_from(alloc: Global, rows: &[Row]) -> Result<OpenRows, ReadFault>
     ensures cells { IfOk result (λ x. open_cells x ≡ rows.now) }
-    ensures groups { IfOk result
-        (λ x. Ascends open_group_before (map open_group_at x.groups.items)) }
-    ensures holds { IfOk result
-        (λ x. Ascends session_hold_before (map session_hold_at x.holds.items)) }
-    ensures books { IfOk result
-        (λ x. Ascends session_book_before (map session_book_at x.books.items)) }
+    ensures order { IfOk result (λ x. DoOpenRowsRise x) }
 {
     let (of_groups, rest) = rows.split_at(end_of_part(rows, 0));
     let (of_holds, of_books) = rest.split_at(end_of_part(rest, 1));
