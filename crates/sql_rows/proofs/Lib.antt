@@ -56,6 +56,7 @@ pub mod ReadLive
 pub mod ReadMeta
 pub mod ReadOpen
 pub mod ReadOpenGroups
+pub mod ReadOpenRows
 pub mod ReadReserved
 pub mod ReadSession
 pub mod ReadVoucher

@@ -11,7 +11,8 @@ use Rattle.units.specs.Words.{GroupId, CycleNumber, BookNumber}
 use Rattle.identifiers.specs.Words.{SessionName, AccountName}
 use Rattle.buckets.specs.Words.{BucketNumber}
 use Rattle.ledger.specs.Words.{ChargeNumber}
-use Rattle.sqlite_value.specs.declared.value.Value.TheVariants.{Text}
+use Rattle.sqlite_value.specs.declared.value.Value.TheVariants.{Null, Text}
+use Rattle.sqlite.specs.Values.{or_null}
 use Rattle.sqlite_value.specs.Order.{Row as Values, column}
 use Rattle.buckets.specs.Row.{BucketRow}
 use Rattle.reserving.specs.declared.session.Session.{Session}
@@ -96,9 +97,13 @@ pub record OpenGroupAt : Type 0 where
   pub group : ℕ
   pub row : Group
 
--- the columns after the session's, and then the session
+-- as the first part of a selection gives it: the part's number, the session, the rating group, the
+-- names of the periods, and the other columns
 abbrev pub open_group_cells : OpenGroupAt → Values
-open_group_cells x = group_cells x.group x.row ++ Text x.session ∷ []
+open_group_cells x =
+    nat 0 ∷ Text x.session ∷ nat x.group ∷ or_null (λ p. Text p.before) x.row.periods
+    ∷ or_null (λ p. Text p.after) x.row.periods ∷ nat x.row.used
+    ∷ nat (flag_number (is_some x.row.periods)) ∷ []
 
 -- by the session, and within one by the rating group
 abbrev pub open_group_before : OpenGroupAt → OpenGroupAt → Bool
@@ -144,10 +149,10 @@ pub record SessionHoldAt : Type 0 where
   pub bucket : ℕ
   pub amount : ℕ
 
--- the columns after the session's, and then the session
+-- as the second part gives it, with NULL for the columns that a hold has none for
 abbrev pub session_hold_cells : SessionHoldAt → Values
 session_hold_cells h =
-    nat h.group ∷ nat h.bucket ∷ nat h.amount ∷ Text h.session ∷ []
+    nat 1 ∷ Text h.session ∷ nat h.group ∷ nat h.bucket ∷ nat h.amount ∷ Null ∷ Null ∷ []
 
 -- by the session, within one by the rating group, and within that by the bucket
 abbrev pub session_hold_before : SessionHoldAt → SessionHoldAt → Bool
@@ -169,8 +174,10 @@ pub record SessionBookAt : Type 0 where
   pub group : ℕ
   pub book : ℕ
 
+-- as the third part gives it
 abbrev pub session_book_cells : SessionBookAt → Values
-session_book_cells x = nat x.group ∷ nat x.book ∷ Text x.session ∷ []
+session_book_cells x =
+    nat 2 ∷ Text x.session ∷ nat x.group ∷ nat x.book ∷ Null ∷ Null ∷ Null ∷ []
 
 abbrev pub session_book_before : SessionBookAt → SessionBookAt → Bool
 session_book_before x y =

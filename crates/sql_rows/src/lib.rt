@@ -20,6 +20,7 @@ mod hold_rows;
 mod live_bucket_rows;
 mod meta_rows;
 mod open_group_rows;
+mod open_rows;
 mod reserved_rows;
 mod running;
 mod session_book_rows;
@@ -48,12 +49,11 @@ pub use crate::head_counter_rows::{
 pub use crate::hold_rows::{HeldColumns, put_hold, put_holds, read_holds, remove_holds};
 pub use crate::live_bucket_rows::{read_buckets_live, read_buckets_live_within};
 pub use crate::meta_rows::{MetaColumns, put_last_moment, put_meta, read_meta, read_meta_within};
-pub use crate::open_group_rows::{OpenGroup, read_groups_open, read_groups_open_within};
+pub use crate::open_group_rows::OpenGroup;
+pub use crate::open_rows::{OpenRows, read_open_rows, read_open_rows_within};
 pub use crate::reserved_rows::{ReservedColumns, read_reserved_within};
-pub use crate::session_book_rows::{
-    SessionBook, read_grant_books_all, read_grant_books_all_within,
-};
-pub use crate::session_hold_rows::{SessionHold, read_holds_all, read_holds_all_within};
+pub use crate::session_book_rows::SessionBook;
+pub use crate::session_hold_rows::SessionHold;
 pub use crate::session_rows::{
     add_session, add_sessions, put_session, put_sessions, read_session, read_sessions_open,
     read_sessions_open_within,

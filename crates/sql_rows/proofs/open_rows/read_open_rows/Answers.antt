@@ -1,18 +1,17 @@
 use Rattle.std.proofs.Common.{[], ◌∷◌, map, ap, ◌∙◌}
 use Rattle.sqlite.specs.Values.{bound_value}
 use Rattle.sqlite_value.specs.declared.value.Value.TheVariants.{Text}
-use Rattle.sql_rows.specs.Texts.{session_hold_at}
 use Rattle.sql_tables.proofs.Telling.{reads_as}
-use Rattle.sql_rows.proofs.ReadAllHolds.{holds_all_read, read_holds_all_plain, read_holds_all_text}
-use Rattle.sql_rows.proofs.session_hold_rows.read_holds_all.Goals as goal
+use Rattle.sql_rows.proofs.ReadOpenRows.{open_rows_read, read_open_rows_plain, read_open_rows_text}
+use Rattle.sql_rows.proofs.open_rows.read_open_rows.Goals as goal
 
 pub read-requires-clause-plain : goal.read-requires-clause-plain
-read-requires-clause-plain g c = read_holds_all_plain
+read-requires-clause-plain g c = read_open_rows_plain
 
 pub returns-clause-reads : goal.returns-clause-reads
 returns-clause-reads g c =
-    reads_as _ read_holds_all_text _ _ _ _ _ _ c.session_holds_from.result c.read.ensures.reads
+    reads_as _ read_open_rows_text _ _ _ _ _ _ c.open_rows_from.result c.read.ensures.reads
     c.read.ensures.stops c.in_ok-rows.ensures.answers
     (λ i. map bound_value ((c.text.ensures ∙ ap Text c.as_str.ensures.value) i ∷ []))
-    c.deref.ensures.value c.session_holds_from.ensures.cells
-    (λ xs. holds_all_read c.args.account.now _ _ _ (map session_hold_at xs.items))
+    c.deref.ensures.value c.open_rows_from.ensures.cells
+    (λ x. open_rows_read c.args.account.now _ _ _ x)
