@@ -51,11 +51,13 @@ part n = part_from 6 (counter_terms n) (counter_project n)
 abbrev heads : Query
 heads = part_from 2 head_terms head_project
 
-text_is : (db : Trees) (params : Row) → (command_of (understood book_schema read_head_cycles_text)
-    ≡ Select (four_parts db params 6 by shown order heads (part 1) (part 2) (part 3)) names) ×
+abbrev all : Program
+all = four_parts 6 by shown order heads (part 1) (part 2) (part 3)
+
+text_is : (command_of (understood book_schema read_head_cycles_text) ≡ Select all names) ×
     (reads_listing book_schema read_head_cycles_text ≡ false)
 unfolding understood everything
-text_is db params = (refl, refl)
+text_is = (refl, refl)
 
 pub read_head_cycles_plain : IsPlain (understood book_schema read_head_cycles_text)
 unfolding understood everything
@@ -108,9 +110,6 @@ module _ (a : List ℕ) (cycles : CycleNumbers) (db : Trees) (rows : List Row) w
   counted at cycle tests =
       one_part 6 refl (counter_terms at) (counter_project at) db params shown (counts cycle)
       (counter_columns at) tests (λ r. refl) (λ r. refl)
-
-  abbrev all : Program
-  all = four_parts db params 6 by shown order heads (part 1) (part 2) (part 3)
 
   those : IsProgramAnswer (lets_of all) all.body db params rows → AreThose IsShown rows
   those h =
@@ -180,8 +179,7 @@ pub head_cycles_read : (a : List ℕ) (cycles : CycleNumbers) (old new : State) 
     × AreCountersIn cycles.month (rows_in old.now.trees a) x.monthly.items
 head_cycles_read a cycles old new rows x got is =
     let db : Trees = old.now.trees in
-    let told = text_is db (params a cycles db rows) in
     cycles_told a cycles db rows got.fits got.book.stored.1.0 got.book.stored.1.1.1.0
     (those a cycles db rows (reads_as read_head_cycles_text (params a cycles db rows) old new
-    book_schema got.book.schema (Select (all a cycles db rows) names) told.0
-    read_head_cycles_plain told.1 rows got.shown).answer) x is
+    book_schema got.book.schema (Select all names) text_is.0 read_head_cycles_plain text_is.1 rows
+    got.shown).answer) x is
