@@ -2,6 +2,7 @@
 use Rattle.std.specs.Prelude.{codes}
 use Rattle.std.proofs.Common.{◌≡◌, ◌⊎◌, ℕ, pos, List, [], ◌∷◌, ◌++◌, map, false, refl, sym, ap}
 use Rattle.std.proofs.Common.{subst, ◌∙◌, inl, inr}
+use Rattle.std.proofs.lemmas.List.{append_assoc}
 use Rattle.sqlite_value.specs.declared.value.Value.TheVariants.{Int, Null, Text}
 use Rattle.sqlite_value.specs.declared.keys.Collation.{Collation}
 use Rattle.sqlite_value.specs.declared.keys.Collation.TheVariants.{Binary}
@@ -210,7 +211,9 @@ open_rows_read a old new rows x got is =
     let bs : List SessionBookAt = map session_book_at x.books.items in
     let those = parted a trees fits stored gs hs bs
     (subst (AreThose (λ v. OfGroups a trees fits stored v
-    ⊎ (OfHolds a trees fits stored v ⊎ OfBooks a trees fits stored v))) (sym is)
+    ⊎ (OfHolds a trees fits stored v ⊎ OfBooks a trees fits stored v)))
+    (sym is ∙ append_assoc (map open_group_cells gs) (map session_hold_cells hs)
+    (map session_book_cells bs))
     (selected a trees fits stored rows old new refl got)) in
     record {
       groups = group.open_groups_answered a trees fits stored (got.book.stored.1.1.1.1.1.0) gs

@@ -11,7 +11,7 @@ returns c = row_is c.args.row.now _ (omega (arith, c.has_columns.ensures)) (
       c.in_ok-group.ensures,
       (
         c.in_ok-book.ensures,
-        (c.in_ok-null_at.ensures, (c.in_ok-null_at2.ensures, (c.in_ok-null_at3.ensures, tt))),
+        (c.in_ok-null_at.ensures, (c.in_ok-null_at-2.ensures, (c.in_ok-null_at-3.ensures, tt))),
       ),
     ),
   ),
