@@ -1,13 +1,10 @@
 -- What open sessions have of rating groups; and several reads in turn.
-use Rattle.std.proofs.Common.{◌≡◌, ℕ, Bool, true, false, List, [], Option, Some, None, Result, IfOk}
-use Rattle.std.proofs.Common.{IsTrue, map, refl, sym, ap, subst, ◌∙◌}
+use Rattle.std.proofs.Common.{◌≡◌, ℕ, Bool, true, false, List, [], Option, Some, None}
+use Rattle.std.proofs.Common.{IsTrue, refl, sym, ap, subst, ◌∙◌}
 use Rattle.std.specs.Prelude.{if◌then◌else◌, ◌&&◌, ◌||◌, is_some, option_map}
-use Rattle.std.proofs.lemmas.Result.{IfOk-weaker}
 use Rattle.sqlite_trees.specs.Tree.{Trees}
 use Rattle.sqlite.specs.Effect.{Database}
 use Rattle.sqlite.specs.State.{State, HasCleanDisk}
-use Rattle.buckets.specs.Row.{BucketRow}
-use Rattle.buckets.specs.Spend.{AreDistinct}
 use Rattle.reserving.specs.declared.session.Session.{Session}
 use Rattle.reserving.specs.declared.session.SessionGroup.{SessionGroup}
 use Rattle.reserving.specs.Left.{is_open_row}
@@ -16,19 +13,12 @@ use Rattle.reserving.specs.Sessions.{is_open}
 use Rattle.keepers.specs.Change.{has_reservation}
 use Rattle.sql_tables.specs.Selects.{passing}
 use Rattle.sql_tables.specs.Statements.{OnlyReads}
-use Rattle.sql_rows.specs.declared.open_group_rows.OpenGroup.{OpenGroup}
-use Rattle.sql_rows.specs.declared.session_book_rows.SessionBook.{SessionBook}
-use Rattle.sql_rows.specs.declared.session_hold_rows.SessionHold.{SessionHold}
-use Rattle.sql_rows.specs.Content.{TableRows, rows_in}
-use Rattle.sql_rows.specs.Lists.{AreAllGrantBooks, AreAllHolds, AreOpenGroups, AreSessions}
-use Rattle.sql_rows.specs.Texts.{open_group_at, session_book_at, session_hold_at}
+use Rattle.sql_rows.specs.Content.{TableRows}
+use Rattle.sql_rows.specs.Lists.{AreSessions}
 use Rattle.sql_rows.specs.Values.{Group}
 use Rattle.sql_keeper.specs.Content.{stored_group_in, is_reserved, held_in, Names}
-use Rattle.sql_keeper.specs.GroupRows.{AreGroupsOf}
-use Rattle.sql_keeper.specs.LiveGroups.{Gathers, AreLiveGroups, AreOpenGroupsLoaded}
+use Rattle.sql_keeper.specs.LiveGroups.{AreLiveGroups, AreOpenGroupsLoaded}
 use Rattle.sql_keeper.specs.LiveGroups.{AreOpenSessions}
-use Rattle.sql_keeper.proofs.GroupRows.{live_groups}
-use Rattle.sql_keeper.proofs.InTurn.{HaveRead, have_read_then, gathers_from}
 
 -- ---- the open sessions
 
@@ -109,31 +99,3 @@ told_before P old mid new first second clean on =
     let after = second.still clean on in
     let before = first.still (second.cleanness clean) after.was_open in
     subst (λ (d : Database). P d.trees) before.now_is
-
--- the rows of the open sessions, and what is held for sessions, read one after the other
-pub gathered : {V E : Type 0} (items : V → List SessionGroup) (names : Names) (a : List ℕ)
-    (buckets : List BucketRow) (cs : List OpenGroup) (held : List SessionHold)
-    (books : List SessionBook)
-    (old mid late new : State) (r : Result V E) → AreDistinct buckets → HaveRead old mid
-    → HaveRead mid late → HaveRead late new
-    → (HasCleanDisk mid → AreOpenGroups (rows_in old.now.trees a) (map open_group_at cs))
-    → (HasCleanDisk late → AreAllHolds (rows_in mid.now.trees a) (map session_hold_at held))
-    → (HasCleanDisk new → AreAllGrantBooks (rows_in late.now.trees a) (map session_book_at books))
-    → IfOk r (λ v. AreGroupsOf names buckets held books (map open_group_at cs) (items v))
-    → Gathers (λ trees v. AreLiveGroups names (rows_in trees a) (items v)) old new r
-gathered items names a buckets cs held books old mid late new r distinct first second third
-    groups holds numbers made =
-    let two = have_read_then old mid late first second in
-    gathers_from (λ trees v. AreLiveGroups names (rows_in trees a) (items v)) old new r
-    (have_read_then old late new two third)
-    (λ clean on.
-    let before = third.only.cleanness clean in
-    let open_late = (third.only.still clean on).was_open in
-    IfOk-weaker r (λ v. AreGroupsOf names buckets held books (map open_group_at cs) (items v))
-    (λ v. AreLiveGroups names (rows_in old.now.trees a) (items v))
-    (λ v all. live_groups names (rows_in old.now.trees a) buckets held books (map open_group_at cs)
-    (items v) distinct (groups (second.only.cleanness before))
-    (told_before (λ trees. AreAllHolds (rows_in trees a) (map session_hold_at held)) old mid late
-    first.only second.only before open_late (holds before))
-    (told_before (λ trees. AreAllGrantBooks (rows_in trees a) (map session_book_at books)) old late
-    new two.only third.only clean on (numbers clean)) all) made)

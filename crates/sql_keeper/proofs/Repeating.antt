@@ -1,7 +1,7 @@
 -- The counters of a moment, read by how often they begin again.
 use Rattle.std.proofs.Common.{◌≡◌, ℕ, ◌==◌, Bool, true, false, cond, List, [], ◌∷◌, ◌++◌, Option}
-use Rattle.std.proofs.Common.{Some, None, refl, ap, sym, subst, ◌∙◌}
-use Rattle.std.specs.Prelude.{if◌then◌else◌, ◌||◌, filter}
+use Rattle.std.proofs.Common.{Some, None, refl, ap, sym, subst, ◌∙◌, append-nil}
+use Rattle.std.specs.Prelude.{if◌then◌else◌, ◌||◌, not}
 use Rattle.std.specs.List.{find, list_any}
 use Rattle.std.specs.Option.{option_or}
 use Rattle.std.proofs.lemmas.List.Folds.{find-append}
@@ -18,19 +18,27 @@ use Rattle.ledger.specs.Pricing.{cycle_with, tariff_of}
 use Rattle.reserving.specs.Sessions.{is_counter, counter_in}
 use Rattle.reserving.proofs.Keys.{first_true, same_number}
 use Rattle.reserving.proofs.Lists.{no_some, not_both, some_of}
+use Rattle.sql_rows.specs.declared.head.HeadColumns.{HeadColumns}
+use Rattle.sql_rows.specs.declared.head_counter_rows.HeadCycles.{HeadCycles}
 use Rattle.sql_rows.specs.Content.{TableRows}
 use Rattle.sql_rows.specs.Lists.{AreCountersIn}
+use Rattle.sql_keeper.specs.declared.live_rows.FirstRows.{FirstRows}
 use Rattle.sql_keeper.specs.LiveRows.{AreCountersAt}
-use Rattle.sql_keeper.specs.Repeating.{AreEachCycle, AreRepeating, repeats_in, repeats_with}
-use Rattle.sql_keeper.specs.Repeating.{has_repeating, may_repeat}
+use Rattle.sql_keeper.specs.Repeating.{IsFirst, IsFirstOf, begins_again, has_cycles, repeating}
+use Rattle.sql_keeper.specs.Repeating.{repeats_in, repeats_with}
 use Rattle.sql_keeper.proofs.LiveRows.{find_kept}
 
+-- the counters of the groups whose counters begin again so often, each of the cycle at the moment
+abbrev AreRepeating : Book → Cycle → ℕ → TableRows → List Counter → Type 0
+AreRepeating b repeats t rows cs = (g c : ℕ) → counter_in g c cs
+    ≡ (if cycles.eq (repeats_in b g) repeats
+    then (if c == cycle_of b.calendar.zone repeats t then rows.counters g c else None) else None)
+
 -- those of the groups whose counters begin again so often, among all of the cycle
-pub repeating_among : (b : Book) (repeats : Cycle) (t cycle : ℕ) (rows : TableRows)
+repeating_among : (b : Book) (repeats : Cycle) (t cycle : ℕ) (rows : TableRows)
     (all cs : List Counter)
     → cycle ≡ cycle_of b.calendar.zone repeats t → AreCountersIn cycle rows all
-    → cs ≡ filter (λ r. cycles.eq (repeats_in b r.group) repeats) all
-    → AreRepeating b repeats t rows cs
+    → cs ≡ repeating b repeats all → AreRepeating b repeats t rows cs
 repeating_among b repeats t cycle rows all cs cycle_is found is g c =
     ap (counter_in g c) is
     ∙ find_kept (is_counter g c) (λ r. cycles.eq (repeats_in b r.group) repeats)
@@ -53,32 +61,27 @@ not_any p q (y ∷ ys) x none e =
     at false true here none e rest = subst (λ z. p z ≡ false) (some_of y x e) here
     at false false here none e rest = rest none e
 
--- no counter begins again so often where no group of the book does
-none_with : (b : Book) (repeats : Cycle) → cycles.eq often.None repeats ≡ false →
-    has_repeating b repeats ≡ false → (g : ℕ) → cycles.eq (repeats_in b g) repeats ≡ false
-none_with b repeats never none g = at (tariff_of b g) refl
+-- no counter begins again where no group of the book does
+never_again : (b : Book) → has_cycles b ≡ false → (g : ℕ) → repeats_in b g ≡ often.None
+never_again b none g = at (tariff_of b g) refl
   where
-    at : (o : Option GroupTariff) → tariff_of b g ≡ o →
-        cycles.eq (repeats_with o) repeats ≡ false
-    at None e = never
-    at (Some x) e =
-        not_any (λ (t : GroupTariff). cycles.eq t.cycle repeats) (λ t. t.group == g) b.tariffs x
-        none e
+    is_none : (k : Cycle) → not (cycles.eq k often.None) ≡ false → k ≡ often.None
+    is_none often.None e = refl
+    is_none often.Day e = absurd (not_both (sym e))
+    is_none often.Month e = absurd (not_both (sym e))
 
-none_repeats : (b : Book) (repeats : Cycle) → may_repeat b repeats ≡ false → (g : ℕ) →
-    cycles.eq (repeats_in b g) repeats ≡ false
-none_repeats b often.None none g = absurd (not_both (sym none))
-none_repeats b often.Day none g = none_with b often.Day refl none g
-none_repeats b often.Month none g = none_with b often.Month refl none g
+    at : (o : Option GroupTariff) → tariff_of b g ≡ o → repeats_with o ≡ often.None
+    at None e = refl
+    at (Some x) e =
+        is_none x.cycle (not_any begins_again (λ t. t.group == g) b.tariffs x none e)
 
 -- so none is to be read
-pub none_repeating : (b : Book) (repeats : Cycle) (t : ℕ) (rows : TableRows) (cs : List Counter) →
-    false ≡ may_repeat b repeats → cs ≡ [] → AreRepeating b repeats t rows cs
-none_repeating b repeats t rows cs none is g c =
-    ap (counter_in g c) is
-    ∙ ap (λ (u : Bool). if u
+none_repeating : (b : Book) (repeats : Cycle) → cycles.eq often.None repeats ≡ false → (t : ℕ)
+    (rows : TableRows) → has_cycles b ≡ false → AreRepeating b repeats t rows []
+none_repeating b repeats other t rows none g c =
+    ap (λ (u : Bool). if u
     then (if c == cycle_of b.calendar.zone repeats t then rows.counters g c else None) else None)
-    (sym (none_repeats b repeats (sym none) g))
+    (sym (ap (λ k. cycles.eq k repeats) (never_again b none g) ∙ other))
 
 -- the cycle of a group's counter is that of how often it begins again
 cycle_repeats : (zone : ZoneRule) (o : Option GroupTariff) (t : ℕ)
@@ -106,17 +109,51 @@ module _ (zone : ZoneRule) (t c : ℕ) (o never daily monthly : Option Counter) 
   one_of_three often.Month e f h = λ i. option_or (option_or (e i) (f i)) (h i)
 
 -- all of them, by the book at the moment
-pub counters_joined : (s : Shelf) (b : Book) (t : ℕ) (rows : TableRows)
+counters_joined : (s : Shelf) (b : Book) (t : ℕ) (rows : TableRows)
     (never daily monthly all : List Counter) → b ≡ book_at s t
-    → AreRepeating b often.None t rows never → AreEachCycle b t rows daily monthly
+    → AreRepeating b often.None t rows never → AreRepeating b often.Day t rows daily
+    → AreRepeating b often.Month t rows monthly
     → all ≡ (never ++ daily) ++ monthly → AreCountersAt s t rows all
-counters_joined s b t rows never daily monthly all of_shelf first each is g c =
+counters_joined s b t rows never daily monthly all of_shelf first second third is g c =
     ap (counter_in g c) is
     ∙ find-append (is_counter g c) (never ++ daily) monthly
     ∙ ap (λ o. option_or o (counter_in g c monthly)) (find-append (is_counter g c) never daily)
     ∙ one_of_three b.calendar.zone t c (rows.counters g c) (counter_in g c never)
     (counter_in g c daily) (counter_in g c monthly) (repeats_in b g) (first g c)
-    (each.daily_are g c) (each.monthly_are g c)
+    (second g c) (third g c)
     ∙ ap (λ n. if c == n then rows.counters g c else None)
     (cycle_repeats b.calendar.zone (tariff_of b g) t
     ∙ ap (λ (x : Book). cycle_with x.calendar.zone (tariff_of x g) t) of_shelf)
+
+-- what is made of the counters of the three cycles
+pub first_told : (b : Book) (t never day month : ℕ) (rows : TableRows) (read : HeadCycles)
+    (made : FirstRows) → never ≡ cycle_of b.calendar.zone often.None t
+    → day ≡ cycle_of b.calendar.zone often.Day t → month ≡ cycle_of b.calendar.zone often.Month t
+    → (read.head ≡ rows.head) × AreCountersIn never rows read.never.items
+    × AreCountersIn day rows read.daily.items × AreCountersIn month rows read.monthly.items
+    → IsFirstOf b read made → IsFirst b t rows made.head made.counters.items
+first_told b t never day month rows read made e f h found is = record {
+  head_is = is.head_is ∙ found.0;
+  counters_are = λ s of_shelf.
+      counters_joined s b t rows (repeating b often.None read.never.items)
+      (repeating b often.Day read.daily.items) (repeating b often.Month read.monthly.items)
+      made.counters.items of_shelf
+      (repeating_among b often.None t never rows read.never.items _ e found.1 refl)
+      (repeating_among b often.Day t day rows read.daily.items _ f found.2 refl)
+      (repeating_among b often.Month t month rows read.monthly.items _ h found.3 refl)
+      is.counters_are;
+}
+
+-- and where no counter begins again, of those of the one cycle
+pub never_told : (b : Book) (t never : ℕ) (rows : TableRows) (head made : Option HeadColumns)
+    (all cs : List Counter) → has_cycles b ≡ false → never ≡ cycle_of b.calendar.zone often.None t
+    → (head ≡ rows.head) × AreCountersIn never rows all → made ≡ head
+    → cs ≡ repeating b often.None all → IsFirst b t rows made cs
+never_told b t never rows head made all cs none e found same is = record {
+  head_is = same ∙ found.0;
+  counters_are = λ s of_shelf.
+      counters_joined s b t rows cs [] [] cs of_shelf
+      (repeating_among b often.None t never rows all cs e found.1 is)
+      (none_repeating b often.Day refl t rows none) (none_repeating b often.Month refl t rows none)
+      (sym (append-nil cs) ∙ sym (append-nil (cs ++ [])));
+}

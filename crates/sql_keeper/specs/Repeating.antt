@@ -1,19 +1,21 @@
 -- The counters of an account at a moment, by how often they begin again.
 -- Source: TS 32.296, counters.
-use Rattle.std.specs.Prelude.{◌≡◌, ◌==◌, Bool, true, List, Option, Some, None, if◌then◌else◌}
+use Rattle.std.specs.Prelude.{◌≡◌, Bool, List, ◌++◌, Option, Some, None, filter, not}
 use Rattle.std.specs.List.{list_any}
-use Rattle.units.specs.Words.{Moment, GroupId, CycleNumber}
+use Rattle.units.specs.Words.{Moment, GroupId}
 use Rattle.calendar.specs.declared.cycle.Cycle.{Cycle}
 use Rattle.calendar.specs.declared.cycle.Cycle.TheVariants as often
 use Rattle.calendar.specs.contracts.cycle.CyclePartialEq.TheImpl.{ghosts as cycles}
-use Rattle.calendar.specs.Timetable.{cycle_of}
+use Rattle.shelves.specs.Shelves.{Shelf, book_at}
 use Rattle.tariffs.specs.Books.{Book}
 use Rattle.tariffs.specs.Tariffs.{GroupTariff}
 use Rattle.reserving.specs.declared.session.Counter.{Counter}
 use Rattle.ledger.specs.Pricing.{tariff_of}
-use Rattle.reserving.specs.Sessions.{counter_in}
 use Rattle.sql_rows.specs.declared.head.HeadColumns.{HeadColumns}
+use Rattle.sql_rows.specs.declared.head_counter_rows.HeadCycles.{HeadCycles}
 use Rattle.sql_rows.specs.Content.{TableRows}
+use Rattle.sql_keeper.specs.declared.live_rows.FirstRows.{FirstRows}
+use Rattle.sql_keeper.specs.LiveRows.{AreCountersAt}
 
 abbrev pub repeats_with : Option GroupTariff → Cycle
 repeats_with None = often.None
@@ -24,29 +26,26 @@ repeats_with (Some x) = x.cycle
 abbrev pub repeats_in : Book → GroupId → Cycle
 repeats_in b g = repeats_with (tariff_of b g)
 
-abbrev pub has_repeating : Book → Cycle → Bool
-has_repeating b repeats = list_any (λ (t : GroupTariff). cycles.eq t.cycle repeats) b.tariffs
+abbrev pub begins_again : GroupTariff → Bool
+begins_again x = not (cycles.eq x.cycle often.None)
 
--- whether a counter may begin again so often, of any rating group
-abbrev pub may_repeat : Book → Cycle → Bool
-may_repeat b often.None = true
-may_repeat b often.Day = has_repeating b often.Day
-may_repeat b often.Month = has_repeating b often.Month
+-- whether a book has a rating group whose counter begins again
+abbrev pub has_cycles : Book → Bool
+has_cycles b = list_any begins_again b.tariffs
 
--- the counters of the groups whose counters begin again so often, each of the cycle at the moment
-abbrev pub AreRepeating : Book → Cycle → Moment → TableRows → List Counter → Type 0
-AreRepeating b repeats t rows cs = (g : GroupId) (c : CycleNumber) → counter_in g c cs
-    ≡ (if cycles.eq (repeats_in b g) repeats
-    then (if c == cycle_of b.calendar.zone repeats t then rows.counters g c else None) else None)
+-- those of the groups whose counters begin again so often
+abbrev pub repeating : Book → Cycle → List Counter → List Counter
+repeating b repeats cs = filter (λ r. cycles.eq (repeats_in b r.group) repeats) cs
 
--- what is kept of an account once, and its counters of the groups whose counters never begin again
+-- what is made of the counters of the three cycles
+pub record IsFirstOf (b : Book) (read : HeadCycles) (made : FirstRows) : Type 0 where
+  pub head_is : made.head ≡ read.head
+  pub counters_are : made.counters.items ≡ (repeating b often.None read.never.items
+      ++ repeating b often.Day read.daily.items) ++ repeating b often.Month read.monthly.items
+
+-- what is kept of an account once, and its counters of the cycles at the moment by the shelf whose
+-- book it is
 pub record IsFirst (b : Book) (t : Moment) (rows : TableRows) (head : Option HeadColumns)
-    (never : List Counter) : Type 0 where
+    (counters : List Counter) : Type 0 where
   pub head_is : head ≡ rows.head
-  pub never_are : AreRepeating b often.None t rows never
-
--- those of the others
-pub record AreEachCycle (b : Book) (t : Moment) (rows : TableRows) (daily monthly : List Counter)
-    : Type 0 where
-  pub daily_are : AreRepeating b often.Day t rows daily
-  pub monthly_are : AreRepeating b often.Month t rows monthly
+  pub counters_are : (s : Shelf) → b ≡ book_at s t → AreCountersAt s t rows counters

@@ -12,7 +12,7 @@ use buckets::Purse;
 use identifiers::AccountNumber;
 use reserving::{Session, SessionGroup};
 use shelves::TariffShelf;
-use sql_rows::{read_grant_books_all, read_groups_open, read_holds_all, read_sessions_open};
+use sql_rows::{read_open_rows, read_sessions_open};
 use sql_tables::ReadFault;
 use sqlite::{Alter, Connection};
 use std::alloc::Global;
@@ -27,7 +27,7 @@ pub(crate) struct OpenSessions {
 }
 
 /// What the open sessions of an account have of rating groups, with what their reservations hold in
-/// the order of the purse: three selections, however many sessions are open.
+/// the order of the purse: one selection, however many sessions are open.
 fn read_live_groups<S: Alter>(
     conn: &mut Connection<S>,
     alloc: Global,
@@ -40,10 +40,8 @@ fn read_live_groups<S: Alter>(
         (λ trees xs. AreLiveGroups (shelf_names books.now) (rows_in trees account.now) xs.items)
         (state S.Store conn.old) (state S.Store conn.new) result }
 {
-    let rows = read_groups_open(conn, alloc, account)?;
-    let held = read_holds_all(conn, alloc, account)?;
-    let numbers = read_grant_books_all(conn, alloc, account)?;
-    groups_of(alloc, books, purse.buckets(), &rows, &held, &numbers)
+    let rows = read_open_rows(conn, alloc, account)?;
+    groups_of(alloc, books, purse.buckets(), &rows)
 }
 
 /// Whether there are no sessions.

@@ -1,19 +1,18 @@
 //! What may still change of an account, read from the tables.
 
-ghost use Rattle.std.specs.Prelude.{◌≡◌, ℕ, ◌++◌, filter, IfOk};
-ghost use Rattle.calendar.specs.contracts.cycle.CyclePartialEq.TheImpl.{ghosts as cycles};
+ghost use Rattle.std.specs.Prelude.{◌≡◌, ℕ, ◌++◌, IfOk, false};
 ghost use Rattle.sql_keeper.specs.Content.{Names, shelf_names};
 ghost use Rattle.sql_keeper.specs.KeptRows.{AreKept, AreOf};
 ghost use Rattle.sql_keeper.specs.LiveGroups.{Gathers};
-ghost use Rattle.sql_keeper.specs.Repeating.{AreEachCycle, AreRepeating, IsFirst, repeats_in};
-ghost use Rattle.sql_keeper.specs.Repeating.{has_repeating, may_repeat};
-ghost use Rattle.sql_keeper.specs.LiveRows.{account_with, AreCountersAt, AreLiveBuckets};
+ghost use Rattle.sql_keeper.specs.Repeating.{IsFirst, IsFirstOf, begins_again, has_cycles};
+ghost use Rattle.sql_keeper.specs.Repeating.{repeating, repeats_in};
+ghost use Rattle.sql_keeper.specs.LiveRows.{account_with, AreLiveBuckets};
 ghost use Rattle.sql_keeper.specs.LiveRows.{AreLiveRows, IsReadAccount, IsLiveAccount};
 ghost use Rattle.reserving.specs.Restored.{in_key_order, FindsSame};
 ghost use Rattle.sql_rows.specs.Content.{TableRows, rows_in};
-ghost use Rattle.sql_tables.specs.Statements.{HasIdleBook, Reads};
+ghost use Rattle.sql_tables.specs.Statements.{HasIdleBook};
 ghost use Rattle.sqlite.specs.Held.{state};
-ghost use Rattle.shelves.specs.Shelves.{Shelf, book_at};
+ghost use Rattle.shelves.specs.Shelves.{Shelf};
 
 use crate::counted_buckets::read_counted;
 use crate::kept_rows::{KeptRows, copy_of_kept};
@@ -24,7 +23,8 @@ use identifiers::AccountNumber;
 use reserving::{Counter, GivenRows, Session, SessionGroup, StoredAccount};
 use shelves::TariffShelf;
 use sql_rows::{
-    HeadColumns, HeadCounters, read_buckets_live, read_counters_in, read_head_counters,
+    CycleNumbers, HeadColumns, HeadCounters, HeadCycles, read_buckets_live, read_head_counters,
+    read_head_cycles,
 };
 use sql_tables::ReadFault;
 use sqlite::{Alter, Connection};
@@ -90,131 +90,25 @@ fn repeats_of(book: &TariffBook, group: u32) -> Cycle
 
 /// Those of the groups whose counters begin again so often.
 fn counters_repeating(counters: Vec<Counter>, book: &TariffBook, repeats: Cycle) -> Vec<Counter>
-    ensures { result.items
-        ≡ filter (λ r. cycles.eq (repeats_in book.now r.group) repeats) counters.items }
+    ensures { result.items ≡ repeating book.now repeats counters.items }
 {
     let mut rows = counters;
     rows.retain(|row| repeats_of(book, row.group) == repeats);
     rows
 }
 
-/// The counters of an account, at a moment, of the groups whose counters begin again so often.
-fn read_repeating<S: Alter>(
-    conn: &mut Connection<S>,
-    alloc: Global,
-    account: &AccountNumber,
-    book: &TariffBook,
-    repeats: Cycle,
-    moment: Moment,
-) -> Result<Vec<Counter>, ReadFault>
-    requires idle { HasIdleBook (state S.Store conn.old) }
-    ensures { Reads (λ trees xs.
-        AreRepeating book.now repeats moment (rows_in trees account.now) xs.items)
-        (state S.Store conn.old) (state S.Store conn.new) result }
+/// Whether the counter of a tariff's rating group begins again.
+fn begins_again(tariff: &Tariff) -> bool
+    ensures { result ≡ begins_again tariff.now }
 {
-    let cycle = book.cycle_of(repeats, moment);
-    let counters = read_counters_in(conn, alloc, account, cycle)?;
-    Ok(counters_repeating(counters, book, repeats))
+    tariff.cycle() != Cycle::None
 }
 
-/// Whether the counter of a tariff's rating group begins again so often.
-fn repeats_so(tariff: &Tariff, repeats: Cycle) -> bool
-    ensures { result ≡ cycles.eq tariff.now.cycle repeats }
+/// Whether a book has a rating group whose counter begins again.
+fn has_cycles(book: &TariffBook) -> bool
+    ensures { result ≡ has_cycles book.now }
 {
-    tariff.cycle() == repeats
-}
-
-/// Whether a book has a rating group whose counter begins again so often.
-fn has_repeating(book: &TariffBook, repeats: Cycle) -> bool
-    ensures { result ≡ has_repeating book.now repeats }
-{
-    let tariffs = book.tariffs();
-    tariffs.iter().any(|tariff| repeats_so(tariff, repeats))
-}
-
-/// Whether a counter may begin again so often: that of a group that the book doesn't have never
-/// does.
-fn may_repeat(book: &TariffBook, repeats: Cycle) -> bool
-    ensures { result ≡ may_repeat book.now repeats }
-{
-    match repeats {
-        Cycle::None => true,
-        Cycle::Day => has_repeating(book, Cycle::Day),
-        Cycle::Month => has_repeating(book, Cycle::Month),
-    }
-}
-
-/// The counters of an account, at a moment, of the groups whose counters begin again so often. None
-/// is read where the book has no such group.
-fn read_if_any<S: Alter>(
-    conn: &mut Connection<S>,
-    alloc: Global,
-    account: &AccountNumber,
-    book: &TariffBook,
-    repeats: Cycle,
-    moment: Moment,
-) -> Result<Vec<Counter>, ReadFault>
-    requires idle { HasIdleBook (state S.Store conn.old) }
-    ensures { Gathers (λ trees xs.
-        AreRepeating book.now repeats moment (rows_in trees account.now) xs.items)
-        (state S.Store conn.old) (state S.Store conn.new) result }
-{
-    if !may_repeat(book, repeats) {
-        return Ok(Vec::new(alloc));
-    }
-    Ok(read_repeating(conn, alloc, account, book, repeats, moment)?)
-}
-
-/// What is kept of an account once, with its counters that never begin again.
-#[derive(Drop)]
-struct FirstRows {
-    head: Option<HeadColumns>,
-    never: Vec<Counter>,
-}
-
-/// What is kept of an account once, with its counters, at a moment, of the groups whose counters
-/// never begin again: one selection.
-fn read_first<S: Alter>(
-    conn: &mut Connection<S>,
-    alloc: Global,
-    account: &AccountNumber,
-    book: &TariffBook,
-    moment: Moment,
-) -> Result<FirstRows, ReadFault>
-    requires idle { HasIdleBook (state S.Store conn.old) }
-    ensures { Gathers
-        (λ trees x. IsFirst book.now moment (rows_in trees account.now) x.head x.never.items)
-        (state S.Store conn.old) (state S.Store conn.new) result }
-{
-    let cycle = book.cycle_of(Cycle::None, moment);
-    let HeadCounters { head, counters } = read_head_counters(conn, alloc, account, cycle)?;
-    let never = counters_repeating(counters, book, Cycle::None);
-    Ok(FirstRows { head, never })
-}
-
-/// Counters of a moment that begin again, by how often.
-#[derive(Drop)]
-struct CycleCounters {
-    daily: Vec<Counter>,
-    monthly: Vec<Counter>,
-}
-
-/// The counters of an account at a moment that begin again; no other cycle is read.
-fn read_each_cycle<S: Alter>(
-    conn: &mut Connection<S>,
-    alloc: Global,
-    account: &AccountNumber,
-    book: &TariffBook,
-    moment: Moment,
-) -> Result<CycleCounters, ReadFault>
-    requires idle { HasIdleBook (state S.Store conn.old) }
-    ensures { Gathers (λ trees x. AreEachCycle book.now moment (rows_in trees account.now)
-        x.daily.items x.monthly.items)
-        (state S.Store conn.old) (state S.Store conn.new) result }
-{
-    let daily = read_if_any(conn, alloc, account, book, Cycle::Day, moment)?;
-    let monthly = read_if_any(conn, alloc, account, book, Cycle::Month, moment)?;
-    Ok(CycleCounters { daily, monthly })
+    book.tariffs().iter().any(begins_again)
 }
 
 /// All of them in one list.
@@ -233,24 +127,95 @@ fn joined_counters(
     Ok(all)
 }
 
-/// The counters of an account of the cycles at a moment, with those that never begin again, which
-/// were read before; no other cycle is read.
-fn read_counters_at<S: Alter>(
+/// What is kept of an account once, with its counters of the cycles at a moment.
+#[derive(Drop)]
+struct FirstRows {
+    head: Option<HeadColumns>,
+    counters: Vec<Counter>,
+}
+
+/// Of the counters of the three cycles those of the groups that count by each.
+fn first_of(book: &TariffBook, read: HeadCycles) -> Result<FirstRows, ReadFault>
+    ensures { IfOk result (IsFirstOf book.now read) }
+{
+    let HeadCycles {
+        head,
+        never,
+        daily,
+        monthly,
+    } = read;
+    let first = counters_repeating(never, book, Cycle::None);
+    let second = counters_repeating(daily, book, Cycle::Day);
+    let third = counters_repeating(monthly, book, Cycle::Month);
+    let counters = joined_counters(first, second, third)?;
+    Ok(FirstRows { head, counters })
+}
+
+/// What is kept of an account once, with its counters of the cycles at a moment: one selection of
+/// four parts.
+fn read_cycles<S: Alter>(
     conn: &mut Connection<S>,
     alloc: Global,
     account: &AccountNumber,
     book: &TariffBook,
     moment: Moment,
-    never: Vec<Counter>,
-) -> Result<Vec<Counter>, ReadFault>
+) -> Result<FirstRows, ReadFault>
     requires idle { HasIdleBook (state S.Store conn.old) }
-    ensures { Gathers (λ trees xs. (s : Shelf) → book.now ≡ book_at s moment →
-        AreRepeating book.now Cycle.None moment (rows_in trees account.now) never.items →
-        AreCountersAt s moment (rows_in trees account.now) xs.items)
+    ensures { Gathers
+        (λ trees x. IsFirst book.now moment (rows_in trees account.now) x.head x.counters.items)
         (state S.Store conn.old) (state S.Store conn.new) result }
 {
-    let CycleCounters { daily, monthly } = read_each_cycle(conn, alloc, account, book, moment)?;
-    joined_counters(never, daily, monthly)
+    let cycles = CycleNumbers {
+        never: book.cycle_of(Cycle::None, moment),
+        day: book.cycle_of(Cycle::Day, moment),
+        month: book.cycle_of(Cycle::Month, moment),
+    };
+    let read = read_head_cycles(conn, alloc, account, cycles)?;
+    first_of(book, read)
+}
+
+/// The same where no group of the book counts by the day or by the month: one selection of two
+/// parts, which costs less.
+fn read_never<S: Alter>(
+    conn: &mut Connection<S>,
+    alloc: Global,
+    account: &AccountNumber,
+    book: &TariffBook,
+    moment: Moment,
+) -> Result<FirstRows, ReadFault>
+    requires idle { HasIdleBook (state S.Store conn.old) }
+    requires none { has_cycles book.now ≡ false }
+    ensures { Gathers
+        (λ trees x. IsFirst book.now moment (rows_in trees account.now) x.head x.counters.items)
+        (state S.Store conn.old) (state S.Store conn.new) result }
+{
+    let cycle = book.cycle_of(Cycle::None, moment);
+    let HeadCounters { head, counters } = read_head_counters(conn, alloc, account, cycle)?;
+    let never = counters_repeating(counters, book, Cycle::None);
+    Ok(FirstRows {
+        head,
+        counters: never,
+    })
+}
+
+/// What is kept of an account once, with its counters of the cycles at a moment, by one selection.
+fn read_first<S: Alter>(
+    conn: &mut Connection<S>,
+    alloc: Global,
+    account: &AccountNumber,
+    book: &TariffBook,
+    moment: Moment,
+) -> Result<FirstRows, ReadFault>
+    requires idle { HasIdleBook (state S.Store conn.old) }
+    ensures { Gathers
+        (λ trees x. IsFirst book.now moment (rows_in trees account.now) x.head x.counters.items)
+        (state S.Store conn.old) (state S.Store conn.new) result }
+{
+    if has_cycles(book) {
+        read_cycles(conn, alloc, account, book, moment)
+    } else {
+        read_never(conn, alloc, account, book, moment)
+    }
 }
 
 /// What may still change of an account, whatever the moment. The periods of reservations have the
@@ -314,12 +279,11 @@ fn read_rows_at<S: Alter>(
         (state S.Store conn.old) (state S.Store conn.new) result }
 {
     let book = shelf.book_at(moment);
-    let FirstRows { head, never } = read_first(conn, alloc, account, book, moment)?;
+    let FirstRows { head, counters } = read_first(conn, alloc, account, book, moment)?;
     let Some(head) = head else {
         return Ok(None);
     };
     let rows = live_rows_of(conn, alloc, account, names, kept)?;
-    let counters = read_counters_at(conn, alloc, account, book, moment, never)?;
     Ok(Some(ReadRows {
         head,
         rows,

@@ -21,8 +21,7 @@ use reserving::{SessionGroup, StoredAccount};
 use shelves::TariffShelf;
 use sql_rows::{
     BucketColumns, read_account_within, read_allowance_within, read_buckets_live_within,
-    read_grant_books_all_within, read_groups_open_within, read_holds_all_within,
-    read_sessions_open_within,
+    read_open_rows_within, read_sessions_open_within,
 };
 use sql_tables::ReadFault;
 use sqlite::{Alter, Transaction};
@@ -122,10 +121,8 @@ fn read_groups_within<S: Alter>(
         (λ trees xs. AreLiveGroups (shelf_names books.now) (rows_in trees account.now) xs.items)
         (state S.Store tx.old.conn.now) (state S.Store tx.new.conn.now) result }
 {
-    let rows = read_groups_open_within(tx, alloc, account)?;
-    let held = read_holds_all_within(tx, alloc, account)?;
-    let numbers = read_grant_books_all_within(tx, alloc, account)?;
-    groups_of(alloc, books, purse.buckets(), &rows, &held, &numbers)
+    let rows = read_open_rows_within(tx, alloc, account)?;
+    groups_of(alloc, books, purse.buckets(), &rows)
 }
 
 /// The open sessions of an account, with what they have of rating groups. Where no session is open,

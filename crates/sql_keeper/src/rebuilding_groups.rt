@@ -5,9 +5,8 @@ ghost use Rattle.std.specs.List.{list_any};
 ghost use Rattle.sql_keeper.specs.Content.{shelf_names};
 ghost use Rattle.sql_keeper.specs.GroupRows.{AreGroupsOf, AreHoldsOf, ArePeriodsOf, AreTermsOf};
 ghost use Rattle.sql_keeper.specs.GroupRows.{IsGroupOf, IsReservationOf, amount_of, are_held_of};
-ghost use Rattle.sql_keeper.specs.GroupRows.{DoBooksRise, DoHoldsRise, book_of, held_for};
-ghost use Rattle.sql_keeper.specs.GroupRows.{holds_along, is_held_of};
-ghost use Rattle.sql_rows.specs.Texts.{names_of, open_group_at};
+ghost use Rattle.sql_keeper.specs.GroupRows.{book_of, held_for, holds_along, is_held_of};
+ghost use Rattle.sql_rows.specs.Texts.{DoOpenRowsRise, names_of, open_group_at};
 ghost use Rattle.tariffs.specs.Names.{period_named};
 
 use crate::own_rows::{held_for, number_of};
@@ -17,7 +16,7 @@ use ledger::Terms;
 use rating::Periods;
 use reserving::{Reservation, SessionGroup};
 use shelves::TariffShelf;
-use sql_rows::{HeldColumns, OpenGroup, PeriodTexts, SessionBook, SessionHold};
+use sql_rows::{HeldColumns, OpenGroup, OpenRows, PeriodTexts};
 use sql_tables::ReadFault;
 use std::alloc::Global;
 use tariffs::TariffBook;
@@ -67,13 +66,9 @@ fn terms_of(
 fn amount_of(held: &[HeldColumns], group: u32, bucket: u32) -> u64
     ensures { result ≡ amount_of group held.now bucket }
 {
-    let found = held
-        .iter()
-        .find(|row| row.group == group && row.bucket == bucket);
-    match found {
-        Some(row) => row.amount,
-        None => 0,
-    }
+    held.iter()
+        .find(|row| row.group == group && row.bucket == bucket)
+        .map_or(0, |row| row.amount)
 }
 
 fn is_there(buckets: &[Bucket], number: u32) -> bool
@@ -144,27 +139,23 @@ fn reservation_of(
     books: &TariffShelf,
     buckets: &[Bucket],
     row: &OpenGroup,
-    held: &[SessionHold],
-    numbers: &[SessionBook],
+    open: &OpenRows,
 ) -> Result<Option<Reservation>, ReadFault>
-    requires holds { DoHoldsRise held.now }
-    requires books { DoBooksRise numbers.now }
+    requires { DoOpenRowsRise open.now }
     ensures { IfOk result (λ o. IsReservationOf (shelf_names books.now) buckets.now
-        (held_for row.now.session held.now)
-        (book_of row.now.session row.now.columns.group numbers.now) row.now.columns.group
-        (option_map names_of row.now.columns.periods) o) }
+        (held_for row.now.session open.now.holds.items)
+        (book_of row.now.session row.now.columns.group open.now.books.items)
+        row.now.columns.group (option_map names_of row.now.columns.periods) o) }
 {
+    let Some(names) = &row.columns.periods else {
+        return Ok(None);
+    };
     let group = row.columns.group;
-    match &row.columns.periods {
-        None => Ok(None),
-        Some(names) => {
-            let number = number_of(numbers, &row.session, group);
-            let terms = terms_of(books, number, names)?;
-            let own = held_for(alloc, &row.session, held)?;
-            let holds = holds_of(alloc, buckets, group, &own)?;
-            Ok(Some(Reservation { terms, holds }))
-        }
-    }
+    let number = number_of(&open.books, &row.session, group);
+    let terms = terms_of(books, number, names)?;
+    let own = held_for(alloc, &row.session, &open.holds)?;
+    let holds = holds_of(alloc, buckets, group, &own)?;
+    Ok(Some(Reservation { terms, holds }))
 }
 
 fn group_of(
@@ -172,15 +163,13 @@ fn group_of(
     books: &TariffShelf,
     buckets: &[Bucket],
     row: &OpenGroup,
-    held: &[SessionHold],
-    numbers: &[SessionBook],
+    open: &OpenRows,
 ) -> Result<SessionGroup, ReadFault>
-    requires holds { DoHoldsRise held.now }
-    requires books { DoBooksRise numbers.now }
-    ensures { IfOk result (λ x. IsGroupOf (shelf_names books.now) buckets.now held.now numbers.now
-        (open_group_at row.now) x) }
+    requires { DoOpenRowsRise open.now }
+    ensures { IfOk result (λ x. IsGroupOf (shelf_names books.now) buckets.now open.now.holds.items
+        open.now.books.items (open_group_at row.now) x) }
 {
-    let reservation = reservation_of(alloc, books, buckets, row, held, numbers)?;
+    let reservation = reservation_of(alloc, books, buckets, row, open)?;
     let session = row.session.clone()?;
     Ok(SessionGroup {
         session,
@@ -196,18 +185,16 @@ pub(crate) fn groups_of(
     alloc: Global,
     books: &TariffShelf,
     buckets: &[Bucket],
-    rows: &[OpenGroup],
-    held: &[SessionHold],
-    numbers: &[SessionBook],
+    open: &OpenRows,
 ) -> Result<Vec<SessionGroup>, ReadFault>
-    requires holds { DoHoldsRise held.now }
-    requires books { DoBooksRise numbers.now }
-    ensures { IfOk result (λ xs. AreGroupsOf (shelf_names books.now) buckets.now held.now
-        numbers.now (map open_group_at rows.now) xs.items) }
+    requires { DoOpenRowsRise open.now }
+    ensures { IfOk result (λ xs. AreGroupsOf (shelf_names books.now) buckets.now
+        open.now.holds.items open.now.books.items (map open_group_at open.now.groups.items)
+        xs.items) }
 {
     let mut groups = Vec::new(alloc);
-    'rows: for row in rows {
-        let group = group_of(alloc, books, buckets, row, held, numbers)?;
+    'rows: for row in &open.groups {
+        let group = group_of(alloc, books, buckets, row, open)?;
         groups.push(group)?;
     }
     Ok(groups)

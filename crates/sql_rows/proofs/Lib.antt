@@ -6,6 +6,7 @@ pub mod Adds
 pub mod BookRules
 pub mod BucketRules
 pub mod ChargeBlocks
+pub mod Coupled
 pub mod Dead
 pub mod Each
 pub mod Inserts
@@ -13,6 +14,7 @@ pub mod Keyed
 pub mod MetaRules
 pub mod NamedTexts
 pub mod NamesPut
+pub mod OfParts
 pub mod OfSession
 pub mod Periods
 pub mod Plains
@@ -48,11 +50,13 @@ pub mod ReadCovered
 pub mod ReadGrantBooks
 pub mod ReadGroups
 pub mod ReadHeadCounters
+pub mod ReadHeadCycles
 pub mod ReadHolds
 pub mod ReadLive
 pub mod ReadMeta
 pub mod ReadOpen
 pub mod ReadOpenGroups
+pub mod ReadOpenRows
 pub mod ReadReserved
 pub mod ReadSession
 pub mod ReadVoucher
@@ -70,6 +74,7 @@ pub mod RowRules
 pub mod Stays
 pub mod Tests
 pub mod Unioned
+pub mod Unions
 pub mod Updates
 pub mod Within
 pub mod Writes

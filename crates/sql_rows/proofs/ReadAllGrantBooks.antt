@@ -1,28 +1,18 @@
--- What the text of `read_grant_books_all` answers.
-use Rattle.std.specs.Prelude.{codes, option_map}
-use Rattle.std.proofs.Common.{◌≡◌, inl, inr, ℕ, List, [], ◌∷◌, ◌++◌, map, drop, Bool, true, false}
-use Rattle.std.proofs.Common.{◌&&◌, Some, None, Option, is_eq, ap₂, refl, sym, ap, subst, ◌∙◌}
+-- Rows of the books of reservations, as `read_open_rows` selects them.
+use Rattle.std.specs.Prelude.{option_map}
+use Rattle.std.proofs.Common.{◌≡◌, inl, inr, ℕ, List, [], ◌∷◌, map, drop, Bool, true}
+use Rattle.std.proofs.Common.{◌&&◌, Some, None, Option, is_eq, ap₂, refl, sym, ap, ◌∙◌}
 use Rattle.sqlite_value.specs.declared.value.Value.TheVariants.{Null, Text}
 use Rattle.sqlite_value.specs.declared.keys.Collation.TheVariants.{Binary}
-use Rattle.sqlite_value.specs.declared.keys.Key.{Key}
 use Rattle.sqlite_value.specs.Order.{Row, column, value_cmp}
-use Rattle.sqlite_sql.specs.declared.ops.BinaryOp.TheVariants.{Compare}
-use Rattle.sqlite_sql.specs.declared.ops.CompareOp.TheVariants.{Eq}
-use Rattle.sqlite_sql.specs.Term.{Term, col, op2}
-use Rattle.sqlite_schema.specs.declared.command.Command.TheVariants.{Select}
-use Rattle.sqlite_schema.specs.Rules.{equal}
-use Rattle.sqlite_tied.specs.Compute.{everything}
-use Rattle.sqlite.specs.Given.{IsPlain}
-use Rattle.sqlite.specs.Listing.{understood, reads_listing}
-use Rattle.sqlite.specs.State.{State}
-use Rattle.sqlite.proofs.Callers.{command_of}
+use Rattle.sqlite_trees.specs.Tree.{Trees}
+use Rattle.sqlite_schema.specs.Rules.{Fits, equal}
+use Rattle.sql_tables.specs.Keyed.{IsStored}
 use Rattle.sql_tables.specs.Schema.{grant_books, book_schema}
-use Rattle.sql_tables.specs.Selects.{Selects}
-use Rattle.sql_tables.specs.Statements.{Answers}
-use Rattle.sql_tables.proofs.ByKey.{listed_told, only_all}
+use Rattle.sql_tables.proofs.ByKey.{answered_told, only_all}
 use Rattle.sql_tables.proofs.Columns.{equal_turned}
 use Rattle.sql_tables.proofs.Keys.{int_tie, keys_split, text_tie}
-use Rattle.sql_tables.proofs.Selected.{select_from, told}
+use Rattle.sql_tables.proofs.Selected.{AreAnswered}
 use Rattle.sql_tables.proofs.Selections.{meets}
 use Rattle.sql_tables.proofs.Steps.{and_true}
 use Rattle.sql_rows.specs.Values.{grant_book_in, group_key, nat, nat_in, text_in}
@@ -41,19 +31,13 @@ at_in v = record {
 -- the columns that are read as one of the list
 abbrev from_cells : Row → SessionBookAt
 from_cells w = record {
-  session = text_in (column w 2);
-  group = nat_in (column w 0);
-  book = grant_book_in (Null ∷ Null ∷ w);
+  session = text_in (column w 1);
+  group = nat_in (column w 2);
+  book = grant_book_in w;
 }
 
-abbrev project : List Term
-project = col 1 3 ∷ col 1 4 ∷ col 1 2 ∷ []
-
-abbrev names : List (List ℕ)
-names = codes "rating_group" ∷ codes "book" ∷ codes "session" ∷ []
-
-abbrev columns : Row → Row
-columns r = column r 3 ∷ column r 4 ∷ column r 2 ∷ []
+abbrev pub columns : Row → Row
+columns r = nat 2 ∷ column r 2 ∷ column r 3 ∷ column r 4 ∷ Null ∷ Null ∷ Null ∷ []
 
 same_columns : (r : Row) → at_in (drop 1 r) ≡ from_cells (columns r)
 same_columns [] = refl
@@ -62,34 +46,13 @@ same_columns (v ∷ vs) = refl
 back : (x : SessionBookAt) (r : Row) → session_book_cells x ≡ columns r → at_in (drop 1 r) ≡ x
 back x r is = same_columns r ∙ ap from_cells (sym is) ∙ refl
 
-abbrev pub read_grant_books_all_text : List ℕ
-read_grant_books_all_text = codes "SELECT rating_group, book, session FROM grant_books "
-    ++ codes "WHERE account = ?1 ORDER BY session, rating_group"
-
-abbrev terms : List Term
-terms = op2 (Compare Eq Binary) (col 1 1) (col 0 0) ∷ []
-
-abbrev order : List (Term × Key)
-order = (col 1 2, record { collation = Binary; descending = false }) ∷
-    (col 1 3, record { collation = Binary; descending = false }) ∷ []
-
-text_is : (command_of (understood book_schema read_grant_books_all_text)
-    ≡ Select (record { lets = []; body = select_from 24 terms project order }) names) ×
-    (reads_listing book_schema read_grant_books_all_text ≡ false)
-unfolding understood everything
-text_is = (refl, refl)
-
-pub read_grant_books_all_plain : IsPlain (understood book_schema read_grant_books_all_text)
-unfolding understood everything
-read_grant_books_all_plain = (refl, refl)
-
 books_only : (o : Option Row) →
     option_map (λ (x : SessionBookAt). x.book) (option_map at_in o) ≡ option_map grant_book_in o
 books_only None = refl
 books_only (Some v) = refl
 
 module _ (a : List ℕ) where
-  abbrev front : Row → Bool
+  abbrev pub front : Row → Bool
   front r = equal Binary (column r 1) (Text a)
 
   abbrev rest : List ℕ → ℕ → Row → Bool
@@ -107,26 +70,22 @@ module _ (a : List ℕ) where
   wanted : (s : List ℕ) (g : ℕ) (x : SessionBookAt) (r : Row) → session_book_cells x ≡ columns r →
       rest s g r ≡ is_book_of s g x
   wanted s g x r is =
-      ap (λ (w : Row). is_eq (value_cmp (Text s) (column w 2))
-      && is_eq (value_cmp (nat g) (column w 0))) (sym is)
+      ap (λ (w : Row). is_eq (value_cmp (Text s) (column w 1))
+      && is_eq (value_cmp (nat g) (column w 2))) (sym is)
       ∙ ap₂ ◌&&◌ (text_tie x.session s) (int_tie x.group g)
 
-  pub grant_books_all_read : (old new : State) (rows : List Row) (xs : List SessionBookAt)
-      → Answers read_grant_books_all_text (Text a ∷ []) old new rows
-      → map session_book_cells xs ≡ rows → AreAllGrantBooks (rows_in old.now.trees a) xs
-  grant_books_all_read old new rows xs got is s g =
+  -- a list of those rows
+  pub books_answered : (trees : Trees) → Fits book_schema trees → IsStored (trees 24)
+      → (xs : List SessionBookAt)
+      → AreAnswered front columns (trees 24) (map session_book_cells xs)
+      → AreAllGrantBooks (rows_in trees a) xs
+  books_answered trees fits stored xs answered s g =
       ap (option_map (λ (x : SessionBookAt). x.book))
-      (listed_told grant_books
+      (answered_told grant_books
       (inr (inr (inr (inr (inr (inr (inr (inr (inr (inr (inr (inl refl))))))))))))
       (inr (inr (inr (inr (inr (inr (inr (inr (inr (inr (inr (inr (inr (inl refl))))))))))))))
-      refl old.now.trees got.fits (got.book.stored.1.1.1.1.1.1.1.1.1.1.1.0) at_in
-      session_book_cells columns (λ r. front r && true) (group_key a s g)
-      (refl, (refl, (refl, tt))) (λ x r m. back x r) (is_book_of s g) (λ x. true) front
-      (rest s g) (λ r. true) (λ r. refl) (splits s g) (wanted s g) (λ r m h. refl)
-      (λ x r e same. refl) xs
-      (subst (Selects (λ r. front r && true) columns (old.now.trees 24)) (sym is)
-      (told read_grant_books_all_text names 24 terms project order text_is
-      read_grant_books_all_plain (Text a ∷ []) (λ r. front r && true) columns (λ r. refl)
-      (λ r. refl) old new rows got))
-      ∙ only_all _)
+      refl trees fits stored at_in session_book_cells columns front (group_key a s g)
+      (refl, (refl, (refl, tt))) (λ x r m. back x r) (is_book_of s g) (λ x. true) front (rest s g)
+      (λ r. true) (λ r. sym (and_true (front r))) (splits s g) (wanted s g) (λ r m h. refl)
+      (λ x r e same. refl) xs answered ∙ only_all _)
       ∙ books_only _

@@ -1,6 +1,5 @@
--- What the text of `read_counters_in` answers.
-use Rattle.std.specs.Prelude.{codes}
-use Rattle.std.proofs.Common.{◌≡◌, inl, inr, ℕ, List, [], ◌∷◌, ◌++◌, map, Bool, true, false}
+-- The counters of a cycle, of the rows that a selection answers.
+use Rattle.std.proofs.Common.{◌≡◌, inl, inr, ℕ, List, [], ◌∷◌, map, Bool, true, false}
 use Rattle.std.proofs.Common.{◌&&◌, Some, None, Option, is_eq, refl, sym, ap, ap₂, subst, ◌∙◌}
 use Rattle.std.proofs.Common.{nat_eq}
 use Rattle.std.proofs.lemmas.Bool.{and_parts, cases_Bool}
@@ -8,63 +7,23 @@ use Rattle.std.specs.Cmp.{unsigned_Decides}
 use Rattle.std.specs.List.{find}
 use Rattle.sqlite_value.specs.declared.value.Value.TheVariants.{Text}
 use Rattle.sqlite_value.specs.declared.keys.Collation.TheVariants.{Binary}
-use Rattle.sqlite_value.specs.declared.keys.Key.{Key}
 use Rattle.sqlite_value.specs.Order.{Row, column, value_cmp}
-use Rattle.sqlite_sql.specs.declared.ops.BinaryOp.TheVariants.{Compare}
-use Rattle.sqlite_sql.specs.declared.ops.CompareOp.TheVariants.{Eq}
-use Rattle.sqlite_sql.specs.Term.{Term, col, op2}
-use Rattle.sqlite_schema.specs.declared.command.Command.TheVariants.{Select}
 use Rattle.sqlite_schema.specs.Rules.{Fits, equal}
 use Rattle.sqlite_rules.proofs.ListLemmas.{has_found}
-use Rattle.sqlite_tied.specs.Compute.{everything}
-use Rattle.sqlite.specs.Given.{IsPlain}
-use Rattle.sqlite.specs.Listing.{understood, reads_listing}
-use Rattle.sqlite.specs.State.{State}
-use Rattle.sqlite.proofs.Callers.{command_of}
 use Rattle.sqlite_trees.specs.Tree.{Trees}
 use Rattle.sql_tables.specs.Keyed.{IsStored}
 use Rattle.sql_tables.specs.Schema.{counters, book_schema}
-use Rattle.sql_tables.specs.Selects.{Selects}
-use Rattle.sql_tables.specs.Statements.{Answers}
 use Rattle.sql_tables.proofs.ByKey.{answered_told, only_all}
 use Rattle.sql_tables.proofs.Columns.{equal_turned}
 use Rattle.sql_tables.proofs.Keys.{keys_split, int_tie}
-use Rattle.sql_tables.proofs.Selected.{AreAnswered, select_from, selected, told}
+use Rattle.sql_tables.proofs.Selected.{AreAnswered}
 use Rattle.sql_tables.proofs.Selections.{meets}
-use Rattle.sql_tables.proofs.Steps.{and_last, and_true, mapped_to}
+use Rattle.sql_tables.proofs.Steps.{and_true, mapped_to}
 use Rattle.reserving.specs.declared.session.Counter.{Counter}
 use Rattle.sql_rows.specs.Values.{nat, counter_key, counter_in_row, counter_cells}
 use Rattle.sql_rows.specs.Content.{rows_in}
 use Rattle.sql_rows.specs.Lists.{AreCountersIn}
 use Rattle.sql_rows.proofs.ReadCounter.{columns, back}
-
-abbrev project : List Term
-project = col 1 2 ∷ col 1 3 ∷ col 1 4 ∷ []
-
-abbrev names : List (List ℕ)
-names = codes "rating_group" ∷ codes "cycle" ∷ codes "blocks" ∷ []
-
-abbrev pub read_counters_in_text : List ℕ
-read_counters_in_text =
-    codes "SELECT rating_group, cycle, blocks FROM counters "
-    ++ codes "WHERE account = ?1 AND cycle = ?2 ORDER BY rating_group"
-
-abbrev terms : List Term
-terms =
-    op2 (Compare Eq Binary) (col 1 1) (col 0 0) ∷ op2 (Compare Eq Binary) (col 1 3) (col 0 1) ∷ []
-
-abbrev order : List (Term × Key)
-order = (col 1 2, record { collation = Binary; descending = false }) ∷ []
-
-text_is : (command_of (understood book_schema read_counters_in_text)
-    ≡ Select (record { lets = []; body = select_from 6 terms project order }) names) ×
-    (reads_listing book_schema read_counters_in_text ≡ false)
-unfolding understood everything
-text_is = (refl, refl)
-
-pub read_counters_in_plain : IsPlain (understood book_schema read_counters_in_text)
-unfolding understood everything
-read_counters_in_plain = (refl, refl)
 
 module _ (a : List ℕ) where
   abbrev pub front : Row → Bool
@@ -148,15 +107,3 @@ module _ (a : List ℕ) (cycle : ℕ) where
           (rest a g cycle) extra (λ r. refl) (splits a g cycle) (wanted a g cycle)
           (λ r m h. lives g r m) (λ x r e same. refl) xs answered
           ∙ only_all _
-
-  pub counters_read : (old new : State) (rows : List Row) (xs : List Counter) →
-      Answers read_counters_in_text (Text a ∷ nat cycle ∷ []) old new rows
-      → map counter_cells xs ≡ rows → AreCountersIn cycle (rows_in old.now.trees a) xs
-  counters_read old new rows xs got is =
-      counters_answered old.now.trees got.fits got.book.stored.1.1.1.0 xs
-      (selected (λ r. front a r && extra r) columns (old.now.trees 6) (map counter_cells xs)
-      (subst (Selects (λ r. front a r && extra r) columns (old.now.trees 6)) (sym is)
-      (told read_counters_in_text names 6 terms project order text_is read_counters_in_plain
-      (Text a ∷ nat cycle ∷ [])
-      (λ r. front a r && extra r) columns (λ r. and_last (front a r) (extra r))
-      (λ r. refl) old new rows got)))

@@ -1,7 +1,7 @@
 -- What the text of `read_head_counters` answers.
 use Rattle.std.specs.Prelude.{codes}
 use Rattle.std.proofs.Common.{◌≡◌, inl, inr, ℕ, pos, List, [], ◌∷◌, ◌++◌, map, drop, take, Bool}
-use Rattle.std.proofs.Common.{true, false, ◌&&◌, Some, None, Option, refl, sym, ap, subst, ◌∙◌}
+use Rattle.std.proofs.Common.{true, false, ◌&&◌, Some, None, Option, refl, sym, ap, ◌∙◌, nat_eq}
 use Rattle.std.specs.List.{find}
 use Rattle.sqlite_value.specs.declared.value.Value.TheVariants.{Int, Text}
 use Rattle.sqlite_value.specs.declared.keys.Collation.{Collation}
@@ -14,8 +14,6 @@ use Rattle.sqlite_sql.specs.declared.ops.CompareOp.TheVariants.{Eq}
 use Rattle.sqlite_sql.specs.Term.{Term, lit, col, op2}
 use Rattle.sqlite_schema.specs.declared.command.Command.TheVariants.{Select}
 use Rattle.sqlite_schema.specs.Rules.{Fits}
-use Rattle.sqlite_rules.specs.Lists.{Has}
-use Rattle.sqlite_rules.proofs.ListLemmas.{has_either, has_left, has_right}
 use Rattle.sqlite_tied.specs.Compute.{everything}
 use Rattle.sqlite.specs.Given.{IsPlain}
 use Rattle.sqlite.specs.Listing.{understood, reads_listing}
@@ -31,11 +29,13 @@ use Rattle.sql_tables.proofs.Columns.{equal_turned}
 use Rattle.sql_tables.proofs.Keys.{keys_split}
 use Rattle.sql_tables.proofs.Selected.{AreAnswered}
 use Rattle.sql_tables.proofs.Selections.{meets}
-use Rattle.sql_tables.proofs.Steps.{and_last, and_true, mapped_from, mapped_to}
+use Rattle.sql_tables.proofs.Steps.{and_last, and_true}
 use Rattle.sql_rows.specs.declared.head.HeadColumns.{HeadColumns}
 use Rattle.sql_rows.specs.Values.{counter_cells, head_cells, head_in, head_key, nat}
 use Rattle.sql_rows.specs.Content.{rows_in}
-use Rattle.sql_rows.specs.Lists.{AreCountersIn, counter_part, head_part}
+use Rattle.sql_rows.specs.Lists.{AreCountersAmong, AreCountersIn, IsHeadAmong, counter_part}
+use Rattle.sql_rows.specs.Lists.{head_part, of_part}
+use Rattle.sql_rows.proofs.OfParts.{AreNumbered, part_answered}
 use Rattle.sql_rows.proofs.ReadAccount as account
 use Rattle.sql_rows.proofs.ReadCounter as counter
 use Rattle.sql_rows.proofs.ReadCounters.{counters_answered, extra, front}
@@ -47,36 +47,38 @@ read_head_counters_text =
     ++ codes "UNION ALL SELECT 1, rating_group, cycle, blocks, 0 FROM counters "
     ++ codes "WHERE account = ?1 AND cycle = ?2 ORDER BY 1, 2"
 
-abbrev head_terms : List Term
+abbrev pub head_terms : List Term
 head_terms = op2 (Compare Eq Binary) (col 1 1) (col 0 0) ∷ []
 
-abbrev head_project : List Term
+abbrev pub head_project : List Term
 head_project = lit (Int (pos 0)) ∷ col 1 2 ∷ col 1 3 ∷ col 1 4 ∷ col 1 5 ∷ []
 
-abbrev counter_terms : List Term
-counter_terms =
-    op2 (Compare Eq Binary) (col 1 1) (col 0 0) ∷ op2 (Compare Eq Binary) (col 1 3) (col 0 1) ∷ []
+-- the cycle is the parameter of this place
+abbrev pub counter_terms : ℕ → List Term
+counter_terms at =
+    op2 (Compare Eq Binary) (col 1 1) (col 0 0) ∷ op2 (Compare Eq Binary) (col 1 3) (col 0 at) ∷ []
 
-abbrev counter_project : List Term
-counter_project = lit (Int (pos 1)) ∷ col 1 2 ∷ col 1 3 ∷ col 1 4 ∷ lit (Int (pos 0)) ∷ []
+abbrev pub counter_project : ℕ → List Term
+counter_project part =
+    lit (Int (pos part)) ∷ col 1 2 ∷ col 1 3 ∷ col 1 4 ∷ lit (Int (pos 0)) ∷ []
 
-abbrev names : List (List ℕ)
+abbrev pub names : List (List ℕ)
 names = codes "0" ∷ codes "barred" ∷ codes "as_of" ∷ codes "next_bucket" ∷ codes "next_charge" ∷ []
 
 -- of the two parts joined
-abbrev shown : List Term
+abbrev pub shown : List Term
 shown = col 1 1 ∷ col 1 2 ∷ col 1 3 ∷ col 1 4 ∷ col 1 5 ∷ []
 
-abbrev by : List Collation
+abbrev pub by : List Collation
 by = Binary ∷ Binary ∷ Binary ∷ Binary ∷ Binary ∷ Binary ∷ []
 
-abbrev order : List (Term × Key)
+abbrev pub order : List (Term × Key)
 order = (col 1 1, record { collation = Binary; descending = false }) ∷
     (col 1 2, record { collation = Binary; descending = false }) ∷ []
 
 text_is : (command_of (understood book_schema read_head_counters_text)
     ≡ Select (union_of 6 (part_from 2 head_terms head_project)
-    (part_from 6 counter_terms counter_project) by shown order) names) ×
+    (part_from 6 (counter_terms 1) (counter_project 1)) by shown order) names) ×
     (reads_listing book_schema read_head_counters_text ≡ false)
 unfolding understood everything
 text_is = (refl, refl)
@@ -87,62 +89,41 @@ read_head_counters_plain = (refl, refl)
 
 -- ---- the parts apart
 
-abbrev head_columns : Row → Row
+abbrev pub head_columns : Row → Row
 head_columns r = nat 0 ∷ account.columns r
 
-abbrev counter_columns : Row → Row
-counter_columns r = nat 1 ∷ (counter.columns r ++ nat 0 ∷ [])
+abbrev pub counter_columns : ℕ → Row → Row
+counter_columns part r = nat part ∷ (counter.columns r ++ nat 0 ∷ [])
 
--- a row of one part is none of the other
-not_both : (v w : Row) → ◌≡◌ {A = Row} (nat 0 ∷ v) (nat 1 ∷ w) → ⊥
-not_both v w e = cc
-
-module _ (test_one test_two : Row → Bool) (ones twos out : List Row)
-    (united : AreUnited test_one test_two head_columns counter_columns ones twos out)
-    (hs : List HeadColumns) (ks : List Counter)
-    (is : map head_part hs ++ map counter_part ks ≡ out) where
-  heads : AreAnswered test_one account.columns ones (map head_cells hs)
-  heads = record {
-    from = λ v h.
-        let it = mapped_from head_cells hs v h in
-        elim (united.from (head_part it.0) (subst (λ l. Has l (head_part it.0)) is
-        (has_left (map head_part hs) (map counter_part ks) (head_part it.0)
-        (mapped_to head_part hs it.0 it.1)))) [
-          | inl x ↦ (x.0, x.1, x.2, it.2 ∙ ap (drop 1) x.3)
-          | inr x ↦ absurd (not_both _ _ x.3)
-        ];
-    to = λ r h e.
-        elim (has_either (map head_part hs) (map counter_part ks) (head_columns r)
-        (subst (λ l. Has l (head_columns r)) (sym is) (united.to_one r h e))) [
-          | inl k ↦ let it = mapped_from head_part hs (head_columns r) k in
-              subst (Has (map head_cells hs)) (sym (ap (drop 1) it.2))
-              (mapped_to head_cells hs it.0 it.1)
-          | inr k ↦ let it = mapped_from counter_part ks (head_columns r) k in
-              absurd (not_both _ _ it.2)
-        ];
+module _ (test_one test_two : Row → Bool) (ones twos out : List Row) (united
+    : AreUnited test_one test_two head_columns (counter_columns 1) ones twos out) where
+  first_part : AreNumbered 0 test_one head_columns ones out
+  first_part = record {
+    from = λ v h e. elim (united.from v h) [
+      | inl x ↦ x
+      | inr x ↦ absurd (let no : false ≡ true = sym (ap (of_part 0) x.3) ∙ e in cc)
+    ];
+    to = united.to_one;
   }
 
-  counters : AreAnswered test_two counter.columns twos (map counter_cells ks)
-  counters = record {
-    from = λ v h.
-        let it = mapped_from counter_cells ks v h in
-        elim (united.from (counter_part it.0) (subst (λ l. Has l (counter_part it.0)) is
-        (has_right (map head_part hs) (map counter_part ks) (counter_part it.0)
-        (mapped_to counter_part ks it.0 it.1)))) [
-          | inl x ↦ absurd (not_both _ _ (sym x.3))
-          | inr x ↦ (x.0, x.1, x.2, it.2 ∙ ap (λ (w : Row). take 3 (drop 1 w)) x.3)
-        ];
-    to = λ r h e.
-        elim (has_either (map head_part hs) (map counter_part ks) (counter_columns r)
-        (subst (λ l. Has l (counter_columns r)) (sym is) (united.to_two r h e))) [
-          | inl k ↦ let it = mapped_from head_part hs (counter_columns r) k in
-              absurd (not_both _ _ (sym it.2))
-          | inr k ↦ let it = mapped_from counter_part ks (counter_columns r) k in
-              subst (Has (map counter_cells ks))
-              (sym (ap (λ (w : Row). take 3 (drop 1 w)) it.2))
-              (mapped_to counter_cells ks it.0 it.1)
-        ];
+  second_part : AreNumbered 1 test_two (counter_columns 1) twos out
+  second_part = record {
+    from = λ v h e. elim (united.from v h) [
+      | inl x ↦ absurd (let no : false ≡ true = sym (ap (of_part 1) x.3) ∙ e in cc)
+      | inr x ↦ x
+    ];
+    to = united.to_two;
   }
+
+-- the counters of a part are those of its rows
+pub counters_of : (part : ℕ) → nat_eq part part ≡ true → (test : Row → Bool)
+    (stored out : List Row)
+    → AreNumbered part test (counter_columns part) stored out → (ks : List Counter)
+    → AreCountersAmong part out ks → AreAnswered test counter.columns stored (map counter_cells ks)
+counters_of part same test stored out p ks is =
+    part_answered part test counter.columns (counter_columns part) counter_cells
+    (counter_part part) (λ w. take 3 (drop 1 w)) (λ x. refl) (λ r. refl) (λ r. same) stored out p ks
+    is
 
 -- ---- what is kept once
 
@@ -167,24 +148,40 @@ module _ (a : List ℕ) where
       splits (λ x r e. refl) (λ r m l. refl) (λ x r e same. refl) (one_or_none o) answered
       ∙ only_all _
 
+  -- the head of the part of heads
+  pub head_of : (trees : Trees) → Fits book_schema trees → IsStored (trees 2) → (out : List Row)
+      (o : Option HeadColumns) → AreNumbered 0 (front a) head_columns (trees 2) out
+      → IsHeadAmong out o → o ≡ (rows_in trees a).head
+  head_of trees fits stored out o p is =
+      head_answered trees fits stored o (part_answered 0 (front a) account.columns head_columns
+      head_cells head_part (drop 1) (λ x. refl) (λ r. refl) (λ r. refl) (trees 2) out p
+      (one_or_none o) is)
+
+  -- the counters of a part
+  pub counters_in_part : (part cycle : ℕ) → nat_eq part part ≡ true → (trees : Trees)
+      → Fits book_schema trees → IsStored (trees 6) → (out : List Row) (ks : List Counter)
+      → AreNumbered part (λ r. front a r && extra a cycle r) (counter_columns part) (trees 6) out
+      → AreCountersAmong part out ks → AreCountersIn cycle (rows_in trees a) ks
+  counters_in_part part cycle same trees fits stored out ks p is =
+      counters_answered a cycle trees fits stored ks
+      (counters_of part same (λ r. front a r && extra a cycle r) (trees 6) out p ks is)
+
   pub head_counters_read : (cycle : ℕ) (old new : State) (rows : List Row) (o : Option HeadColumns)
       (ks : List Counter)
       → Answers read_head_counters_text (Text a ∷ nat cycle ∷ []) old new rows
-      → map head_part (one_or_none o) ++ map counter_part ks ≡ rows
+      → IsHeadAmong rows o × AreCountersAmong 1 rows ks
       → (o ≡ (rows_in old.now.trees a).head) × AreCountersIn cycle (rows_in old.now.trees a) ks
   head_counters_read cycle old new rows o ks got is =
       let counted : Row → Bool = λ r. front a r && extra a cycle r in
-      let united : AreUnited (front a) counted head_columns counter_columns (old.now.trees 2)
+      let united : AreUnited (front a) counted head_columns (counter_columns 1) (old.now.trees 2)
       (old.now.trees 6) rows =
-      union_told 2 6 refl refl head_terms counter_terms head_project counter_project 6 by shown
-      order (Text a ∷ nat cycle ∷ []) (front a) counted head_columns counter_columns
+      union_told 2 6 refl refl head_terms (counter_terms 1) head_project (counter_project 1) 6 by shown
+      order (Text a ∷ nat cycle ∷ []) (front a) counted head_columns (counter_columns 1)
       (λ r. and_true (front a r)) (λ r. and_last (front a r) (extra a cycle r)) (λ r. refl)
       (λ r. refl) (λ r. refl) (λ r. refl) read_head_counters_text names text_is
       read_head_counters_plain old new rows got in (
-        head_answered old.now.trees got.fits got.book.stored.1.0 o
-            (heads (front a) counted (old.now.trees 2) (old.now.trees 6) rows united
-            (one_or_none o) ks is),
-        counters_answered a cycle old.now.trees got.fits got.book.stored.1.1.1.0 ks
-            (counters (front a) counted (old.now.trees 2) (old.now.trees 6) rows united
-            (one_or_none o) ks is),
+        head_of old.now.trees got.fits got.book.stored.1.0 rows o
+            (first_part (front a) counted (old.now.trees 2) (old.now.trees 6) rows united) is.0,
+        counters_in_part 1 cycle refl old.now.trees got.fits got.book.stored.1.1.1.0 rows ks
+            (second_part (front a) counted (old.now.trees 2) (old.now.trees 6) rows united) is.1,
       )

@@ -1,6 +1,6 @@
--- What the text of `read_groups_open` answers.
-use Rattle.std.specs.Prelude.{codes, option_map, if◌then◌else◌}
-use Rattle.std.proofs.Common.{◌≡◌, inl, inr, ℕ, pos, List, [], ◌∷◌, ◌++◌, map, drop, Bool, true}
+-- Rows of open sessions' groups, as `read_open_rows` selects them.
+use Rattle.std.specs.Prelude.{option_map, if◌then◌else◌}
+use Rattle.std.proofs.Common.{◌≡◌, inl, inr, ℕ, List, [], ◌∷◌, map, drop, Bool, true}
 use Rattle.std.proofs.Common.{false, ◌&&◌, Some, None, Option, is_eq, refl, sym, ap, ap₂}
 use Rattle.std.proofs.Common.{subst, ◌∙◌}
 use Rattle.std.proofs.lemmas.Bool.{and_parts, and_from}
@@ -9,22 +9,12 @@ use Rattle.std.specs.List.{list_any}
 use Rattle.sqlite_value.specs.declared.value.Value.{Value}
 use Rattle.sqlite_value.specs.declared.value.Value.TheVariants.{Null, Int, Real, Text, Blob}
 use Rattle.sqlite_value.specs.declared.keys.Collation.TheVariants.{Binary}
-use Rattle.sqlite_value.specs.declared.keys.Key.{Key}
 use Rattle.sqlite_value.specs.Order.{Row, column, value_cmp}
 use Rattle.sqlite_trees.specs.Tree.{Trees}
 use Rattle.sqlite_sql.specs.Ops.{binary, is_null}
-use Rattle.sqlite_sql.specs.declared.ops.BinaryOp.TheVariants.{Compare}
-use Rattle.sqlite_sql.specs.declared.ops.CompareOp.TheVariants.{Eq}
-use Rattle.sqlite_sql.specs.Term.{Term, lit, col, op2}
-use Rattle.sqlite_schema.specs.declared.command.Command.TheVariants.{Select}
 use Rattle.sqlite_schema.specs.declared.schema.Constraint.TheVariants.{Datatype}
 use Rattle.sqlite_schema.specs.declared.schema.Kind.TheVariants as kind
 use Rattle.sqlite_schema.specs.Rules.{Fits, are_typed, equal, is_of}
-use Rattle.sqlite_tied.specs.Compute.{everything}
-use Rattle.sqlite.specs.Given.{IsPlain}
-use Rattle.sqlite.specs.Listing.{understood, reads_listing}
-use Rattle.sqlite.specs.State.{State}
-use Rattle.sqlite.proofs.Callers.{command_of}
 use Rattle.sqlite_rules.specs.Lists.{Has}
 use Rattle.sqlite_rules.proofs.ListLemmas.{all_has, some_from, some_has}
 use Rattle.reserving.specs.Left.{is_open_row}
@@ -32,10 +22,8 @@ use Rattle.reserving.specs.Sessions.{is_open}
 use Rattle.sql_tables.specs.Keyed.{IsStored, look}
 use Rattle.sql_tables.specs.Schema.{book_schema, key_index, session_groups, sessions}
 use Rattle.sql_tables.specs.Selects.{passing}
-use Rattle.sql_tables.specs.Statements.{Answers}
 use Rattle.sql_tables.proofs.ByKey.{answered_told}
 use Rattle.sql_tables.proofs.Columns.{equal_turned}
-use Rattle.sql_tables.proofs.Coupled.{both_told, select_both}
 use Rattle.sql_tables.proofs.Keys.{int_tie, keys_split, text_tie}
 use Rattle.sql_tables.proofs.Selected.{AreAnswered}
 use Rattle.sql_tables.proofs.Selections.{full_key, meets, stands_under, under_stands}
@@ -60,9 +48,10 @@ at_in v = record {
 -- the columns that are read as one of the list
 abbrev from_cells : Row → OpenGroupAt
 from_cells w = record {
-  session = text_in (column w 5);
-  group = nat_in (column w 0);
-  row = group_in_row (Null ∷ Null ∷ w);
+  session = text_in (column w 1);
+  group = nat_in (column w 2);
+  row = group_in_row (Null ∷ Null ∷ column w 2 ∷ column w 5 ∷ column w 6 ∷ column w 3
+      ∷ column w 4 ∷ []);
 }
 
 cells_told : (x : OpenGroupAt) → from_cells (open_group_cells x) ≡ x
@@ -72,15 +61,9 @@ cells_told x = λ i. record {
   row = group_told Null Null x.group x.row i;
 }
 
-abbrev project : List Term
-project = col 2 3 ∷ col 2 4 ∷ col 2 5 ∷ col 2 6 ∷ col 2 7 ∷ col 2 2 ∷ []
-
-abbrev names : List (List ℕ)
-names = codes "rating_group" ∷ codes "used" ∷ codes "reserved" ∷ codes "period_before"
-    ∷ codes "period_after" ∷ codes "session" ∷ []
-
-abbrev columns : Row → Row
-columns r = column r 3 ∷ column r 4 ∷ column r 5 ∷ column r 6 ∷ column r 7 ∷ column r 2 ∷ []
+abbrev pub columns : Row → Row
+columns r =
+    nat 0 ∷ column r 2 ∷ column r 3 ∷ column r 6 ∷ column r 7 ∷ column r 4 ∷ column r 5 ∷ []
 
 same_columns : (r : Row) → at_in (drop 1 r) ≡ from_cells (columns r)
 same_columns [] = refl
@@ -88,35 +71,6 @@ same_columns (v ∷ vs) = refl
 
 back : (x : OpenGroupAt) (r : Row) → open_group_cells x ≡ columns r → at_in (drop 1 r) ≡ x
 back x r is = same_columns r ∙ ap from_cells (sym is) ∙ cells_told x
-
-abbrev pub read_groups_open_text : List ℕ
-read_groups_open_text =
-    codes "SELECT rating_group, used, reserved, period_before, period_after, "
-    ++ codes "session_groups.session FROM sessions, session_groups WHERE sessions.account = ?1 "
-    ++ codes "AND state = 1 AND session_groups.account = sessions.account "
-    ++ codes "AND session_groups.session = sessions.session "
-    ++ codes "ORDER BY session_groups.session, rating_group"
-
-abbrev terms : List Term
-terms =
-    op2 (Compare Eq Binary) (col 1 1) (col 0 0)
-    ∷ op2 (Compare Eq Binary) (col 1 5) (lit (Int (pos 1)))
-    ∷ op2 (Compare Eq Binary) (col 2 1) (col 1 1)
-    ∷ op2 (Compare Eq Binary) (col 2 2) (col 1 2) ∷ []
-
-abbrev order : List (Term × Key)
-order = (col 2 2, record { collation = Binary; descending = false }) ∷
-    (col 2 3, record { collation = Binary; descending = false }) ∷ []
-
-text_is : (command_of (understood book_schema read_groups_open_text)
-    ≡ Select (record { lets = []; body = select_both 8 10 terms project order }) names) ×
-    (reads_listing book_schema read_groups_open_text ≡ false)
-unfolding understood everything
-text_is = (refl, refl)
-
-pub read_groups_open_plain : IsPlain (understood book_schema read_groups_open_text)
-unfolding understood everything
-read_groups_open_plain = (refl, refl)
 
 -- ---- values
 
@@ -206,12 +160,12 @@ module _ (a : List ℕ) (trees : Trees) (fits : Fits book_schema trees)
   abbrev front : Row → Bool
   front r = equal Binary (column r 1) (Text a)
 
-  abbrev both : Row → Row → Bool
+  abbrev pub both : Row → Row → Bool
   both t r = front t && (equal Binary (column t 5) (nat 1)
       && (equal Binary (column r 1) (column t 1)
       && (equal Binary (column r 2) (column t 2) && true)))
 
-  abbrev extra : Row → Bool
+  abbrev pub extra : Row → Bool
   extra r = list_any (λ t. both t r) (trees 8)
 
   abbrev rest : List ℕ → ℕ → Row → Bool
@@ -239,8 +193,8 @@ module _ (a : List ℕ) (trees : Trees) (fits : Fits book_schema trees)
   wanted : (s : List ℕ) (g : ℕ) (x : OpenGroupAt) (r : Row) → open_group_cells x ≡ columns r →
       rest s g r ≡ is_group_of s g x
   wanted s g x r is =
-      ap (λ (w : Row). is_eq (value_cmp (Text s) (column w 5))
-      && is_eq (value_cmp (nat g) (column w 0))) (sym is)
+      ap (λ (w : Row). is_eq (value_cmp (Text s) (column w 1))
+      && is_eq (value_cmp (nat g) (column w 2))) (sym is)
       ∙ ap₂ ◌&&◌ (text_tie x.session s) (int_tie x.group g)
 
   account_of : (t : Row) → front t ≡ true → column t 1 ≡ Text a
@@ -320,7 +274,7 @@ module _ (a : List ℕ) (trees : Trees) (fits : Fits book_schema trees)
   told x r e is =
       let it = passed r e in
       let t : Row = it.0 in
-      let name : column r 2 ≡ Text x.session = ap (λ (w : Row). column w 5) (sym is) in
+      let name : column r 2 ≡ Text x.session = ap (λ (w : Row). column w 1) (sym is) in
       let same : column t 2 ≡ Text x.session = equal_text x.session (column t 2)
       (subst (λ w. equal Binary w (column t 2) ≡ true) name it.1.session) in
       let tie : is_eq (value_cmp (Text x.session) (column t 2)) ≡ true =
@@ -359,31 +313,24 @@ module _ (a : List ℕ) (trees : Trees) (fits : Fits book_schema trees)
       at true = refl
       at false = refl
 
-pub open_groups_read : (a : List ℕ) (old new : State) (rows : List Row) (xs : List OpenGroupAt)
-    → Answers read_groups_open_text (Text a ∷ []) old new rows
-    → map open_group_cells xs ≡ rows → AreOpenGroups (rows_in old.now.trees a) xs
-open_groups_read a old new rows xs got is s g =
-    let trees : Trees = old.now.trees in
-    let fits : Fits book_schema trees = got.fits in
-    let stored : IsStored (trees 8) = got.book.stored.1.1.1.1.0 in
-    let answered : AreAnswered (extra a trees fits stored) columns (trees 10) rows =
-    both_told read_groups_open_text names 8 10 terms project order text_is
-    read_groups_open_plain (Text a ∷ []) (both a trees fits stored) columns (λ t r. refl)
-    (λ t r. refl) old new rows got in
+-- a list of those rows
+pub open_groups_answered : (a : List ℕ) (trees : Trees) (fits : Fits book_schema trees)
+    (stored : IsStored (trees 8)) → IsStored (trees 10) → (xs : List OpenGroupAt)
+    → AreAnswered (extra a trees fits stored) columns (trees 10) (map open_group_cells xs)
+    → AreOpenGroups (rows_in trees a) xs
+open_groups_answered a trees fits stored own xs answered s g =
     ap (option_map (λ (x : OpenGroupAt). x.row))
     (answered_told session_groups (inr (inr (inr (inr (inr (inl refl))))))
-    (inr (inr (inr (inr (inr (inl refl)))))) refl trees fits
-    (got.book.stored.1.1.1.1.1.0) at_in open_group_cells columns (extra a trees fits stored)
-    (group_key a s g) (refl, (refl, (refl, tt))) (λ x r m. back x r) (is_group_of s g)
-    (live a trees fits stored) (front a trees fits stored) (rest a trees fits stored s g)
-    (extra a trees fits stored) (tests a trees fits stored) (splits a trees fits stored s g)
-    (wanted a trees fits stored s g) (lives a trees fits stored s g) (told a trees fits stored)
-    xs (subst (AreAnswered (extra a trees fits stored) columns (trees 10)) (sym is) answered))
+    (inr (inr (inr (inr (inr (inl refl)))))) refl trees fits own at_in open_group_cells columns
+    (extra a trees fits stored) (group_key a s g) (refl, (refl, (refl, tt)))
+    (λ x r m. back x r) (is_group_of s g) (live a trees fits stored) (front a trees fits stored)
+    (rest a trees fits stored s g) (extra a trees fits stored) (tests a trees fits stored)
+    (splits a trees fits stored s g) (wanted a trees fits stored s g)
+    (lives a trees fits stored s g) (told a trees fits stored) xs answered)
     ∙ closing a trees fits stored s g (look session_groups trees (group_key a s g))
     (λ v e.
     let stands = under_stands book_schema session_groups
     (inr (inr (inr (inr (inr (inl refl)))))) (key_index session_groups)
-    (inr (inr (inr (inr (inr (inl refl)))))) refl refl refl trees fits
-    (got.book.stored.1.1.1.1.1.0) (group_key a s g) v e in
+    (inr (inr (inr (inr (inr (inl refl)))))) refl refl refl trees fits own (group_key a s g) v e in
     ap text_in (ap (λ w. column w 1) stands.3 ∙ session_of stands.0
     ∙ named a trees fits stored s g stands.0 stands.2))

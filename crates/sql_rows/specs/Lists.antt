@@ -3,7 +3,7 @@
 -- Source: profile.
 use Rattle.std.specs.Prelude.{◌≡◌, ℕ, ◌&&◌, ◌||◌, nat_eq, nat_lt, nat_le, ◌<◌, Bool, not, List, []}
 use Rattle.std.specs.Prelude.{◌∷◌, ◌++◌, length, Option, Some, None, option_map, is_some, false}
-use Rattle.std.specs.Prelude.{if◌then◌else◌, IsTrue}
+use Rattle.std.specs.Prelude.{if◌then◌else◌, IsTrue, filter, map}
 use Rattle.std.specs.Ordering.{nat_cmp, is_lt, ordering_then}
 use Rattle.std.specs.Cmp.Lexicographic.{slice_cmp}
 use Rattle.std.specs.List.{find}
@@ -11,8 +11,9 @@ use Rattle.units.specs.Words.{GroupId, CycleNumber, BookNumber}
 use Rattle.identifiers.specs.Words.{SessionName, AccountName}
 use Rattle.buckets.specs.Words.{BucketNumber}
 use Rattle.ledger.specs.Words.{ChargeNumber}
-use Rattle.sqlite_value.specs.declared.value.Value.TheVariants.{Text}
-use Rattle.sqlite_value.specs.Order.{Row as Values}
+use Rattle.sqlite_value.specs.declared.value.Value.TheVariants.{Null, Text}
+use Rattle.sqlite.specs.Values.{or_null}
+use Rattle.sqlite_value.specs.Order.{Row as Values, column}
 use Rattle.buckets.specs.Row.{BucketRow}
 use Rattle.reserving.specs.declared.session.Session.{Session}
 use Rattle.reserving.specs.declared.session.Counter.{Counter}
@@ -20,9 +21,9 @@ use Rattle.ledger.specs.declared.charge.ChargeRow.{ChargeRow}
 use Rattle.reserving.specs.Left.{is_open_row}
 use Rattle.reserving.specs.Rows.{AreApart}
 use Rattle.sql_tables.specs.Keyed.{same_name}
-use Rattle.sql_tables.specs.Selects.{passing}
+use Rattle.sql_tables.specs.Selects.{one_or_none, passing}
 use Rattle.sql_rows.specs.Values.{BookRow, Group, book_values, flag_number}
-use Rattle.sql_rows.specs.Values.{counter_cells, group_cells, head_cells, nat}
+use Rattle.sql_rows.specs.Values.{counter_cells, group_cells, head_cells, nat, nat_in}
 use Rattle.sql_rows.specs.Content.{TablesContent, TableRows}
 use Rattle.sql_rows.specs.declared.covered_rows.CoveredColumns.{CoveredColumns}
 use Rattle.sql_rows.specs.declared.grant_book_rows.GrantBook.{GrantBook}
@@ -96,9 +97,13 @@ pub record OpenGroupAt : Type 0 where
   pub group : ℕ
   pub row : Group
 
--- the columns after the session's, and then the session
+-- as the first part of a selection gives it: the part's number, the session, the rating group, the
+-- names of the periods, and the other columns
 abbrev pub open_group_cells : OpenGroupAt → Values
-open_group_cells x = group_cells x.group x.row ++ Text x.session ∷ []
+open_group_cells x =
+    nat 0 ∷ Text x.session ∷ nat x.group ∷ or_null (λ p. Text p.before) x.row.periods
+    ∷ or_null (λ p. Text p.after) x.row.periods ∷ nat x.row.used
+    ∷ nat (flag_number (is_some x.row.periods)) ∷ []
 
 -- by the session, and within one by the rating group
 abbrev pub open_group_before : OpenGroupAt → OpenGroupAt → Bool
@@ -144,10 +149,10 @@ pub record SessionHoldAt : Type 0 where
   pub bucket : ℕ
   pub amount : ℕ
 
--- the columns after the session's, and then the session
+-- as the second part gives it, with NULL for the columns that a hold has none for
 abbrev pub session_hold_cells : SessionHoldAt → Values
 session_hold_cells h =
-    nat h.group ∷ nat h.bucket ∷ nat h.amount ∷ Text h.session ∷ []
+    nat 1 ∷ Text h.session ∷ nat h.group ∷ nat h.bucket ∷ nat h.amount ∷ Null ∷ Null ∷ []
 
 -- by the session, within one by the rating group, and within that by the bucket
 abbrev pub session_hold_before : SessionHoldAt → SessionHoldAt → Bool
@@ -169,8 +174,10 @@ pub record SessionBookAt : Type 0 where
   pub group : ℕ
   pub book : ℕ
 
+-- as the third part gives it
 abbrev pub session_book_cells : SessionBookAt → Values
-session_book_cells x = nat x.group ∷ nat x.book ∷ Text x.session ∷ []
+session_book_cells x =
+    nat 2 ∷ Text x.session ∷ nat x.group ∷ nat x.book ∷ Null ∷ Null ∷ Null ∷ []
 
 abbrev pub session_book_before : SessionBookAt → SessionBookAt → Bool
 session_book_before x y =
@@ -271,10 +278,20 @@ AreCountersIn cycle rows xs = (g : GroupId) (c : CycleNumber) →
     find (λ x. nat_eq x.group g && nat_eq x.cycle c) xs
     ≡ (if nat_eq c cycle then rows.counters g c else None)
 
--- the columns of an account's own row, and of its counters' rows behind it, as one selection gives
--- them
+-- the columns of an account's own row, and of its counters' rows, as one selection of parts gives
+-- them: behind the number of the part
 abbrev pub head_part : HeadColumns → Values
 head_part h = nat 0 ∷ head_cells h
 
-abbrev pub counter_part : Counter → Values
-counter_part k = nat 1 ∷ (counter_cells k ++ nat 0 ∷ [])
+abbrev pub counter_part : ℕ → Counter → Values
+counter_part part k = nat part ∷ (counter_cells k ++ nat 0 ∷ [])
+
+abbrev pub of_part : ℕ → Values → Bool
+of_part part r = nat_eq (nat_in (column r 0)) part
+
+-- the account's own row among those of all parts, and its counters of a part
+abbrev pub IsHeadAmong : List Values → Option HeadColumns → Type 0
+IsHeadAmong rows head = map head_part (one_or_none head) ≡ filter (of_part 0) rows
+
+abbrev pub AreCountersAmong : ℕ → List Values → List Counter → Type 0
+AreCountersAmong part rows xs = map (counter_part part) xs ≡ filter (of_part part) rows

@@ -1,6 +1,7 @@
 -- Rows as they are read, as those of the content.
 -- Source: profile.
-use Rattle.std.specs.Prelude.{◌≡◌, Bool, true, map, Option, is_some, option_map, Result, Vec}
+use Rattle.std.specs.Prelude.{◌≡◌, ◌++◌, Bool, true, List, map, Option, is_some, option_map}
+use Rattle.std.specs.Prelude.{Result, Vec}
 use Rattle.std.specs.Global.{Global}
 use Rattle.std.specs.String.{string_bytes}
 use Rattle.identifiers.specs.Words.{AccountName}
@@ -18,13 +19,17 @@ use Rattle.sql_rows.specs.declared.group_rows.PeriodTexts.{PeriodTexts}
 use Rattle.sql_rows.specs.declared.group_rows.PutNames.{PutNames}
 use Rattle.sql_rows.specs.declared.meta_rows.MetaColumns.{MetaColumns}
 use Rattle.sql_rows.specs.declared.open_group_rows.OpenGroup.{OpenGroup}
+use Rattle.sql_rows.specs.declared.open_rows.OpenRows.{OpenRows}
 use Rattle.sql_rows.specs.declared.reserved_rows.ReservedColumns.{ReservedColumns}
 use Rattle.sql_rows.specs.declared.session_book_rows.SessionBook.{SessionBook}
 use Rattle.sql_rows.specs.declared.session_hold_rows.SessionHold.{SessionHold}
 use Rattle.sql_tables.specs.Statements.{Reads, ReadsWithin}
-use Rattle.sql_rows.specs.Content.{rows_in}
-use Rattle.sql_rows.specs.Lists.{AreBuckets, BookAt, GroupAt, OpenGroupAt, ReservedAt}
-use Rattle.sql_rows.specs.Lists.{SessionBookAt, SessionHoldAt}
+use Rattle.sql_rows.specs.Content.{TableRows, rows_in}
+use Rattle.sql_rows.specs.Lists.{AreAllGrantBooks, AreAllHolds, AreBuckets, AreOpenGroups, Ascends}
+use Rattle.sql_rows.specs.Lists.{BookAt, GroupAt, OpenGroupAt, ReservedAt, SessionBookAt}
+use Rattle.sql_rows.specs.Lists.{SessionHoldAt, open_group_before, open_group_cells}
+use Rattle.sql_rows.specs.Lists.{session_book_before, session_book_cells, session_hold_before}
+use Rattle.sql_rows.specs.Lists.{session_hold_cells}
 use Rattle.sql_rows.specs.Values.{Kept, Meta, PeriodNames}
 
 abbrev pub kept_of : KeptTexts → Kept
@@ -79,6 +84,26 @@ session_book_at x = record {
   group = x.columns.group;
   book = x.columns.book;
 }
+
+-- all that open sessions have of rating groups, with all that is held for sessions of the account,
+-- and the books of all their reservations
+pub record AreOpenRows (rows : TableRows) (x : OpenRows) : Type 0 where
+  pub groups : AreOpenGroups rows (map open_group_at x.groups.items)
+  pub holds : AreAllHolds rows (map session_hold_at x.holds.items)
+  pub books : AreAllGrantBooks rows (map session_book_at x.books.items)
+
+-- each of the three lists is in the order of its keys
+pub record DoOpenRowsRise (x : OpenRows) : Type 0 where
+  pub groups : Ascends open_group_before (map open_group_at x.groups.items)
+  pub holds : Ascends session_hold_before (map session_hold_at x.holds.items)
+  pub books : Ascends session_book_before (map session_book_at x.books.items)
+
+-- the rows of the three parts, one after another
+abbrev pub open_cells : OpenRows → List Values
+open_cells x =
+    map open_group_cells (map open_group_at x.groups.items)
+    ++ map session_hold_cells (map session_hold_at x.holds.items)
+    ++ map session_book_cells (map session_book_at x.books.items)
 
 abbrev pub book_at : BookColumns → BookAt
 book_at b = record {

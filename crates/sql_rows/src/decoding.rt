@@ -94,3 +94,14 @@ pub(crate) fn state_at(row: &Row, at: usize) -> Result<SessionState, ReadFault>
         _ => Err(ReadFault::Rules),
     }
 }
+
+/// Tests that a row of a selection of several parts is of the part of this number.
+pub(crate) fn is_of_part(row: &Row, part: u64) -> Result<(), ReadFault>
+    ensures { IfOk result (λ _. column row.now 0 ≡ nat part) }
+{
+    if number_at(row, 0)? == part {
+        Ok(())
+    } else {
+        Err(ReadFault::Rules)
+    }
+}

@@ -1,20 +1,15 @@
-//! The books of the reservations of an account, found by one selection.
+//! The books of the reservations of an account: rows of a part of a selection.
 
 ghost use Rattle.std.specs.Prelude.{◌≡◌, map, IfOk};
-ghost use Rattle.sql_rows.specs.Content.{rows_in};
-ghost use Rattle.sql_rows.specs.Lists.{AreAllGrantBooks, Ascends, session_book_before};
-ghost use Rattle.sql_rows.specs.Lists.{session_book_cells};
+ghost use Rattle.sql_rows.specs.Lists.{Ascends, session_book_before, session_book_cells};
 ghost use Rattle.sql_rows.specs.Texts.{session_book_at};
-ghost use Rattle.sql_tables.specs.Statements.{HasBook, HasIdleBook, HasRules, Reads};
-ghost use Rattle.sql_tables.specs.Statements.{ReadsWithin};
-ghost use Rattle.sqlite.specs.Held.{state};
 
 use crate::ascending::{InOrder, do_ascend};
-use crate::decoding::session_at;
+use crate::decoding::{is_of_part, session_at};
 use crate::grant_book_rows::GrantBook;
-use identifiers::{AccountNumber, SessionId};
-use sql_tables::{ReadFault, has_columns, read, read_within, small_at, text};
-use sqlite::{Alter, Connection, Row, Transaction};
+use identifiers::SessionId;
+use sql_tables::{ReadFault, has_columns, null_at, small_at};
+use sqlite::Row;
 use std::alloc::Global;
 
 /// The book of a session's reservation.
@@ -46,59 +41,9 @@ impl InOrder for SessionBook {
     }
 }
 
-/// The books of all reservations of an account, in the order of the sessions and of each one's
-/// rating groups, each once: one selection for all of them.
-///
-/// # Errors
-/// `Store` where the store failed, `Rules` where a row is out of its rules or the keys don't rise,
-/// `Memory` where a growth was refused. Nothing is changed then either.
-pub fn read_grant_books_all<S: Alter>(
-    conn: &mut Connection<S>,
-    alloc: Global,
-    account: &AccountNumber,
-) -> Result<Vec<SessionBook>, ReadFault>
-    requires idle { HasIdleBook (state S.Store conn.old) }
-    ensures reads { Reads (λ trees xs.
-        AreAllGrantBooks (rows_in trees account.now) (map session_book_at xs.items))
-        (state S.Store conn.old) (state S.Store conn.new) result }
-    ensures order { IfOk result (λ xs. Ascends session_book_before (map session_book_at xs.items)) }
-{
-    let rows = read(
-        conn,
-        "SELECT rating_group, book, session FROM grant_books \
-         WHERE account = ?1 ORDER BY session, rating_group",
-        &[text(account.as_str())],
-    )?;
-    session_books_from(alloc, &rows)
-}
-
-/// The books of all reservations of an account, within a transaction.
-///
-/// # Errors
-/// As of `read_grant_books_all`. Then nothing is committed.
-pub fn read_grant_books_all_within<S: Alter>(
-    tx: &mut Transaction<'_, S>,
-    alloc: Global,
-    account: &AccountNumber,
-) -> Result<Vec<SessionBook>, ReadFault>
-    requires book { HasBook (state S.Store tx.old.conn.now) }
-    requires rules { HasRules (state S.Store tx.old.conn.now) }
-    ensures same_reference { tx.new.conn.ghost_name ≡ tx.old.conn.ghost_name }
-    ensures reads { ReadsWithin (λ trees xs.
-        AreAllGrantBooks (rows_in trees account.now) (map session_book_at xs.items))
-        (state S.Store tx.old.conn.now) (state S.Store tx.new.conn.now) result }
-    ensures order { IfOk result (λ xs. Ascends session_book_before (map session_book_at xs.items)) }
-{
-    let rows = read_within(
-        tx,
-        "SELECT rating_group, book, session \
-         FROM grant_books WHERE account = ?1 ORDER BY session, rating_group",
-        &[text(account.as_str())],
-    )?;
-    session_books_from(alloc, &rows)
-}
-
-fn session_books_from(alloc: Global, rows: &[Row]) -> Result<Vec<SessionBook>, ReadFault>
+/// Of the rows of the part of the books, in the order of the sessions and of each one's rating
+/// groups.
+pub(crate) fn session_books_from(alloc: Global, rows: &[Row]) -> Result<Vec<SessionBook>, ReadFault>
     ensures cells { IfOk result
         (λ xs. map session_book_cells (map session_book_at xs.items) ≡ rows.now) }
     ensures order { IfOk result (λ xs. Ascends session_book_before (map session_book_at xs.items)) }
@@ -119,10 +64,14 @@ fn session_books_from(alloc: Global, rows: &[Row]) -> Result<Vec<SessionBook>, R
 fn session_book_from(alloc: Global, row: &Row) -> Result<SessionBook, ReadFault>
     ensures { IfOk result (λ x. row.now ≡ session_book_cells (session_book_at x)) }
 {
-    has_columns(row, 3)?;
-    let group = small_at(row, 0)?;
-    let book = small_at(row, 1)?;
-    let session = session_at(alloc, row, 2)?;
+    has_columns(row, 7)?;
+    is_of_part(row, 2)?;
+    let session = session_at(alloc, row, 1)?;
+    let group = small_at(row, 2)?;
+    let book = small_at(row, 3)?;
+    null_at(row, 4)?;
+    null_at(row, 5)?;
+    null_at(row, 6)?;
     Ok(SessionBook {
         session,
         columns: GrantBook { group, book },

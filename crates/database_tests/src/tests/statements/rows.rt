@@ -13,9 +13,9 @@ use identifiers::AccountNumber;
 use ledger::ChargeRow;
 use reserving::{Counter, Session};
 use sql_rows::{
-    add_sessions, put_bucket, put_buckets, put_charge, put_charges, put_counter, put_counters,
-    put_session, read_buckets_all, read_buckets_dead, read_buckets_live, read_charges_within,
-    read_counter, read_counters_in, read_session, read_sessions_open,
+    CycleNumbers, add_sessions, put_bucket, put_buckets, put_charge, put_charges, put_counter,
+    put_counters, put_session, read_buckets_all, read_buckets_dead, read_buckets_live,
+    read_charges_within, read_counter, read_head_cycles, read_session, read_sessions_open,
 };
 use sqlite::{Alter, Connection};
 use std::alloc::Global;
@@ -149,12 +149,16 @@ fn tell_counters<S: Alter>(
         text,
         read_counter(conn, account, 10, 4).expect(rt, "a reading"),
     );
+    let cycles = CycleNumbers {
+        never: 3,
+        day: 5,
+        month: 5,
+    };
+    let read = read_head_cycles(conn, alloc, account, cycles).expect(rt, "a reading");
     push(rt, text, "of cycle 3\n");
-    let third = read_counters_in(conn, alloc, account, 3).expect(rt, "a reading");
-    push_counters(rt, text, &third);
+    push_counters(rt, text, &read.never);
     push(rt, text, "of cycle 5\n");
-    let fifth = read_counters_in(conn, alloc, account, 5).expect(rt, "a reading");
-    push_counters(rt, text, &fifth);
+    push_counters(rt, text, &read.daily);
 }
 
 fn tell_session<S: Alter>(

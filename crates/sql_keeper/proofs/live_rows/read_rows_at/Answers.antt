@@ -18,16 +18,13 @@ returns-in_default g c =
 
 pub returns : goal.returns
 returns g c =
-    made_of _ _ (state g.S.Store c.args.conn.now) (state g.S.Store c.read_counters_at.new.conn) _
+    made_of _ _ (state g.S.Store c.args.conn.now) (state g.S.Store c.live_rows_of.new.conn) _
     (tell_both _ _ (state g.S.Store c.args.conn.now) (state g.S.Store c.read_first.new.conn)
-    (state g.S.Store c.read_counters_at.new.conn)
+    (state g.S.Store c.live_rows_of.new.conn)
     (several_tell _ _ _ c.in_ok-head.field-0 c.in_ok-head.ensures)
-    (tell_both _ _ (state g.S.Store c.read_first.new.conn)
-    (state g.S.Store c.live_rows_of.new.conn) (state g.S.Store c.read_counters_at.new.conn)
-    (several_tell _ _ _ c.in_ok-rows.rows c.in_ok-rows.ensures)
-    (several_tell _ _ _ c.in_ok-counters.counters c.in_ok-counters.ensures)))
+    (several_tell _ _ _ c.in_ok-rows.rows c.in_ok-rows.ensures))
     (λ trees told. (
       sym told.0.head_is ∙ c.in-Some.is,
-      told.1.0,
-      told.1.1 c.args.shelf.now c.book_at-book.ensures.value told.0.never_are,
+      told.1,
+      told.0.counters_are c.args.shelf.now c.book_at-book.ensures.value,
     ))

@@ -3,5 +3,16 @@ use Rattle.sql_tables.proofs.Columns.{row_is}
 use Rattle.sql_rows.proofs.session_book_rows.session_book_from.Goals as goal
 
 pub returns : goal.returns
-returns c = row_is c.args.row.now _ (omega (arith, c.has_columns.ensures))
-    (c.in_ok-group.ensures, (c.in_ok-book.ensures, (c.in_ok-session.ensures, tt)))
+returns c = row_is c.args.row.now _ (omega (arith, c.has_columns.ensures)) (
+  c.in_ok-is_of_part.ensures,
+  (
+    c.in_ok-session.ensures,
+    (
+      c.in_ok-group.ensures,
+      (
+        c.in_ok-book.ensures,
+        (c.in_ok-null_at.ensures, (c.in_ok-null_at-2.ensures, (c.in_ok-null_at-3.ensures, tt))),
+      ),
+    ),
+  ),
+)
