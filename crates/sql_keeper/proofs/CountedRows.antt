@@ -3,17 +3,16 @@ use Rattle.std.proofs.Common.{◌≡◌, ◌<◌, ℕ, Bool, true, false, cond, 
 use Rattle.std.proofs.Common.{Option, Some, None, Result, Ok, Err, IfOk, refl, sym, ap, ◌∙◌, subst}
 use Rattle.std.specs.Prelude.{if◌then◌else◌, ◌&&◌, ◌||◌, nat_eq, option_map, is_some}
 use Rattle.std.specs.List.{find, list_any}
-use Rattle.std.proofs.Common.{◌+◌, length, get_or, take}
+use Rattle.std.proofs.Common.{◌+◌, length, get_or, take, drop}
 use Rattle.std.proofs.lemmas.List.{map_more}
 use Rattle.buckets.specs.Row.{BucketRow}
 use Rattle.buckets.specs.declared.bucket.columns.Columns.{Columns}
-use Rattle.ledger.specs.Lists.{EachIn}
 use Rattle.reserving.specs.Left.{is_dead, only, bucket_in}
 use Rattle.sql_tables.specs.Selects.{passing}
 use Rattle.sql_rows.specs.Content.{TableRows}
 use Rattle.sql_rows.specs.Lists.{AreAllowances, AreBuckets, BucketsRise, is_live_bucket}
 use Rattle.sql_rows.specs.Lists as lists
-use Rattle.sql_rows.specs.Texts.{AreLive, bucket_row}
+use Rattle.sql_rows.specs.Texts.{AreLive, bucket_row, columns_of}
 use Rattle.sql_rows.specs.declared.live_bucket_rows.LiveBucket.{LiveBucket}
 use Rattle.sql_keeper.specs.Content as content
 use Rattle.sql_keeper.specs.Content.{told_buckets}
@@ -76,29 +75,27 @@ live_is k b = sym (twice (is_live_bucket b)) ∙ ap not (spent_is_dead b)
     twice false = refl
 
 -- as is read with each
-by_flags : (rows : TableRows) (xs : List LiveBucket)
-    → EachIn (λ x. x.counts_blocks ≡ rows.allowances x.columns.number) xs
-    → map counted_live xs ≡ map (counted_row rows) (map (λ x. bucket_row x.columns) xs)
-by_flags rows [] counts = refl
-by_flags rows (x ∷ xs) counts = λ i.
-    content.bucket_in (counts.0 i) (bucket_row x.columns) ∷ by_flags rows xs counts.1 i
+by_kinds : (rows : TableRows) (xs : List LiveBucket)
+    → map (λ x. x.counts_blocks) xs ≡ map (λ x. rows.allowances x.number) (columns_of xs)
+    → map counted_live xs ≡ map (counted_row rows) (map bucket_row (columns_of xs))
+by_kinds rows [] kinds = refl
+by_kinds rows (x ∷ xs) kinds = λ i.
+    content.bucket_in (get_or (kinds i) 0 false) (bucket_row x.columns)
+    ∷ by_kinds rows xs (ap (drop 1) kinds) i
 
-live_told : (rows : TableRows) (xs : List LiveBucket)
-    → AreBuckets is_live_bucket rows (map (λ x. bucket_row x.columns) xs)
-    → EachIn (λ x. x.counts_blocks ≡ rows.allowances x.columns.number) xs
+live_told : (rows : TableRows) (xs : List LiveBucket) → AreLive rows xs
     → AreLiveBuckets rows (map counted_live xs)
-live_told rows xs found counts n =
-    ap (bucket_in n) (by_flags rows xs counts)
+live_told rows xs live n =
+    ap (bucket_in n) (by_kinds rows xs live.kinds)
     ∙ counted_told is_live_bucket (λ b. not (is_dead b)) live_is rows
-    (map (λ x. bucket_row x.columns) xs) found n
+    (map bucket_row (columns_of xs)) live.buckets n
 
 -- as a purse
 pub purse_told : {E : Type 0} (rows : TableRows) (xs ys : List LiveBucket)
     (r : Result (List BucketRow) E) → AreLive rows xs → ys ≡ xs
     → IfOk r (λ purse. purse ≡ map counted_live ys) → IfOk r (AreLiveBuckets rows)
 purse_told rows xs ys (Ok purse) live same is =
-    subst (AreLiveBuckets rows) (sym (is ∙ ap (map counted_live) same))
-    (live_told rows xs live.found live.counts)
+    subst (AreLiveBuckets rows) (sym (is ∙ ap (map counted_live) same)) (live_told rows xs live)
 purse_told rows xs ys (Err e) live same is = tt
 
 -- ---- dead ones
