@@ -89,8 +89,8 @@ pub(crate) fn put_counted<S: Alter>(
     Ok(())
 }
 
-/// The bucket of each row, in turn, with what it counts. Of a bucket of no one rating group it isn't
-/// asked whether it counts blocks: it counts money.
+/// The bucket of each row, in turn, with what it counts. One of no one rating group counts money,
+/// whatever is beside it.
 ///
 /// # Errors
 /// `Rules` where a row is out of its rules, `Memory` where a growth was refused.
