@@ -1,7 +1,7 @@
 -- Buckets that are made of rows with what each counts.
 use Rattle.std.proofs.Common.{◌≡◌, ◌<◌, ℕ, Bool, true, false, cond, not, List, [], ◌∷◌, ◌++◌, map}
 use Rattle.std.proofs.Common.{Option, Some, None, Result, Ok, Err, IfOk, refl, sym, ap, ◌∙◌, subst}
-use Rattle.std.specs.Prelude.{if◌then◌else◌, ◌&&◌, ◌||◌, nat_eq, option_map, is_some}
+use Rattle.std.specs.Prelude.{if◌then◌else◌, ◌||◌, nat_eq, option_map, is_some}
 use Rattle.std.specs.List.{find, list_any}
 use Rattle.std.proofs.Common.{◌+◌, length, get_or, take, drop}
 use Rattle.std.proofs.lemmas.List.{map_more}
