@@ -244,7 +244,8 @@ fn bucket_from(row: &Row) -> Result<BucketColumns, ReadFault>
     ensures { IfOk result (λ b. row.now ≡ bucket_cells (bucket_row b)) }
 {
     has_columns(row, 9)?;
-    columns_from(row)
+    let columns = columns_from(row)?;
+    Ok(columns)
 }
 
 /// The columns of a bucket, with which a row begins.

@@ -88,12 +88,12 @@ pub fn read_buckets_live<S: Alter>(
         "SELECT number, starts, ends, scope, credited, available, reserved, charged, expired, \
          EXISTS (SELECT 1 FROM allowance_buckets \
          WHERE allowance_buckets.account = buckets.account \
-         AND allowance_buckets.number = buckets.number) \
+         AND allowance_buckets.number = buckets.number) AS counts_blocks \
          FROM buckets WHERE account = ?1 AND available >= 1 UNION ALL \
          SELECT number, starts, ends, scope, credited, available, reserved, charged, expired, \
          EXISTS (SELECT 1 FROM allowance_buckets \
          WHERE allowance_buckets.account = buckets.account \
-         AND allowance_buckets.number = buckets.number) \
+         AND allowance_buckets.number = buckets.number) AS counts_blocks \
          FROM buckets WHERE account = ?1 AND available = 0 AND reserved >= 1 \
          ORDER BY ends, number",
         &[text(account.as_str())],
@@ -121,12 +121,12 @@ pub fn read_buckets_live_within<S: Alter>(
         tx,
         "SELECT number, starts, ends, scope, credited, available, reserved, charged, expired, \
          EXISTS (SELECT 1 FROM allowance_buckets WHERE allowance_buckets.account = \
-         buckets.account AND allowance_buckets.number = buckets.number) FROM buckets \
-         WHERE account = ?1 AND available >= 1 UNION ALL SELECT number, starts, ends, scope, \
-         credited, available, reserved, charged, expired, EXISTS (SELECT 1 FROM \
+         buckets.account AND allowance_buckets.number = buckets.number) AS counts_blocks \
+         FROM buckets WHERE account = ?1 AND available >= 1 UNION ALL SELECT number, starts, \
+         ends, scope, credited, available, reserved, charged, expired, EXISTS (SELECT 1 FROM \
          allowance_buckets WHERE allowance_buckets.account = buckets.account AND \
-         allowance_buckets.number = buckets.number) FROM buckets WHERE account = ?1 AND \
-         available = 0 AND reserved >= 1 ORDER BY ends, number",
+         allowance_buckets.number = buckets.number) AS counts_blocks FROM buckets WHERE \
+         account = ?1 AND available = 0 AND reserved >= 1 ORDER BY ends, number",
         &[text(account.as_str())],
     )?;
     live_from(alloc, &rows)
