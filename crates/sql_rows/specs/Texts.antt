@@ -23,7 +23,7 @@ use Rattle.sql_rows.specs.declared.open_group_rows.OpenGroup.{OpenGroup}
 use Rattle.sql_rows.specs.declared.reserved_rows.ReservedColumns.{ReservedColumns}
 use Rattle.sql_rows.specs.declared.session_book_rows.SessionBook.{SessionBook}
 use Rattle.sql_rows.specs.declared.session_hold_rows.SessionHold.{SessionHold}
-use Rattle.sql_tables.specs.Statements.{Reads, ReadsWithin}
+use Rattle.sql_tables.specs.Statements.{Reads}
 use Rattle.sql_rows.specs.Content.{TableRows, rows_in}
 use Rattle.sql_rows.specs.Lists.{AreBuckets, BookAt, GroupAt, OpenGroupAt, ReservedAt}
 use Rattle.sql_rows.specs.Lists.{SessionBookAt, SessionHoldAt, is_live_bucket}

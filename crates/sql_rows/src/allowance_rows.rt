@@ -1,19 +1,17 @@
 //! Rows that say which buckets count blocks.
 
-ghost use Rattle.std.specs.Prelude.{◌≡◌, ℕ, Option, map, nat_lt, is_some, IfOk};
+ghost use Rattle.std.specs.Prelude.{◌≡◌, map, nat_lt, IfOk};
 ghost use Rattle.sql_rows.specs.Content.{rows_in, with_allowance, with_rows, without_allowance};
 ghost use Rattle.sql_rows.specs.Lists.{AreAllowances, Ascends};
 ghost use Rattle.sql_rows.specs.Values.{number_cells};
 ghost use Rattle.sql_rows.specs.Makes.{Makes};
-ghost use Rattle.sql_tables.specs.Statements.{HasBook, HasIdleBook, HasRules, Reads};
-ghost use Rattle.sql_tables.specs.Statements.{ReadsWithin, AttemptsOver};
-ghost use Rattle.sql_tables.specs.Selects.{one_or_none};
+ghost use Rattle.sql_tables.specs.Statements.{AttemptsOver, HasBook, HasIdleBook, Reads};
 ghost use Rattle.sqlite.specs.Held.{state};
 
 use crate::ascending::{InOrder, do_ascend};
 use crate::running::run;
 use identifiers::AccountNumber;
-use sql_tables::{ReadFault, has_columns, one_of, read, read_within, small_at, text, whole};
+use sql_tables::{ReadFault, has_columns, read, small_at, text, whole};
 use sqlite::{Alter, Connection, Error, Row, Transaction};
 use std::alloc::Global;
 
