@@ -65,7 +65,6 @@ pub mod Tidy
 pub mod TidyChanges
 pub mod TidySweeps
 pub mod Told
-pub mod ToldWithin
 pub mod Transacted
 pub mod Whole
 pub mod Writable

@@ -35,5 +35,4 @@ pub mod Sweeps
 pub mod Calls
 pub mod Tests
 pub mod Tidy
-pub mod Within
 pub mod Writes

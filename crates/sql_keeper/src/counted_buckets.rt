@@ -1,20 +1,19 @@
 //! Buckets with what they count: money, or blocks where a row of their own says so.
 
-ghost use Rattle.std.specs.Prelude.{◌≡◌};
-ghost use Rattle.sql_rows.specs.Content.{rows_in, with_rows};
+ghost use Rattle.std.specs.Prelude.{◌≡◌, map, IfOk};
+ghost use Rattle.sql_rows.specs.Content.{with_rows};
 ghost use Rattle.sql_rows.specs.Makes.{Makes, MakesIfOpen};
-ghost use Rattle.sql_tables.specs.Statements.{Attempts, HasBook, HasIdleBook, IsInside};
-ghost use Rattle.sql_keeper.specs.LiveGroups.{Gathers};
-ghost use Rattle.sql_keeper.specs.Kinds.{IsScoped, counted_row, counted_rows};
+ghost use Rattle.sql_tables.specs.Statements.{Attempts, HasBook, IsInside};
+ghost use Rattle.sql_keeper.specs.Kinds.{counted_live};
 ghost use Rattle.sql_keeper.specs.Writes.{with_all_counted, with_counted, with_kind, with_scoped};
 ghost use Rattle.sqlite.specs.Held.{state};
 
 use crate::rebuilding::bucket_of;
 use buckets::{Bucket, BucketKind};
 use identifiers::AccountNumber;
-use sql_rows::{BucketColumns, put_allowance, put_bucket, read_allowance, remove_allowance};
+use sql_rows::{LiveBucket, put_allowance, put_bucket, remove_allowance};
 use sql_tables::ReadFault;
-use sqlite::{Alter, Connection, Error, Transaction};
+use sqlite::{Alter, Error, Transaction};
 use std::alloc::Global;
 
 /// Puts what a bucket counts, as a row beside it.
@@ -90,58 +89,17 @@ pub(crate) fn put_counted<S: Alter>(
     Ok(())
 }
 
-/// Whether a row says that the bucket of this row is an allowance. It isn't asked where the bucket
-/// is of no one rating group.
-fn read_scoped<S: Alter>(
-    conn: &mut Connection<S>,
-    account: &AccountNumber,
-    row: &BucketColumns,
-) -> Result<bool, ReadFault>
-    requires idle { HasIdleBook (state S.Store conn.old) }
-    ensures { Gathers
-        (λ trees is. IsScoped ((rows_in trees account.now).allowances row.now.number)
-        row.now.scope is)
-        (state S.Store conn.old) (state S.Store conn.new) result }
-{
-    match row.scope {
-        None => Ok(false),
-        Some(_) => Ok(read_allowance(conn, account, row.number)?),
-    }
-}
-
-/// The bucket of a row, with what it counts, which is looked up under its key.
-fn read_bucket<S: Alter>(
-    conn: &mut Connection<S>,
-    account: &AccountNumber,
-    row: &BucketColumns,
-) -> Result<Bucket, ReadFault>
-    requires idle { HasIdleBook (state S.Store conn.old) }
-    ensures { Gathers (λ trees b. b ≡ counted_row (rows_in trees account.now) row.now)
-        (state S.Store conn.old) (state S.Store conn.new) result }
-{
-    let is_allowance = read_scoped(conn, account, row)?;
-    bucket_of(row, is_allowance)
-}
-
-/// The bucket of each row, in turn, with what it counts. No other bucket's kind is read.
+/// The bucket of each row, in turn, with what it counts. One of no one rating group counts money,
+/// whatever is beside it.
 ///
 /// # Errors
-/// `Store` where the store failed, `Rules` where a row is out of its rules, `Memory` where a growth
-/// was refused. Nothing is changed then either.
-pub(crate) fn read_counted<S: Alter>(
-    conn: &mut Connection<S>,
-    alloc: Global,
-    account: &AccountNumber,
-    rows: &[BucketColumns],
-) -> Result<Vec<Bucket>, ReadFault>
-    requires idle { HasIdleBook (state S.Store conn.old) }
-    ensures { Gathers
-        (λ trees bs. bs.items ≡ counted_rows (rows_in trees account.now) rows.now)
-        (state S.Store conn.old) (state S.Store conn.new) result }
+/// `Rules` where a row is out of its rules, `Memory` where a growth was refused.
+pub(crate) fn counted_from(alloc: Global, rows: &[LiveBucket]) -> Result<Vec<Bucket>, ReadFault>
+    ensures { IfOk result (λ bs. bs.items ≡ map counted_live rows.now) }
 {
     let mut buckets = Vec::new(alloc);
     'rows: for row in rows {
-        let bucket = read_bucket(conn, account, row)?;
+        let bucket = bucket_of(&row.columns, row.counts_blocks)?;
         buckets.push(bucket)?;
     }
     Ok(buckets)

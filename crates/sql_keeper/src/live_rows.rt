@@ -1,7 +1,8 @@
 //! What may still change of an account, read from the tables.
 
-ghost use Rattle.std.specs.Prelude.{◌≡◌, ℕ, ◌++◌, IfOk, false};
+ghost use Rattle.std.specs.Prelude.{◌≡◌, ℕ, ◌++◌, IfOk, false, map};
 ghost use Rattle.sql_keeper.specs.Content.{Names, shelf_names};
+ghost use Rattle.sql_keeper.specs.Kinds.{counted_live};
 ghost use Rattle.sql_keeper.specs.KeptRows.{AreKept, AreOf};
 ghost use Rattle.sql_keeper.specs.LiveGroups.{Gathers};
 ghost use Rattle.sql_keeper.specs.Repeating.{IsFirst, IsFirstOf, begins_again, has_cycles};
@@ -14,7 +15,7 @@ ghost use Rattle.sql_tables.specs.Statements.{HasIdleBook};
 ghost use Rattle.sqlite.specs.Held.{state};
 ghost use Rattle.shelves.specs.Shelves.{Shelf};
 
-use crate::counted_buckets::read_counted;
+use crate::counted_buckets::counted_from;
 use crate::kept_rows::{KeptRows, copy_of_kept};
 use crate::live_groups::{OpenSessions, read_open_sessions};
 use buckets::{Bucket, Purse};
@@ -23,8 +24,8 @@ use identifiers::AccountNumber;
 use reserving::{Counter, GivenRows, Session, SessionGroup, StoredAccount};
 use shelves::TariffShelf;
 use sql_rows::{
-    CycleNumbers, HeadColumns, HeadCounters, HeadCycles, read_buckets_live, read_head_counters,
-    read_head_cycles,
+    CycleNumbers, HeadColumns, HeadCounters, HeadCycles, LiveBucket, read_buckets_live,
+    read_head_counters, read_head_cycles,
 };
 use sql_tables::ReadFault;
 use sqlite::{Alter, Connection};
@@ -62,6 +63,14 @@ pub(crate) fn purse_of(alloc: Global, buckets: Vec<Bucket>) -> Result<Purse, Rea
     Purse::from_buckets(alloc, buckets).ok_or(ReadFault::Rules)
 }
 
+/// The purse of the buckets of these rows, with what each counts.
+pub(crate) fn live_purse_of(alloc: Global, rows: &[LiveBucket]) -> Result<Purse, ReadFault>
+    ensures { IfOk result (λ purse. purse ≡ map counted_live rows.now) }
+{
+    let buckets = counted_from(alloc, rows)?;
+    purse_of(alloc, buckets)
+}
+
 /// The buckets of an account that aren't dead, with what they count.
 fn read_purse<S: Alter>(
     conn: &mut Connection<S>,
@@ -73,8 +82,7 @@ fn read_purse<S: Alter>(
         (state S.Store conn.old) (state S.Store conn.new) result }
 {
     let rows = read_buckets_live(conn, alloc, account)?;
-    let buckets = read_counted(conn, alloc, account, &rows)?;
-    purse_of(alloc, buckets)
+    live_purse_of(alloc, &rows)
 }
 
 /// How often the counter of a rating group begins again: never for a group that the book doesn't

@@ -2,91 +2,26 @@
 
 ghost use Rattle.std.specs.Prelude.{◌≡◌};
 ghost use Rattle.sql_keeper.specs.Content.{shelf_names};
-ghost use Rattle.sql_keeper.specs.Kinds.{IsScoped, counted_row, counted_rows};
 ghost use Rattle.sql_keeper.specs.LiveGroups.{AreLiveGroups, AreOpenSessions};
 ghost use Rattle.sql_keeper.specs.LiveRows.{AreLiveBuckets, AreLiveRows, IsLiveUncounted};
 ghost use Rattle.sql_keeper.specs.LiveRows.{IsReadUncounted};
-ghost use Rattle.sql_keeper.specs.Within.{IsOpen};
 ghost use Rattle.sql_rows.specs.Content.{rows_in};
 ghost use Rattle.sql_tables.specs.Statements.{HasBook, HasRules, ReadsWithin};
 ghost use Rattle.sqlite.specs.Held.{state};
 
 use crate::live_groups::{OpenSessions, is_none};
-use crate::live_rows::{LiveRows, ReadRows, live_account_of, purse_of};
-use crate::rebuilding::bucket_of;
+use crate::live_rows::{LiveRows, ReadRows, live_account_of, live_purse_of};
 use crate::rebuilding_groups::groups_of;
-use buckets::{Bucket, Purse};
+use buckets::Purse;
 use identifiers::AccountNumber;
 use reserving::{SessionGroup, StoredAccount};
 use shelves::TariffShelf;
 use sql_rows::{
-    BucketColumns, read_account_within, read_allowance_within, read_buckets_live_within,
-    read_open_rows_within, read_sessions_open_within,
+    read_account_within, read_buckets_live_within, read_open_rows_within, read_sessions_open_within,
 };
 use sql_tables::ReadFault;
 use sqlite::{Alter, Transaction};
 use std::alloc::Global;
-
-/// Whether a row says that the bucket of this row is an allowance. It isn't asked where the bucket
-/// is of no one rating group.
-fn read_scoped_within<S: Alter>(
-    tx: &mut Transaction<'_, S>,
-    account: &AccountNumber,
-    row: &BucketColumns,
-) -> Result<bool, ReadFault>
-    requires open { IsOpen (state S.Store tx.old.conn.now) }
-    requires book { HasBook (state S.Store tx.old.conn.now) }
-    requires rules { HasRules (state S.Store tx.old.conn.now) }
-    ensures same_reference { tx.new.conn.ghost_name ≡ tx.old.conn.ghost_name }
-    ensures reads { ReadsWithin (λ trees is.
-        IsScoped ((rows_in trees account.now).allowances row.now.number) row.now.scope is)
-        (state S.Store tx.old.conn.now) (state S.Store tx.new.conn.now) result }
-{
-    match row.scope {
-        None => Ok(false),
-        Some(_) => read_allowance_within(tx, account, row.number),
-    }
-}
-
-/// The bucket of a row, with what it counts, which is looked up under its key.
-fn read_bucket_within<S: Alter>(
-    tx: &mut Transaction<'_, S>,
-    account: &AccountNumber,
-    row: &BucketColumns,
-) -> Result<Bucket, ReadFault>
-    requires open { IsOpen (state S.Store tx.old.conn.now) }
-    requires book { HasBook (state S.Store tx.old.conn.now) }
-    requires rules { HasRules (state S.Store tx.old.conn.now) }
-    ensures same_reference { tx.new.conn.ghost_name ≡ tx.old.conn.ghost_name }
-    ensures reads { ReadsWithin (λ trees b. b ≡ counted_row (rows_in trees account.now) row.now)
-        (state S.Store tx.old.conn.now) (state S.Store tx.new.conn.now) result }
-{
-    let is_allowance = read_scoped_within(tx, account, row)?;
-    bucket_of(row, is_allowance)
-}
-
-/// The bucket of each row, in turn, with what it counts. No other bucket's kind is read.
-fn read_counted_within<S: Alter>(
-    tx: &mut Transaction<'_, S>,
-    alloc: Global,
-    account: &AccountNumber,
-    rows: &[BucketColumns],
-) -> Result<Vec<Bucket>, ReadFault>
-    requires open { IsOpen (state S.Store tx.old.conn.now) }
-    requires book { HasBook (state S.Store tx.old.conn.now) }
-    requires rules { HasRules (state S.Store tx.old.conn.now) }
-    ensures same_reference { tx.new.conn.ghost_name ≡ tx.old.conn.ghost_name }
-    ensures reads { ReadsWithin
-        (λ trees bs. bs.items ≡ counted_rows (rows_in trees account.now) rows.now)
-        (state S.Store tx.old.conn.now) (state S.Store tx.new.conn.now) result }
-{
-    let mut buckets = Vec::new(alloc);
-    'rows: for row in rows {
-        let bucket = read_bucket_within(tx, account, row)?;
-        buckets.push(bucket)?;
-    }
-    Ok(buckets)
-}
 
 /// The buckets of an account that aren't dead, with what they count.
 fn read_purse_within<S: Alter>(
@@ -101,8 +36,7 @@ fn read_purse_within<S: Alter>(
         (state S.Store tx.old.conn.now) (state S.Store tx.new.conn.now) result }
 {
     let rows = read_buckets_live_within(tx, alloc, account)?;
-    let buckets = read_counted_within(tx, alloc, account, &rows)?;
-    purse_of(alloc, buckets)
+    live_purse_of(alloc, &rows)
 }
 
 /// What the open sessions of an account have of rating groups, with what their reservations hold in

@@ -3,6 +3,7 @@ pub mod AddCharge
 pub mod AddGroup
 pub mod AddSession
 pub mod Adds
+pub mod Beside
 pub mod BookRules
 pub mod BucketRules
 pub mod ChargeBlocks
@@ -38,7 +39,6 @@ pub mod ReadAccount
 pub mod ReadAccounts
 pub mod ReadAllGrantBooks
 pub mod ReadAllHolds
-pub mod ReadAllowance
 pub mod ReadAllowances
 pub mod ReadAnswer
 pub mod ReadBooks

@@ -1,6 +1,6 @@
 -- Selections within a transaction, one after another, and what is made of what they answer.
 use Rattle.std.proofs.Common.{◌∙◌, Result, Ok, Err, IfOk, OnErr, ap, refl, subst, sym}
-use Rattle.std.proofs.Common.{IsTrue, arith, inl, true≢false}
+use Rattle.std.proofs.Common.{IsTrue, arith, true≢false}
 use Rattle.std.specs.Result.{IsErr}
 use Rattle.sqlite_trees.specs.Tree.{Trees}
 use Rattle.sqlite.specs.Effect.{Database}
@@ -44,30 +44,6 @@ have_within_then old mid new one two = record {
       (one.same (omega (arith, two.survives.clean, clean))) (two.same clean);
   survives = survives_then old mid new (λ _. ⊥) (λ _. ⊥) (λ _. ⊥) (λ clean db no. no)
       (λ clean db no. no) one.survives two.survives;
-}
-
--- none at all, where the connection is open
-pub none_within : (s : State) → (HasCleanDisk s → IsTrue s.is_open) → HaveWithin s s
-none_within s on = record {
-  same = λ clean. (
-    record {
-      was_open = on clean;
-      is_open = on clean;
-      now_is = refl;
-      committed_is = refl;
-      mode = refl;
-    },
-    record { changes = refl; last_rowid = refl },
-    refl,
-  );
-  survives = record {
-    clean = omega arith;
-    shield = λ h. h;
-    counts = omega arith;
-    limit = refl;
-    closes = λ clean on'. inl on';
-    crash = λ clean db may. inl may;
-  };
 }
 
 -- what is said after them is said of the tables before
@@ -162,15 +138,6 @@ pub made_within : {A E : Type 0} (P : Trees → Type 0) (told : Trees → A → 
     → ((trees : Trees) → P trees → IfOk r (told trees)) → ReadsWithin told old new r
 made_within P told old new r h to =
     within_from told old new r h.have (λ clean. to old.now.trees (h.found clean))
-
--- what is made of them is refused
-pub fails_within : {A B E F : Type 0} (P : Trees → A → Type 0) (told : Trees → B → Type 0)
-    (old mid new : State) (x : A) (r : Result B F) → IsErr r → HaveWithin old mid
-    → ReadsWithin {A = A} {E = E} P mid new (Ok x) → ReadsWithin told old new r
-fails_within P told old mid new x (Ok y) failed have h = absurd (true≢false (sym failed))
-fails_within {A} {B} {E} {F} P told old mid new x (Err e) failed have h =
-    within_from {A = B} {E = F} told old new (Err e)
-    (have_within_then old mid new have (have_within {A = A} {E = E} P mid new x h)) (λ clean. tt)
 
 -- ---- what stays
 

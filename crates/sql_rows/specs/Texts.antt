@@ -1,7 +1,7 @@
 -- Rows as they are read, as those of the content.
 -- Source: profile.
-use Rattle.std.specs.Prelude.{◌≡◌, ◌++◌, Bool, true, List, map, Option, is_some, option_map}
-use Rattle.std.specs.Prelude.{Result, Vec}
+use Rattle.std.specs.Prelude.{◌≡◌, Bool, true, List, [], ◌∷◌, ◌++◌, map, Option, is_some}
+use Rattle.std.specs.Prelude.{option_map, Result, Vec}
 use Rattle.std.specs.Global.{Global}
 use Rattle.std.specs.String.{string_bytes}
 use Rattle.identifiers.specs.Words.{AccountName}
@@ -17,20 +17,21 @@ use Rattle.sql_rows.specs.declared.book_rows.BookColumns.{BookColumns}
 use Rattle.sql_rows.specs.declared.group_rows.GroupColumns.{GroupColumns}
 use Rattle.sql_rows.specs.declared.group_rows.PeriodTexts.{PeriodTexts}
 use Rattle.sql_rows.specs.declared.group_rows.PutNames.{PutNames}
+use Rattle.sql_rows.specs.declared.live_bucket_rows.LiveBucket.{LiveBucket}
 use Rattle.sql_rows.specs.declared.meta_rows.MetaColumns.{MetaColumns}
 use Rattle.sql_rows.specs.declared.open_group_rows.OpenGroup.{OpenGroup}
 use Rattle.sql_rows.specs.declared.open_rows.OpenRows.{OpenRows}
 use Rattle.sql_rows.specs.declared.reserved_rows.ReservedColumns.{ReservedColumns}
 use Rattle.sql_rows.specs.declared.session_book_rows.SessionBook.{SessionBook}
 use Rattle.sql_rows.specs.declared.session_hold_rows.SessionHold.{SessionHold}
-use Rattle.sql_tables.specs.Statements.{Reads, ReadsWithin}
+use Rattle.sql_tables.specs.Statements.{Reads}
 use Rattle.sql_rows.specs.Content.{TableRows, rows_in}
 use Rattle.sql_rows.specs.Lists.{AreAllGrantBooks, AreAllHolds, AreBuckets, AreOpenGroups, Ascends}
 use Rattle.sql_rows.specs.Lists.{BookAt, GroupAt, OpenGroupAt, ReservedAt, SessionBookAt}
-use Rattle.sql_rows.specs.Lists.{SessionHoldAt, open_group_before, open_group_cells}
+use Rattle.sql_rows.specs.Lists.{SessionHoldAt, is_live_bucket, open_group_before, open_group_cells}
 use Rattle.sql_rows.specs.Lists.{session_book_before, session_book_cells, session_hold_before}
 use Rattle.sql_rows.specs.Lists.{session_hold_cells}
-use Rattle.sql_rows.specs.Values.{Kept, Meta, PeriodNames}
+use Rattle.sql_rows.specs.Values.{Kept, Meta, PeriodNames, bucket_cells, flag_number, nat}
 
 abbrev pub kept_of : KeptTexts → Kept
 kept_of k = record { content = string_bytes k.content; answer = string_bytes k.answer }
@@ -44,11 +45,17 @@ abbrev pub ReadsBuckets : {E : Type 0} → (BucketRow → Bool) → AccountName 
 ReadsBuckets test account =
     Reads (λ trees bs. AreBuckets test (rows_in trees account) (map bucket_row bs.items))
 
--- the same within a transaction
-abbrev pub ReadsBucketsWithin : {E : Type 0} → (BucketRow → Bool) → AccountName → State → State →
-    Result (Vec BucketColumns Global) E → Type 0
-ReadsBucketsWithin test account =
-    ReadsWithin (λ trees bs. AreBuckets test (rows_in trees account) (map bucket_row bs.items))
+abbrev pub columns_of : List LiveBucket → List BucketColumns
+columns_of xs = map (λ x. x.columns) xs
+
+-- those of which something is available or reserved, and what each counts
+pub record AreLive (rows : TableRows) (xs : List LiveBucket) : Type 0 where
+  pub buckets : AreBuckets is_live_bucket rows (map bucket_row (columns_of xs))
+  pub kinds : map (λ x. x.counts_blocks) xs ≡ map (λ x. rows.allowances x.number) (columns_of xs)
+
+-- as a selection gives it
+abbrev pub live_cells : LiveBucket → Values
+live_cells x = bucket_cells (bucket_row x.columns) ++ nat (flag_number x.counts_blocks) ∷ []
 
 abbrev pub names_of : PeriodTexts → PeriodNames
 names_of p = record { before = string_bytes p.before; after = string_bytes p.after }

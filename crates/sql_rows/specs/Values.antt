@@ -1,7 +1,7 @@
 -- The values of a row, and the row that values are.
 -- Source: profile.
-use Rattle.std.specs.Prelude.{ℕ, zero, suc, pos, negsuc, Bool, List, [], ◌∷◌, Option, Some, None}
-use Rattle.std.specs.Prelude.{is_some, if◌then◌else◌, ◌==◌}
+use Rattle.std.specs.Prelude.{◌≡◌, ℕ, zero, suc, pos, negsuc, Bool, List, [], ◌∷◌, Option, Some}
+use Rattle.std.specs.Prelude.{None, is_some, if◌then◌else◌, ◌==◌}
 use Rattle.units.specs.Words.{Moment, UnitCount, BlockCount, GroupId, CycleNumber, BookNumber}
 use Rattle.units.specs.Words.{CcRequestNumber}
 use Rattle.identifiers.specs.Words.{SessionName, AccountName, VoucherCode}
@@ -72,6 +72,11 @@ state_number NeverOpened = 3
 
 abbrev pub state_in : Value → SessionState
 state_in v = if nat_in v == 1 then Open else if nat_in v == 2 then Ended else NeverOpened
+
+-- the values are in the row's columns from this place on
+abbrev pub AreColumnsFrom : ℕ → Values → Values → Type 0
+AreColumnsFrom place row [] = Unit {0}
+AreColumnsFrom place row (v ∷ vs) = (column row place ≡ v) × AreColumnsFrom (suc place) row vs
 
 -- ---- `meta`
 

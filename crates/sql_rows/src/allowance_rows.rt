@@ -1,19 +1,17 @@
 //! Rows that say which buckets count blocks.
 
-ghost use Rattle.std.specs.Prelude.{◌≡◌, ℕ, Option, map, nat_lt, is_some, IfOk};
+ghost use Rattle.std.specs.Prelude.{◌≡◌, map, nat_lt, IfOk};
 ghost use Rattle.sql_rows.specs.Content.{rows_in, with_allowance, with_rows, without_allowance};
 ghost use Rattle.sql_rows.specs.Lists.{AreAllowances, Ascends};
 ghost use Rattle.sql_rows.specs.Values.{number_cells};
 ghost use Rattle.sql_rows.specs.Makes.{Makes};
-ghost use Rattle.sql_tables.specs.Statements.{HasBook, HasIdleBook, HasRules, Reads};
-ghost use Rattle.sql_tables.specs.Statements.{ReadsWithin, AttemptsOver};
-ghost use Rattle.sql_tables.specs.Selects.{one_or_none};
+ghost use Rattle.sql_tables.specs.Statements.{AttemptsOver, HasBook, HasIdleBook, Reads};
 ghost use Rattle.sqlite.specs.Held.{state};
 
 use crate::ascending::{InOrder, do_ascend};
 use crate::running::run;
 use identifiers::AccountNumber;
-use sql_tables::{ReadFault, has_columns, one_of, read, read_within, small_at, text, whole};
+use sql_tables::{ReadFault, has_columns, read, small_at, text, whole};
 use sqlite::{Alter, Connection, Error, Row, Transaction};
 use std::alloc::Global;
 
@@ -61,75 +59,6 @@ pub fn remove_allowance<S: Alter>(
         "DELETE FROM allowance_buckets WHERE account = ?1 AND number = ?2",
         &[of_account, number],
     )
-}
-
-/// Whether a bucket of an account counts blocks.
-///
-/// # Errors
-/// `Store` where the store failed, `Rules` where a row is out of its rules, `Memory` where a growth
-/// was refused. Nothing is changed then either.
-pub fn read_allowance<S: Alter>(
-    conn: &mut Connection<S>,
-    account: &AccountNumber,
-    bucket: u32,
-) -> Result<bool, ReadFault>
-    requires idle { HasIdleBook (state S.Store conn.old) }
-    ensures reads { Reads (λ trees is. is ≡ (rows_in trees account.now).allowances bucket)
-        (state S.Store conn.old) (state S.Store conn.new) result }
-{
-    let of_account = text(account.as_str());
-    let number = whole(bucket);
-    let rows = read(
-        conn,
-        "SELECT number FROM allowance_buckets WHERE account = ?1 AND number = ?2",
-        &[of_account, number],
-    )?;
-    allowance_among(&rows)
-}
-
-/// Whether a bucket of an account counts blocks, within a transaction.
-///
-/// # Errors
-/// As of `read_allowance`. Then nothing is committed.
-pub fn read_allowance_within<S: Alter>(
-    tx: &mut Transaction<'_, S>,
-    account: &AccountNumber,
-    bucket: u32,
-) -> Result<bool, ReadFault>
-    requires book { HasBook (state S.Store tx.old.conn.now) }
-    requires rules { HasRules (state S.Store tx.old.conn.now) }
-    ensures same_reference { tx.new.conn.ghost_name ≡ tx.old.conn.ghost_name }
-    ensures reads { ReadsWithin (λ trees is. is ≡ (rows_in trees account.now).allowances bucket)
-        (state S.Store tx.old.conn.now) (state S.Store tx.new.conn.now) result }
-{
-    let of_account = text(account.as_str());
-    let number = whole(bucket);
-    let rows = read_within(
-        tx,
-        "SELECT number FROM allowance_buckets \
-         WHERE account = ?1 AND number = ?2",
-        &[of_account, number],
-    )?;
-    allowance_among(&rows)
-}
-
-/// Whether there is a row, which says a number.
-fn allowance_among(rows: &[Row]) -> Result<bool, ReadFault>
-    ensures { IfOk result (λ is.
-        (o : Option ℕ) × (is ≡ is_some o) × (rows.now ≡ map number_cells (one_or_none o))) }
-{
-    let number = number_among(rows)?;
-    Ok(number.is_some())
-}
-
-fn number_among(rows: &[Row]) -> Result<Option<u32>, ReadFault>
-    ensures { IfOk result (λ o. rows.now ≡ map number_cells (one_or_none o)) }
-{
-    let row = one_of(rows)?;
-    match row {
-        None => Ok(None),
-        Some(row) => Ok(Some(number_from(row)?)),
-    }
 }
 
 impl InOrder for u32 {

@@ -1,8 +1,10 @@
 //! Rows of buckets.
 
 ghost use Rattle.std.specs.Prelude.{◌≡◌, map, filter, true, IsTrue, IfOk, OnOk};
+ghost use Rattle.buckets.specs.declared.kind.BucketKind.TheVariants.{Money};
 ghost use Rattle.sql_rows.specs.Content.{has_bucket, with_bucket, with_rows};
-ghost use Rattle.sql_rows.specs.Values.{bucket_cells, bucket_values, plain_bucket};
+ghost use Rattle.sql_rows.specs.Values.{AreColumnsFrom, bucket_cells, bucket_values, money_cells};
+ghost use Rattle.sql_rows.specs.Values.{plain_bucket};
 ghost use Rattle.sql_rows.specs.Lists.{BucketsRise, Rises, is_dead_bucket};
 ghost use Rattle.sql_rows.specs.Texts.{ReadsBuckets, bucket_row};
 ghost use Rattle.sql_rows.specs.Each.{with_buckets};
@@ -227,7 +229,7 @@ fn do_buckets_rise(buckets: &[BucketColumns]) -> bool
     true
 }
 
-pub(crate) fn buckets_from(alloc: Global, rows: &[Row]) -> Result<Vec<BucketColumns>, ReadFault>
+fn buckets_from(alloc: Global, rows: &[Row]) -> Result<Vec<BucketColumns>, ReadFault>
     ensures { IfOk result (λ xs. map bucket_cells (map bucket_row xs.items) ≡ rows.now) }
 {
     let mut buckets = Vec::new(alloc);
@@ -242,6 +244,15 @@ fn bucket_from(row: &Row) -> Result<BucketColumns, ReadFault>
     ensures { IfOk result (λ b. row.now ≡ bucket_cells (bucket_row b)) }
 {
     has_columns(row, 9)?;
+    let columns = columns_from(row)?;
+    Ok(columns)
+}
+
+/// The columns of a bucket, with which a row begins.
+pub(crate) fn columns_from(row: &Row) -> Result<BucketColumns, ReadFault>
+    ensures kind { IfOk result (λ b. b.kind ≡ Money) }
+    ensures cells { IfOk result (λ b. AreColumnsFrom 0 row.now (money_cells (bucket_row b))) }
+{
     let number = small_at(row, 0)?;
     let from = moment_at(row, 1)?;
     let until = moment_at(row, 2)?;

@@ -29,9 +29,7 @@ mod session_rows;
 mod voucher_rows;
 
 pub use crate::account_rows::{put_account, read_account, read_account_within, read_accounts};
-pub use crate::allowance_rows::{
-    put_allowance, read_allowance, read_allowance_within, read_allowances, remove_allowance,
-};
+pub use crate::allowance_rows::{put_allowance, read_allowances, remove_allowance};
 pub use crate::answer_rows::{KeptTexts, put_answer, read_answer};
 pub use crate::book_rows::{BookColumns, put_book, read_books, read_books_within};
 pub use crate::bucket_rows::{put_bucket, put_buckets, read_buckets_all, read_buckets_dead};
@@ -47,7 +45,7 @@ pub use crate::head_counter_rows::{
     CycleNumbers, HeadCounters, HeadCycles, read_head_counters, read_head_cycles,
 };
 pub use crate::hold_rows::{HeldColumns, put_hold, put_holds, read_holds, remove_holds};
-pub use crate::live_bucket_rows::{read_buckets_live, read_buckets_live_within};
+pub use crate::live_bucket_rows::{LiveBucket, read_buckets_live, read_buckets_live_within};
 pub use crate::meta_rows::{MetaColumns, put_last_moment, put_meta, read_meta, read_meta_within};
 pub use crate::open_group_rows::OpenGroup;
 pub use crate::open_rows::{OpenRows, read_open_rows, read_open_rows_within};

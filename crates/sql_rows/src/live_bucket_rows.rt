@@ -2,34 +2,63 @@
 
 ghost use Rattle.std.specs.Prelude.{◌≡◌, map, IfOk};
 ghost use Rattle.buckets.specs.Row.{precedes};
-ghost use Rattle.sql_rows.specs.Lists.{Ascends, is_live_bucket};
-ghost use Rattle.sql_rows.specs.Texts.{ReadsBuckets, ReadsBucketsWithin, bucket_row};
-ghost use Rattle.sql_rows.specs.Values.{bucket_cells};
-ghost use Rattle.sql_tables.specs.Statements.{HasBook, HasIdleBook, HasRules};
+ghost use Rattle.sql_rows.specs.Content.{rows_in};
+ghost use Rattle.sql_rows.specs.Lists.{Ascends};
+ghost use Rattle.sql_rows.specs.Texts.{AreLive, bucket_row, columns_of, live_cells};
+ghost use Rattle.sql_tables.specs.Statements.{HasBook, HasIdleBook, HasRules, Reads, ReadsWithin};
 ghost use Rattle.sqlite.specs.Held.{state};
 
 use crate::ascending::{InOrder, do_ascend};
-use crate::bucket_rows::buckets_from;
+use crate::bucket_rows::columns_from;
+use crate::decoding::flag_at;
 use buckets::Columns as BucketColumns;
 use identifiers::AccountNumber;
-use sql_tables::{ReadFault, read, read_within, text};
+use sql_tables::{ReadFault, has_columns, read, read_within, text};
 use sqlite::{Alter, Connection, Row, Transaction};
 use std::alloc::Global;
 
-impl InOrder for BucketColumns {
-    ghost before = { λ x y. precedes (bucket_row x) (bucket_row y) };
+/// A bucket of which something is available or reserved, with what it counts.
+#[derive(Clone, Copy)]
+pub struct LiveBucket {
+    /// Its columns, which are given as those of one of money.
+    pub columns: BucketColumns,
+    /// Whether a row beside it says that it counts blocks.
+    pub counts_blocks: bool,
+}
 
-    fn is_before(&self, other: &BucketColumns) -> bool {
-        self.until < other.until || self.until == other.until && self.number < other.number
+impl InOrder for LiveBucket {
+    ghost before = { λ x y. precedes (bucket_row x.columns) (bucket_row y.columns) };
+
+    fn is_before(&self, other: &LiveBucket) -> bool {
+        let own = &self.columns;
+        let others = &other.columns;
+        own.until < others.until || own.until == others.until && own.number < others.number
     }
 }
 
-/// The buckets of these rows, if they are in the order of their use.
-fn live_from(alloc: Global, rows: &[Row]) -> Result<Vec<BucketColumns>, ReadFault>
-    ensures cells { IfOk result (λ bs. map bucket_cells (map bucket_row bs.items) ≡ rows.now) }
-    ensures order { IfOk result (λ bs. Ascends precedes (map bucket_row bs.items)) }
+/// The bucket of a row: its columns, and a flag behind them.
+fn live_bucket_from(row: &Row) -> Result<LiveBucket, ReadFault>
+    ensures { IfOk result (λ x. row.now ≡ live_cells x) }
 {
-    let buckets = buckets_from(alloc, rows)?;
+    has_columns(row, 10)?;
+    let columns = columns_from(row)?;
+    let counts_blocks = flag_at(row, 9)?;
+    Ok(LiveBucket {
+        columns,
+        counts_blocks,
+    })
+}
+
+/// The buckets of these rows, if they are in the order of their use.
+fn live_from(alloc: Global, rows: &[Row]) -> Result<Vec<LiveBucket>, ReadFault>
+    ensures cells { IfOk result (λ xs. map live_cells xs.items ≡ rows.now) }
+    ensures order { IfOk result (λ xs. Ascends precedes (map bucket_row (columns_of xs.items))) }
+{
+    let mut buckets = Vec::new(alloc);
+    'rows: for row in rows {
+        let bucket = live_bucket_from(row)?;
+        buckets.push(bucket)?;
+    }
     if !do_ascend(&buckets) {
         return Err(ReadFault::Rules);
     }
@@ -37,8 +66,8 @@ fn live_from(alloc: Global, rows: &[Row]) -> Result<Vec<BucketColumns>, ReadFaul
 }
 
 /// The buckets of which something is available or reserved, in the order of their use, each once,
-/// as their columns say: no other rule of theirs is tested yet, and each is given as one of money.
-/// One selection of two parts: the index finds each part without a bucket that is spent, which it
+/// as their columns and the row beside each say: no other rule of theirs is tested yet. One
+/// selection of two parts: the index finds each part without a bucket that is spent, which it
 /// wouldn't by one test of either.
 ///
 /// # Errors
@@ -48,17 +77,23 @@ pub fn read_buckets_live<S: Alter>(
     conn: &mut Connection<S>,
     alloc: Global,
     account: &AccountNumber,
-) -> Result<Vec<BucketColumns>, ReadFault>
+) -> Result<Vec<LiveBucket>, ReadFault>
     requires idle { HasIdleBook (state S.Store conn.old) }
-    ensures reads { ReadsBuckets is_live_bucket account.now
+    ensures reads { Reads (λ trees xs. AreLive (rows_in trees account.now) xs.items)
         (state S.Store conn.old) (state S.Store conn.new) result }
-    ensures order { IfOk result (λ bs. Ascends precedes (map bucket_row bs.items)) }
+    ensures order { IfOk result (λ xs. Ascends precedes (map bucket_row (columns_of xs.items))) }
 {
     let rows = read(
         conn,
-        "SELECT number, starts, ends, scope, credited, available, reserved, charged, expired \
+        "SELECT number, starts, ends, scope, credited, available, reserved, charged, expired, \
+         EXISTS (SELECT 1 FROM allowance_buckets \
+         WHERE allowance_buckets.account = buckets.account \
+         AND allowance_buckets.number = buckets.number) AS counts_blocks \
          FROM buckets WHERE account = ?1 AND available >= 1 UNION ALL \
-         SELECT number, starts, ends, scope, credited, available, reserved, charged, expired \
+         SELECT number, starts, ends, scope, credited, available, reserved, charged, expired, \
+         EXISTS (SELECT 1 FROM allowance_buckets \
+         WHERE allowance_buckets.account = buckets.account \
+         AND allowance_buckets.number = buckets.number) AS counts_blocks \
          FROM buckets WHERE account = ?1 AND available = 0 AND reserved >= 1 \
          ORDER BY ends, number",
         &[text(account.as_str())],
@@ -74,20 +109,24 @@ pub fn read_buckets_live_within<S: Alter>(
     tx: &mut Transaction<'_, S>,
     alloc: Global,
     account: &AccountNumber,
-) -> Result<Vec<BucketColumns>, ReadFault>
+) -> Result<Vec<LiveBucket>, ReadFault>
     requires book { HasBook (state S.Store tx.old.conn.now) }
     requires rules { HasRules (state S.Store tx.old.conn.now) }
     ensures same_reference { tx.new.conn.ghost_name ≡ tx.old.conn.ghost_name }
-    ensures reads { ReadsBucketsWithin is_live_bucket account.now
+    ensures reads { ReadsWithin (λ trees xs. AreLive (rows_in trees account.now) xs.items)
         (state S.Store tx.old.conn.now) (state S.Store tx.new.conn.now) result }
-    ensures order { IfOk result (λ bs. Ascends precedes (map bucket_row bs.items)) }
+    ensures order { IfOk result (λ xs. Ascends precedes (map bucket_row (columns_of xs.items))) }
 {
     let rows = read_within(
         tx,
-        "SELECT number, starts, ends, scope, credited, available, reserved, charged, expired FROM \
-         buckets WHERE account = ?1 AND available >= 1 UNION ALL SELECT number, starts, ends, \
-         scope, credited, available, reserved, charged, expired FROM buckets WHERE account = ?1 \
-         AND available = 0 AND reserved >= 1 ORDER BY ends, number",
+        "SELECT number, starts, ends, scope, credited, available, reserved, charged, expired, \
+         EXISTS (SELECT 1 FROM allowance_buckets WHERE allowance_buckets.account = \
+         buckets.account AND allowance_buckets.number = buckets.number) AS counts_blocks \
+         FROM buckets WHERE account = ?1 AND available >= 1 UNION ALL SELECT number, starts, \
+         ends, scope, credited, available, reserved, charged, expired, EXISTS (SELECT 1 FROM \
+         allowance_buckets WHERE allowance_buckets.account = buckets.account AND \
+         allowance_buckets.number = buckets.number) AS counts_blocks FROM buckets WHERE \
+         account = ?1 AND available = 0 AND reserved >= 1 ORDER BY ends, number",
         &[text(account.as_str())],
     )?;
     live_from(alloc, &rows)

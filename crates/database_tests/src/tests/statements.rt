@@ -252,15 +252,18 @@ fn try_beside<S: Alter>(
 
 /// Where nothing is, where all is, and where some of it ended; and books in the order of their
 /// numbers.
-const BESIDE: &str = "allowances: false false
+const BESIDE: &str = "live: 3 false 1 false 4 false
+allowances:
 from 2 to 2
 book of 20: 2
-allowances: false true 2
+live: 3 true 1 false 4 false
+allowances: 2 3
 covered 1 2
 covered 2 5
 from 2 to 2
 covered 2 5
-allowances: false false
+live: 3 false 1 false 4 false
+allowances: 2
 covered 2 5
 from 2 to 2
 covered 2 5

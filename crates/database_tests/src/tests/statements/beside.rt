@@ -8,9 +8,9 @@ use crate::tests::row_writers::push;
 use crate::tests::values::moment;
 use identifiers::{AccountNumber, SessionId};
 use sql_rows::{
-    BookColumns, CoveredColumns, GrantBook, put_allowance, put_book, put_covered, put_grant_book,
-    read_allowance, read_allowances, read_books, read_covered_within, read_grant_books,
-    remove_allowance, remove_covered, remove_grant_book,
+    BookColumns, CoveredColumns, GrantBook, LiveBucket, put_allowance, put_book, put_covered,
+    put_grant_book, read_allowances, read_books, read_buckets_live, read_covered_within,
+    read_grant_books, remove_allowance, remove_covered, remove_grant_book,
 };
 use sqlite::{Alter, Connection};
 use std::alloc::Global;
@@ -33,14 +33,16 @@ fn keep_grant_book<S: Alter>(
     tx.commit().expect(rt, "a commit");
 }
 
-/// The second bucket counts blocks. The row is put twice.
-fn keep_allowance<S: Alter>(rt: &impl Abort, conn: &mut Connection<S>, account: &AccountNumber)
+/// The second bucket, which is spent, and the third, which is reserved as a whole, count blocks.
+/// The row of the second is put twice.
+fn keep_allowances<S: Alter>(rt: &impl Abort, conn: &mut Connection<S>, account: &AccountNumber)
     requires ready { IsReady (state S.Store conn.old) }
     ensures ready { IsReady (state S.Store conn.new) }
 {
     let mut tx = conn.transaction();
     put_allowance(&mut tx, account, 2).expect(rt, "a row");
     put_allowance(&mut tx, account, 2).expect(rt, "a row");
+    put_allowance(&mut tx, account, 3).expect(rt, "a row");
     tx.commit().expect(rt, "a commit");
 }
 
@@ -56,7 +58,7 @@ fn keep_covered<S: Alter>(rt: &impl Abort, conn: &mut Connection<S>, account: &A
     tx.commit().expect(rt, "a commit");
 }
 
-/// A reservation's book, the kind of a bucket and the covered blocks of charges.
+/// A reservation's book, the kind of two buckets and the covered blocks of charges.
 pub(crate) fn keep_beside<S: Alter>(
     rt: &impl Abort,
     conn: &mut Connection<S>,
@@ -67,11 +69,11 @@ pub(crate) fn keep_beside<S: Alter>(
     ensures ready { IsReady (state S.Store conn.new) }
 {
     keep_grant_book(rt, conn, account, session);
-    keep_allowance(rt, conn, account);
+    keep_allowances(rt, conn, account);
     keep_covered(rt, conn, account);
 }
 
-/// The reservation's book, the second bucket's kind and the covered blocks of the first charge end.
+/// The reservation's book, the third bucket's kind and the covered blocks of the first charge end.
 pub(crate) fn end_beside<S: Alter>(
     rt: &impl Abort,
     conn: &mut Connection<S>,
@@ -83,7 +85,7 @@ pub(crate) fn end_beside<S: Alter>(
 {
     let mut tx = conn.transaction();
     remove_grant_book(&mut tx, account, session, 20).expect(rt, "a removal");
-    remove_allowance(&mut tx, account, 2).expect(rt, "a removal");
+    remove_allowance(&mut tx, account, 3).expect(rt, "a removal");
     remove_covered(&mut tx, account, 1).expect(rt, "a removal");
     tx.commit().expect(rt, "a commit");
 }
@@ -114,7 +116,16 @@ fn push_covered(rt: &impl Abort, text: &mut String, rows: &[CoveredColumns]) {
     }
 }
 
-/// Whether each of two buckets counts blocks, and the numbers of all that do.
+fn push_kinds(rt: &impl Abort, text: &mut String, rows: &[LiveBucket]) {
+    push(rt, text, "live:");
+    for row in rows {
+        let (number, counts_blocks) = (row.columns.number, row.counts_blocks);
+        write!(text, " {number} {counts_blocks}").expect(rt, "room");
+    }
+    push(rt, text, "\n");
+}
+
+/// Whether each live bucket counts blocks, and the numbers of all buckets that do.
 fn tell_allowances<S: Alter>(
     rt: &impl Abort,
     alloc: Global,
@@ -125,9 +136,9 @@ fn tell_allowances<S: Alter>(
     requires ready { IsReady (state S.Store conn.old) }
     ensures ready { IsReady (state S.Store conn.new) }
 {
-    let first = read_allowance(conn, account, 1).expect(rt, "a reading");
-    let second = read_allowance(conn, account, 2).expect(rt, "a reading");
-    write!(text, "allowances: {first} {second}").expect(rt, "room");
+    let live = read_buckets_live(conn, alloc, account).expect(rt, "a reading");
+    push_kinds(rt, text, &live);
+    push(rt, text, "allowances:");
     let numbers = read_allowances(conn, alloc, account).expect(rt, "a reading");
     for number in numbers.as_slice() {
         write!(text, " {number}").expect(rt, "room");

@@ -13,8 +13,8 @@ use identifiers::AccountNumber;
 use ledger::ChargeRow;
 use reserving::{Counter, Session};
 use sql_rows::{
-    CycleNumbers, add_sessions, put_bucket, put_buckets, put_charge, put_charges, put_counter,
-    put_counters, put_session, read_buckets_all, read_buckets_dead, read_buckets_live,
+    CycleNumbers, LiveBucket, add_sessions, put_bucket, put_buckets, put_charge, put_charges,
+    put_counter, put_counters, put_session, read_buckets_all, read_buckets_dead, read_buckets_live,
     read_charges_within, read_counter, read_head_cycles, read_session, read_sessions_open,
 };
 use sqlite::{Alter, Connection};
@@ -97,6 +97,13 @@ fn push_all_columns(rt: &impl Abort, text: &mut String, title: &str, rows: &[Col
     }
 }
 
+fn push_live(rt: &impl Abort, text: &mut String, rows: &[LiveBucket]) {
+    push(rt, text, "live\n");
+    for row in rows {
+        push_columns(rt, text, &row.columns);
+    }
+}
+
 /// The live buckets, the dead ones, and all.
 fn tell_buckets<S: Alter>(
     rt: &impl Abort,
@@ -109,7 +116,7 @@ fn tell_buckets<S: Alter>(
     ensures ready { IsReady (state S.Store conn.new) }
 {
     let live = read_buckets_live(conn, alloc, account).expect(rt, "a reading");
-    push_all_columns(rt, text, "live\n", &live);
+    push_live(rt, text, &live);
     let dead = read_buckets_dead(conn, alloc, account).expect(rt, "a reading");
     push_all_columns(rt, text, "dead\n", &dead);
     let all = read_buckets_all(conn, alloc, account).expect(rt, "a reading");

@@ -1,7 +1,6 @@
 use Rattle.std.proofs.Common.{[], ◌∷◌, map, ap, ◌∙◌}
 use Rattle.sqlite.specs.Values.{bound_value}
 use Rattle.sqlite_value.specs.declared.value.Value.TheVariants.{Text}
-use Rattle.sql_rows.specs.Texts.{bucket_row}
 use Rattle.sql_tables.proofs.Telling.{reads_as}
 use Rattle.sql_rows.proofs.ReadLive.{live_read, read_live_plain, read_live_text}
 use Rattle.sql_rows.proofs.live_bucket_rows.read_buckets_live.Goals as goal
@@ -15,4 +14,4 @@ returns-clause-reads g c =
     c.read.ensures.stops c.in_ok-rows.ensures.answers
     (λ i. map bound_value ((c.text.ensures ∙ ap Text c.as_str.ensures.value) i ∷ []))
     c.deref.ensures.value c.live_from.ensures.cells
-    (λ bs. live_read c.args.account.now _ _ _ (map bucket_row bs.items))
+    (λ xs. live_read c.args.account.now _ _ _ xs.items)
