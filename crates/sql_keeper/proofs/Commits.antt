@@ -1,6 +1,6 @@
 -- What is committed of a change.
 use Rattle.std.proofs.Common.{◌≡◌, ◌≤◌, ◌∙◌, ap, refl, subst, ℕ, List, [], ◌∷◌, Option, Some, None}
-use Rattle.std.proofs.Common.{Bool, IsTrue, sym, true}
+use Rattle.std.proofs.Common.{IsTrue, sym, true}
 use Rattle.commands.specs.declared.key.Key.{Key}
 use Rattle.commands.specs.declared.key.Key.TheVariants.{Request, Reference}
 use Rattle.commands.specs.Keys.{key_of}
@@ -30,7 +30,7 @@ use Rattle.sql_rows.specs.Makes.{Turns}
 use Rattle.sql_rules.specs.Ruled.{IsInRules}
 use Rattle.sql_keeper.specs.Content.{tables_of, Names}
 use Rattle.sql_keeper.specs.Commits.{Becomes}
-use Rattle.sql_keeper.specs.KeptRows.{AreGrantsOver, BecomesOver}
+use Rattle.sql_keeper.specs.KeptRows.{AreGrantsOver, AreKept, BecomesOver, Keeps}
 use Rattle.sql_keeper.specs.RuledRows.{are_ruled_texts, is_ruled_change}
 use Rattle.sql_keeper.specs.Seen.{AreSeen, IsKeptOnce, Sees, Stands}
 use Rattle.sql_keeper.specs.Tests.{AreWritable, IsTested, MayBeMade}
@@ -41,8 +41,9 @@ use Rattle.sql_keeper.specs.Writes.{with_held_group, with_kept, with_paid, with_
 use Rattle.sql_keeper.specs.Writes.{with_change_put, with_scoped, with_stored, with_texts}
 use Rattle.sql_keeper.proofs.TidyChanges.{tidy_change}
 use Rattle.sql_keeper.proofs.Changed.{changes_read}
-use Rattle.sql_keeper.specs.declared.seen.SeenAccount.{SeenAccount}
+use Rattle.sql_keeper.specs.declared.putting.Known.{Known}
 use Rattle.sql_keeper.proofs.KeptGroups.{sees_kept}
+use Rattle.sql_keeper.proofs.KeptKinds.{keeps_counted}
 use Rattle.sql_keeper.proofs.GrantsWritten.{grants_written}
 use Rattle.sql_keeper.proofs.NewGroups.{put_over}
 use Rattle.sql_keeper.proofs.RuledRows.{change_kept}
@@ -168,33 +169,37 @@ module _ (names : Names) (text : List ℕ) (change : Change) (texts : Option Kep
   }
 
   -- the groups that are new are put without a removal, and so is what stays
-  turned : (new : Bool) (seen : Option SeenAccount) (is_there : Bool) (old db : Trees) →
-      IsTested names change (rows_in old change.number) new → Sees seen old →
-      IsKeptOnce is_there (meta_with text change) (tables_content old).meta →
-      Turns (with_change_put names new seen is_there change texts) old db →
+  turned : (known : Known) (old db : Trees) →
+      IsTested names change (rows_in old change.number) known.are_new →
+      Sees known.seen.now old → Keeps names known.kept.now old →
+      IsKeptOnce known.is_there (meta_with text change) (tables_content old).meta →
+      Turns (with_change_put names known change texts) old db →
       Turns (with_change names (meta_with text change) change texts) old db
-  turned new seen is_there old db found sees there turns = record {
+  turned known old db found sees keeps there turns = record {
     content = turns.content
-        ∙ put_over names new seen is_there text change texts (tables_content old) named found
-        (λ x e. sees_kept seen old change.number x sees e) there;
+        ∙ put_over names known text change texts (tables_content old) named found
+        (record {
+          groups = λ x e. sees_kept known.seen.now old change.number x sees e;
+          buckets = λ b e. keeps_counted names known.kept.now old change.number b keeps e;
+        }) there;
     catalog = turns.catalog;
     stored = turns.stored;
     plain = turns.plain;
   }
 
-  pub become_at : (new : Bool) (seen : Option SeenAccount) (is_there : Bool) (old mid : State)
-      → OnlyReads old mid
+  pub become_at : (known : Known) (old mid : State) → OnlyReads old mid
       → (HasCleanDisk mid → IsTrue mid.is_open
-      → IsTested names change (rows_in old.now.trees change.number) new) → AreSeen seen old
-      → Stands is_there (meta_with text change) old
+      → IsTested names change (rows_in old.now.trees change.number) known.are_new)
+      → AreSeen known.seen.now old → AreKept names known.kept.now old
+      → Stands known.is_there (meta_with text change) old
       → HasCleanDisk mid → IsTrue mid.is_open → (db : Trees)
-      → Turns (with_change_put names new seen is_there change texts) mid.now.trees db
+      → Turns (with_change_put names known change texts) mid.now.trees db
       → BecomesOver names text change old.now.trees db
-  become_at new seen is_there old mid only may sees there clean on db turns =
+  become_at known old mid only may sees keeps there clean on db turns =
       let was : IsTrue old.is_open = (only.still clean on).was_open in
+      let disk = only.cleanness clean in
       become_over old.now.trees db (may clean on).made
-      (turned new seen is_there old.now.trees db (may clean on) (sees (only.cleanness clean) was)
-      (there (only.cleanness clean) was)
-      (subst (λ (d : Database).
-      Turns (with_change_put names new seen is_there change texts) d.trees db)
+      (turned known old.now.trees db (may clean on) (sees disk was) (keeps disk was)
+      (there disk was)
+      (subst (λ (d : Database). Turns (with_change_put names known change texts) d.trees db)
       (only.still clean on).now_is turns))

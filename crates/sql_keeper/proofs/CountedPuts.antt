@@ -48,7 +48,7 @@ module _ {X Y : Type 0} (same : X → X → Bool) (is : X → Bool)
 
 -- ---- buckets
 
-abbrev counts_blocks : BucketKind → Bool
+abbrev pub counts_blocks : BucketKind → Bool
 counts_blocks Money = false
 counts_blocks Blocks = true
 
@@ -91,6 +91,17 @@ counted_one : (a : List ℕ) (o : Option ℕ) (k : BucketKind) (n : ℕ) (f : Ta
     → with_scoped a o k n (with_rows a f c) ≡ with_rows a (λ r. scoped_rows o k n (f r)) c
 counted_one a None k n f c = refl
 counted_one a (Some g) k n f c = with_twice a (with_kind k n) f c
+
+-- one bucket, put with what it counts
+pub counted_put : (a : List ℕ) (b : BucketRow) (c : TablesContent) →
+    with_counted a b c ≡ with_rows a (λ r. record (with_bucket (plain_bucket b) r) {
+      allowances = λ n. if nat_eq b.number n then counts_scoped b.scope b.kind (r.allowances n)
+          else r.allowances n;
+    }) c
+counted_put a b c =
+    counted_one a b.scope b.kind b.number (with_bucket (plain_bucket b)) c
+    ∙ (λ i. with_rows a (λ r. scoped_put b.scope b.kind b.number (with_bucket (plain_bucket b) r) i)
+    c)
 
 abbrev pub counted_in : Option BucketRow → Option BucketRow → Option BucketRow
 counted_in None before = before

@@ -28,7 +28,7 @@ use Rattle.sql_keeper.specs.Grants.{is_grant, is_kept, is_name, only_bucket, sam
 use Rattle.sql_keeper.specs.Seen.{Sees}
 use Rattle.sql_keeper.specs.Tests.{AreWritable}
 use Rattle.sql_keeper.specs.Writes.{columns_of, with_group_over, with_groups_over, with_held_group}
-use Rattle.sql_keeper.specs.Writes.{with_kept_group, with_named, with_stored}
+use Rattle.sql_keeper.specs.Writes.{with_kept_group, with_stored}
 use Rattle.sql_keeper.specs.declared.seen.SeenAccount.{SeenAccount}
 use Rattle.sql_keeper.specs.declared.seen.SeenGrant.{SeenGrant}
 use Rattle.sql_keeper.proofs.Changed.{AreKeyed, keyed_without, over_stored, stored_over}
@@ -267,7 +267,8 @@ module _ (a : List ℕ) (names : Names) (sessions : List Session) (w : StoredRow
             sym (λ i. (c.rows a).holds (is.0 i) (is.1 i) n) ∙ there.held n none;
       }
 
-  pub named_kept : with_named a names false seen w c ≡ with_stored a names w c
+  pub named_kept : with_groups_over a names seen w.groups (with_stored a names (without_groups w) c)
+      ≡ with_stored a names w c
   named_kept =
       mixed_over a names seen sessions w.groups (with_stored a names others c) keyed.groups may
       ∙ ap (with_rows a (over_mixed names (λ r. is_kept seen a r) w.groups))

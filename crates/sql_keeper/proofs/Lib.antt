@@ -26,6 +26,7 @@ pub mod HeldAlong
 pub mod HoldRuns
 pub mod InTurn
 pub mod KeptGroups
+pub mod KeptKinds
 pub mod KeptRows
 pub mod LiveGroups
 pub mod LiveRows

@@ -19,6 +19,8 @@ use Rattle.reserving.proofs.Lists.{EachIn-found, EachIn-weaker}
 use Rattle.keepers.specs.Keyed.{same_group}
 use Rattle.keepers.specs.declared.loaded.Change.{Change}
 use Rattle.keepers.specs.Naming.{IsNamed}
+use Rattle.buckets.specs.Row.{BucketRow}
+use Rattle.sql_rows.specs.Each.{with_counters, with_sessions}
 use Rattle.sql_rows.specs.Values.{Kept, Meta}
 use Rattle.sql_rows.specs.Content.{TableRows, TablesContent, with_group_row, with_meta, with_rows}
 use Rattle.sql_rows.specs.Lists.{AreCoveredBeside, HasNoGroups}
@@ -26,14 +28,18 @@ use Rattle.sql_keeper.specs.Content.{Names}
 use Rattle.sql_keeper.specs.Seen.{IsKeptOnce}
 use Rattle.sql_keeper.specs.Tests.{AreNewGroups, AreWritable, IsTested}
 use Rattle.sql_keeper.specs.Writes.{columns_of, with_all_charged, with_change, with_change_put}
-use Rattle.sql_keeper.specs.Writes.{with_kept, with_named, with_new_book, with_new_group}
-use Rattle.sql_keeper.specs.Writes.{with_changed_rows, with_moment_put, with_new_groups}
-use Rattle.sql_keeper.specs.Writes.{meta_with, with_redeemed, with_stored}
+use Rattle.sql_keeper.specs.Writes.{with_groups_put, with_kept, with_named, with_new_book}
+use Rattle.sql_keeper.specs.Writes.{with_changed_rows, with_moment_put, with_new_group}
+use Rattle.sql_keeper.specs.Writes.{head_columns_of, meta_with, with_new_groups, with_redeemed}
+use Rattle.sql_keeper.specs.Writes.{with_stored}
 use Rattle.sql_keeper.proofs.Changed.{AreKeyed, keyed_named, keyed_without, over_stored}
 use Rattle.sql_keeper.proofs.Changed.{stored_over, without_groups}
 use Rattle.sql_keeper.specs.Grants.{is_kept}
+use Rattle.sql_keeper.specs.KeptKinds.{is_counted}
+use Rattle.sql_keeper.specs.declared.putting.Known.{Known}
 use Rattle.sql_keeper.specs.declared.seen.SeenAccount.{SeenAccount}
 use Rattle.sql_keeper.proofs.KeptGroups.{IsKeptIn, named_kept}
+use Rattle.sql_keeper.proofs.KeptKinds.{IsCountedIn, all_counted_are}
 use Rattle.sql_keeper.proofs.NewCharges.{all_charged_are}
 use Rattle.sql_keeper.proofs.Groups.{amount_at, amount_in, book_over, book_put, column_over}
 use Rattle.sql_keeper.proofs.Groups.{holds_over, may_hold, over_groups, over_holds}
@@ -190,9 +196,9 @@ module _ (a : List ℕ) (names : Names) (sessions : List Session) (w : StoredRow
       (λ x. HasNoGroups (over_stored names others (c.rows a)) x.session) w.groups
       (λ x h. record { groups = h.groups; books = h.books; holds = h.holds }) new
 
-  named_new : (seen : Option SeenAccount) →
-      with_named a names true seen w c ≡ with_stored a names w c
-  named_new seen =
+  named_new : with_new_groups a names w.groups (with_stored a names others c)
+      ≡ with_stored a names w c
+  named_new =
       new_over a names sessions w.groups (with_stored a names others c) keyed.groups may
       ∙ ap (with_rows a (over_new names w.groups))
       (stored_over a names sessions others c (keyed_without w keyed) tt)
@@ -204,18 +210,39 @@ module _ (a : List ℕ) (names : Names) (sessions : List Session) (w : StoredRow
 
 -- ---- a change
 
--- its rows, put over what stays
-named_is : (names : Names) (new : Bool) (seen : Option SeenAccount) (m : Meta) (change : Change)
+-- what is known of an account's rows is so
+pub record IsKnownIn (a : List ℕ) (known : Known) (r : TableRows) : Type 0 where
+  pub groups : (x : SessionGroup) → is_kept known.seen.now a x ≡ true → IsKeptIn r x
+  pub buckets : (b : BucketRow) → is_counted known.kept.now a b ≡ true → IsCountedIn r b
+
+-- its groups, put over what stays
+groups_are : (names : Names) (new : Bool) (seen : Option SeenAccount) (m : Meta) (change : Change)
     (c : TablesContent) → IsNamed change.rows → IsTested names change (c.rows change.number) new →
     ((x : SessionGroup) → is_kept seen change.number x ≡ true → IsKeptIn (c.rows change.number) x)
-    → with_named change.number names new seen change.rows (with_meta m c)
+    → with_groups_put change.number names new seen change.rows.groups
+    (with_stored change.number names (without_groups change.rows) (with_meta m c))
     ≡ with_stored change.number names change.rows (with_meta m c)
-named_is names false seen m change c named t kept =
+groups_are names false seen m change c named t kept =
     named_kept change.number names change.rows.sessions change.rows (with_meta m c)
     (keyed_named change.rows named) t.made.reservations seen kept
-named_is names true seen m change c named t kept =
+groups_are names true seen m change c named t kept =
     named_new change.number names change.rows.sessions change.rows (with_meta m c)
-    (keyed_named change.rows named) t.made.reservations (t.new refl) seen
+    (keyed_named change.rows named) t.made.reservations (t.new refl)
+
+-- its rows
+named_is : (names : Names) (known : Known) (m : Meta) (change : Change) (c : TablesContent) →
+    IsNamed change.rows → IsTested names change (c.rows change.number) known.are_new →
+    IsKnownIn change.number known (c.rows change.number)
+    → with_named change.number names known change.rows (with_meta m c)
+    ≡ with_stored change.number names change.rows (with_meta m c)
+named_is names known m change c named t stand =
+    let a = change.number in
+    let w = change.rows in
+    ap (λ (d : TablesContent). with_groups_put a names known.are_new known.seen.now w.groups
+    (with_sessions a w.sessions (with_counters a w.counters d)))
+    (all_counted_are a known.kept.now (head_columns_of w) w.buckets (with_meta m c)
+    (keyed_named w named).buckets stand.buckets)
+    ∙ groups_are names known.are_new known.seen.now m change c named t stand.groups
 
 -- rows that change beside the charges and their covered blocks
 opened_beside : (a : List ℕ) (f : TableRows → TableRows) (c : TablesContent) →
@@ -242,17 +269,17 @@ stored_beside names m change c named may beside =
     (opened_beside change.number (over_stored names change.rows) (with_meta m c) beside
     (λ r h. h))
 
-put_is : (names : Names) (new : Bool) (seen : Option SeenAccount) (m : Meta) (change : Change)
-    (texts : Option Kept) (c : TablesContent) → IsNamed change.rows
-    → IsTested names change (c.rows change.number) new →
-    ((x : SessionGroup) → is_kept seen change.number x ≡ true → IsKeptIn (c.rows change.number) x)
+put_is : (names : Names) (known : Known) (m : Meta) (change : Change) (texts : Option Kept)
+    (c : TablesContent) → IsNamed change.rows
+    → IsTested names change (c.rows change.number) known.are_new →
+    IsKnownIn change.number known (c.rows change.number)
     → with_redeemed change.redeemed (with_kept change.number change.kept texts
-    (with_changed_rows names new seen change (with_meta m c))) ≡ with_change names m change texts c
-put_is names new seen m change texts c named t kept =
+    (with_changed_rows names known change (with_meta m c))) ≡ with_change names m change texts c
+put_is names known m change texts c named t stand =
     ap (λ (d : TablesContent). with_redeemed change.redeemed (with_kept change.number change.kept
     texts
     d)) (ap (with_all_charged change.number change.charges.items)
-    (named_is names new seen m change c named t kept)
+    (named_is names known m change c named t stand)
     ∙ all_charged_are change.number change.charges.items
     (with_stored change.number names change.rows (with_meta m c))
     (stored_beside names m change c named t.made.reservations t.covered))
@@ -274,15 +301,15 @@ moment_put false m c it = moment_same m it.last c it.row
 moment_put true m c it = moment_same m it.last c it.row c.meta
     (it.row ∙ ap (λ t. Some (record m { last = t })) (it.moment refl))
 
-pub put_over : (names : Names) (new : Bool) (seen : Option SeenAccount) (is_there : Bool)
-    (text : List ℕ) (change : Change) (texts : Option Kept) (c : TablesContent) →
-    IsNamed change.rows
-    → IsTested names change (c.rows change.number) new →
-    ((x : SessionGroup) → is_kept seen change.number x ≡ true → IsKeptIn (c.rows change.number) x)
-    → IsKeptOnce is_there (meta_with text change) c.meta
-    → with_change_put names new seen is_there change texts c
+pub put_over : (names : Names) (known : Known) (text : List ℕ) (change : Change)
+    (texts : Option Kept) (c : TablesContent) → IsNamed change.rows
+    → IsTested names change (c.rows change.number) known.are_new →
+    IsKnownIn change.number known (c.rows change.number)
+    → IsKeptOnce known.is_there (meta_with text change) c.meta
+    → with_change_put names known change texts c
     ≡ with_change names (meta_with text change) change texts c
-put_over names new seen is_there text change texts c named t kept is =
-    ap (with_change_put names new seen true change texts)
-    (moment_put is_there (meta_with text change) c is)
-    ∙ put_is names new seen (meta_with text change) change texts c named t kept
+put_over names known text change texts c named t stand is =
+    ap (λ (d : TablesContent). with_redeemed change.redeemed (with_kept change.number change.kept
+    texts (with_changed_rows names known change d)))
+    (moment_put known.is_there (meta_with text change) c is)
+    ∙ put_is names known (meta_with text change) change texts c named t stand

@@ -1,7 +1,7 @@
 -- Puts one after another.
 use Rattle.std.proofs.Common.{◌≡◌, ◌∙◌, ap, refl, subst, ℕ, List, arith, Ok, Err, Result}
 use Rattle.std.proofs.Common.{OnErr, Bool, true, false, sym}
-use Rattle.std.specs.Prelude.{◌==◌, if◌then◌else◌}
+use Rattle.std.specs.Prelude.{◌==◌, if◌then◌else◌, Option}
 use Rattle.std.proofs.lemmas.Result.{on_ok_weaker}
 use Rattle.sqlite.specs.Effect.{Database}
 use Rattle.sqlite.specs.State.{State, IsUnchanged, KeepsCommit}
@@ -23,10 +23,11 @@ use Rattle.sql_rows.specs.Each.{with_counters, with_sessions}
 use Rattle.sql_rows.specs.Makes.{Makes, MakesIfOpen, Turns}
 use Rattle.sql_rows.specs.declared.voucher_rows.VoucherColumns.{VoucherColumns}
 use Rattle.sql_keeper.specs.Additions.{with_addition_put}
-use Rattle.sql_keeper.specs.Commits.{with_money}
 use Rattle.sql_keeper.specs.Content.{Names}
 use Rattle.sql_keeper.specs.Writes.{head_columns_of, meta_at, voucher_row, with_all_charged}
-use Rattle.sql_keeper.specs.Writes.{with_all_counted, with_blocks, with_groups, with_moment_put}
+use Rattle.sql_keeper.specs.Writes.{with_all_counted, with_all_counted_over, with_blocks}
+use Rattle.sql_keeper.specs.Writes.{with_groups, with_money, with_moment_put}
+use Rattle.sql_keeper.specs.declared.kept_rows.KeptRows.{KeptRows}
 use Rattle.sql_keeper.proofs.Overlays.{number_from}
 
 pub made_then : (f g : TablesContent → TablesContent) (a b c : State) → Makes f a b → Makes g b c →
@@ -193,19 +194,21 @@ makes_failed f h does a b c u e d one two = record {
 
 module _ {A B C E : Type 0} (a : List ℕ) (p q r s : State) (x : A) (y : B) (z : Result C E) where
   -- an account, its buckets and its counters
-  pub puts_money : (w : StoredRows) (h : HeadColumns) (bs : List BucketRow) (cs : List Counter)
+  pub puts_money : (kept : Option KeptRows) (w : StoredRows) (h : HeadColumns)
+      (bs : List BucketRow) (cs : List Counter)
       → h ≡ head_columns_of w → bs ≡ w.buckets → cs ≡ w.counters
       → Attempts {A = A} {E = E} (Makes (with_account a h)) p q (Ok x)
-      → Attempts {A = B} {E = E} (MakesIfOpen (with_all_counted a bs)) q r (Ok y)
+      → Attempts {A = B} {E = E} (MakesIfOpen (with_all_counted_over a kept bs)) q r (Ok y)
       → Attempts {A = C} {E = E} (MakesIfOpen (with_counters a cs)) r s z
-      → Attempts {A = C} {E = E} (Makes (with_money a w)) p s z
-  puts_money w h bs cs head buckets counters one two three =
+      → Attempts {A = C} {E = E} (Makes (with_money a kept w)) p s z
+  puts_money kept w h bs cs head buckets counters one two three =
       subst (λ (f : TablesContent → TablesContent). Attempts {A = C} {E = E} (Makes f) p s z)
-      (λ i c. with_counters a (counters i) (with_all_counted a (buckets i)
+      (λ i c. with_counters a (counters i) (with_all_counted_over a kept (buckets i)
       (with_account a (head i) c)))
-      (makes_all_then (λ c. with_all_counted a bs (with_account a h c)) (with_counters a cs) p r s
-      y z
-      (makes_all_then (with_account a h) (with_all_counted a bs) p q r x (Ok y) one two) three)
+      (makes_all_then (λ c. with_all_counted_over a kept bs (with_account a h c))
+      (with_counters a cs) p r s y z
+      (makes_all_then (with_account a h) (with_all_counted_over a kept bs) p q r x (Ok y) one two)
+      three)
 
   -- and its sessions and groups
   pub puts_groups : (money : TablesContent → TablesContent) (groups : List SessionGroup →

@@ -2,29 +2,21 @@
 -- Source: profile.
 use Rattle.std.specs.Prelude.{◌≡◌, ◌≤◌, Some, IsTrue, OnOk, OnErr, Result, is_some}
 use Rattle.units.specs.Words.{latest_moment}
-use Rattle.identifiers.specs.Words.{AccountName}
 use Rattle.shelves.specs.Words.{BookText}
 use Rattle.shelves.specs.Shelves.{Shelf}
 use Rattle.sqlite_trees.specs.Tree.{Trees}
 use Rattle.sqlite_trees.specs.Objects.{catalog_tree}
 use Rattle.sqlite.specs.State.{State, HasCleanDisk, Survives}
-use Rattle.reserving.specs.Stored.{StoredRows}
 use Rattle.keepers.specs.declared.loaded.Change.{Change}
 use Rattle.keepers.specs.Change.{changed}
 use Rattle.sql_tables.specs.Statements.{AreStored, HasIdleBook, IsStill}
-use Rattle.sql_rows.specs.Content.{TablesContent, tables_content, with_account}
-use Rattle.sql_rows.specs.Each.{with_counters}
+use Rattle.sql_rows.specs.Content.{TablesContent, tables_content}
 use Rattle.sql_rows.specs.Makes.{Commits, Turns}
 use Rattle.sql_rows.specs.Plain.{ArePlain}
 use Rattle.sql_rules.specs.Ruled.{IsInRules}
 use Rattle.sql_keeper.specs.Content.{shelf_names, tables_of, Names}
 use Rattle.sql_keeper.specs.Tidy.{IsTidy}
-use Rattle.sql_keeper.specs.Writes.{head_columns_of, meta_with, with_all_counted}
-
--- an account, its buckets and its counters as they become
-abbrev pub with_money : AccountName → StoredRows → TablesContent → TablesContent
-with_money a w c =
-    with_counters a w.counters (with_all_counted a w.buckets (with_account a (head_columns_of w) c))
+use Rattle.sql_keeper.specs.Writes.{meta_with}
 
 -- outside a transaction: the change is committed, or nothing is changed, and a stop leaves what was
 -- left before or the change

@@ -15,6 +15,7 @@ pub mod Finds
 pub mod Grants
 pub mod GroupRows
 pub mod Inside
+pub mod KeptKinds
 pub mod KeptRows
 pub mod Kinds
 pub mod Laws

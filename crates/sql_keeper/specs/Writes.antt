@@ -41,6 +41,9 @@ use Rattle.sql_rows.specs.Content.{with_allowance, without_allowance, with_cover
 use Rattle.sql_rows.specs.Each.{with_each, with_counters, with_sessions, with_holds}
 use Rattle.sql_keeper.specs.Content.{kept_in, Names, names_numbered}
 use Rattle.sql_keeper.specs.Grants.{is_kept}
+use Rattle.sql_keeper.specs.KeptKinds.{is_counted}
+use Rattle.sql_keeper.specs.declared.kept_rows.KeptRows.{KeptRows}
+use Rattle.sql_keeper.specs.declared.putting.Known.{Known}
 use Rattle.sql_keeper.specs.declared.seen.SeenAccount.{SeenAccount}
 
 -- ---- periods by their names
@@ -146,6 +149,16 @@ with_counted a b c = with_scoped a b.scope b.kind b.number
 abbrev pub with_all_counted : AccountName → List BucketRow → TablesContent → TablesContent
 with_all_counted a = with_each (with_counted a)
 
+-- the same of a bucket of which it may be kept what it counts: the row beside it stays then
+abbrev pub with_counted_over : AccountName → Option KeptRows → BucketRow → TablesContent →
+    TablesContent
+with_counted_over a kept b c =
+    if is_counted kept a b then with_rows a (with_bucket (plain_bucket b)) c else with_counted a b c
+
+abbrev pub with_all_counted_over : AccountName → Option KeptRows → List BucketRow →
+    TablesContent → TablesContent
+with_all_counted_over a kept = with_each (with_counted_over a kept)
+
 -- the covered blocks of a charge, where there are any
 abbrev pub with_blocks : ChargeNumber → BlockCount → TableRows → TableRows
 with_blocks n m r =
@@ -227,21 +240,21 @@ meta_at text t = record { version = latest; book = text; last = t }
 abbrev pub meta_with : BookText → Change → Meta
 meta_with text change = meta_at text change.moment
 
+-- an account, its buckets and its counters as they are put
+abbrev pub with_money : AccountName → Option KeptRows → StoredRows → TablesContent → TablesContent
+with_money a kept w c = with_counters a w.counters
+    (with_all_counted_over a kept w.buckets (with_account a (head_columns_of w) c))
+
 -- the rows of an account as they are put, where nothing was there of its groups, or any
-abbrev pub with_named : AccountName → Names → Bool → Option SeenAccount → StoredRows →
-    TablesContent →
-    TablesContent
-with_named a names new seen w c =
-    with_groups_put a names new seen w.groups (with_sessions a w.sessions
-    (with_counters a w.counters (with_all_counted a w.buckets
-    (with_account a (head_columns_of w) c))))
+abbrev pub with_named : AccountName → Names → Known → StoredRows → TablesContent → TablesContent
+with_named a names known w c =
+    with_groups_put a names known.are_new known.seen.now w.groups
+    (with_sessions a w.sessions (with_money a known.kept.now w c))
 
 -- an account's rows that a change names, and its charges
-abbrev pub with_changed_rows : Names → Bool → Option SeenAccount → Change → TablesContent →
-    TablesContent
-with_changed_rows names new seen change c =
-    with_all_charged change.number change.charges.items
-    (with_named change.number names new seen change.rows c)
+abbrev pub with_changed_rows : Names → Known → Change → TablesContent → TablesContent
+with_changed_rows names known change c = with_all_charged change.number change.charges.items
+    (with_named change.number names known change.rows c)
 
 -- the moment, as it is put: it isn't, where that is kept already
 abbrev pub with_moment_put : Bool → Moment → TablesContent → TablesContent
@@ -249,11 +262,10 @@ with_moment_put true t c = c
 with_moment_put false t c = with_last_moment t c
 
 -- all of a change, as it is put
-abbrev pub with_change_put : Names → Bool → Option SeenAccount → Bool → Change → Option Kept →
-    TablesContent → TablesContent
-with_change_put names new seen is_there change texts c =
+abbrev pub with_change_put : Names → Known → Change → Option Kept → TablesContent → TablesContent
+with_change_put names known change texts c =
     with_redeemed change.redeemed (with_kept change.number change.kept texts
-    (with_changed_rows names new seen change (with_moment_put is_there change.moment c)))
+    (with_changed_rows names known change (with_moment_put known.is_there change.moment c)))
 
 -- all of a change
 abbrev pub with_change : Names → Meta → Change → Option Kept → TablesContent → TablesContent

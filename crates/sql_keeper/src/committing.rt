@@ -7,7 +7,7 @@ ghost use Rattle.sql_tables.specs.Statements.{HasIdleBook};
 ghost use Rattle.sql_keeper.specs.Content.{shelf_names};
 ghost use Rattle.sql_keeper.specs.Commits.{Becomes, CommitsStanding, CommitsWhole, Transacts};
 ghost use Rattle.sql_keeper.specs.Inside.{names_in};
-ghost use Rattle.sql_keeper.specs.KeptRows.{BecomesOver};
+ghost use Rattle.sql_keeper.specs.KeptRows.{AreKept, BecomesOver};
 ghost use Rattle.sql_keeper.specs.Seen.{AreSeen, Stands};
 ghost use Rattle.sql_keeper.specs.Stops.{trees_in};
 ghost use Rattle.sql_keeper.specs.Writes.{meta_with, with_change_put};
@@ -16,9 +16,9 @@ ghost use Rattle.sql_keeper.specs.Calls.{StoresChange};
 
 use crate::faults::counted;
 use crate::keeper::SqlKeeper;
-use crate::kept_rows::kept_over;
+use crate::kept_rows::{KeptRows, kept_over};
 use crate::last_moment::{is_last, last_after};
-use crate::putting::put_change;
+use crate::putting::{Known, put_change};
 use crate::seen::SeenAccount;
 use crate::settling::test_change;
 use crate::still_open::still_open;
@@ -30,27 +30,26 @@ use sql_tables::ReadFault;
 use sqlite::{Alter, Connection, Error};
 use std::alloc::Global;
 
-/// Writes a change in one transaction; its moment unless it is there already.
+/// Writes a change in one transaction; of what is known to be there already nothing.
 fn write_change<S: Alter>(
     conn: &mut Connection<S>,
     books: &TariffShelf,
-    are_new: bool,
-    seen: &Option<SeenAccount>,
-    is_there: bool,
+    known: &Known<'_>,
     change: &Change,
     texts: &Option<KeptTexts>,
 ) -> Result<(), Error>
     requires plain { conn.old.in_transaction ≡ false }
     requires idle { HasIdleBook (state S.Store conn.old) }
     ensures plain { conn.new.in_transaction ≡ false }
-    ensures transacts { Transacts (with_change_put (shelf_names books.now) are_new seen.now
-        is_there change.now (option_map kept_of texts.now))
+    ensures transacts { Transacts
+        (with_change_put (shelf_names books.now) known.now change.now
+        (option_map kept_of texts.now))
         (state S.Store conn.old) (state S.Store conn.new) result }
 {
     // For the prover alone: looking at the value makes known here what its type keeps.
     let _ours = conn.schema();
     let mut tx = conn.transaction();
-    put_change(&mut tx, books, are_new, seen, is_there, change, texts)?;
+    put_change(&mut tx, books, known, change, texts)?;
     tx.commit()
 }
 
@@ -62,6 +61,7 @@ fn make_change<S: Alter>(
     alloc: Global,
     books: &TariffShelf,
     seen: &Option<SeenAccount>,
+    kept: &Option<KeptRows>,
     text: &str,
     is_there: bool,
     change: &Change,
@@ -69,6 +69,7 @@ fn make_change<S: Alter>(
     requires plain { conn.old.in_transaction ≡ false }
     requires idle { HasIdleBook (state S.Store conn.old) }
     requires seen { AreSeen seen.now (state S.Store conn.old) }
+    requires kept { AreKept (shelf_names books.now) kept.now (state S.Store conn.old) }
     requires is_there { Stands is_there (meta_with text.now change.now) (state S.Store conn.old) }
     ensures plain { conn.new.in_transaction ≡ false }
     ensures commits { CommitsWhole (BecomesOver (shelf_names books.now) text.now change.now)
@@ -79,7 +80,13 @@ fn make_change<S: Alter>(
     let _moment = change.moment.seconds();
     let are_new = test_change(conn, alloc, books, seen, change)?;
     let texts = kept_texts(alloc, &change.number, &change.kept)?;
-    write_change(conn, books, are_new, seen, is_there, change, &texts)?;
+    let known = Known {
+        are_new,
+        seen,
+        kept,
+        is_there,
+    };
+    write_change(conn, books, &known, change, &texts)?;
     Ok(())
 }
 
@@ -89,6 +96,7 @@ fn ask_to_change<S: Alter>(
     alloc: Global,
     books: &TariffShelf,
     seen: &Option<SeenAccount>,
+    kept: &Option<KeptRows>,
     text: &str,
     is_there: bool,
     change: &Change,
@@ -96,13 +104,14 @@ fn ask_to_change<S: Alter>(
     requires plain { conn.old.in_transaction ≡ false }
     requires idle { HasIdleBook (state S.Store conn.old) }
     requires seen { AreSeen seen.now (state S.Store conn.old) }
+    requires kept { AreKept (shelf_names books.now) kept.now (state S.Store conn.old) }
     requires is_there { Stands is_there (meta_with text.now change.now) (state S.Store conn.old) }
     ensures plain { conn.new.in_transaction ≡ false }
     ensures commits { CommitsStanding (BecomesOver (shelf_names books.now) text.now change.now)
         (state S.Store conn.old) (state S.Store conn.new) result }
 {
     still_open(conn)?;
-    make_change(conn, alloc, books, seen, text, is_there, change)
+    make_change(conn, alloc, books, seen, kept, text, is_there, change)
 }
 
 impl<S: Alter> SqlKeeper<S> {
@@ -126,6 +135,7 @@ impl<S: Alter> SqlKeeper<S> {
             self.alloc,
             &self.shelf,
             &self.seen,
+            &self.kept,
             text,
             is_there,
             &change,

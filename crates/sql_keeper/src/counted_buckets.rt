@@ -5,9 +5,12 @@ ghost use Rattle.sql_rows.specs.Content.{with_rows};
 ghost use Rattle.sql_rows.specs.Makes.{Makes, MakesIfOpen};
 ghost use Rattle.sql_tables.specs.Statements.{Attempts, HasBook, IsInside};
 ghost use Rattle.sql_keeper.specs.Kinds.{counted_live};
-ghost use Rattle.sql_keeper.specs.Writes.{with_all_counted, with_counted, with_kind, with_scoped};
+ghost use Rattle.sql_keeper.specs.Writes.{with_all_counted, with_all_counted_over, with_counted};
+ghost use Rattle.sql_keeper.specs.Writes.{with_counted_over, with_kind, with_scoped};
 ghost use Rattle.sqlite.specs.Held.{state};
 
+use crate::kept_kinds::is_counted;
+use crate::kept_rows::KeptRows;
 use crate::rebuilding::bucket_of;
 use buckets::{Bucket, BucketKind};
 use identifiers::AccountNumber;
@@ -85,6 +88,49 @@ pub(crate) fn put_counted<S: Alter>(
 {
     'rows: for row in rows {
         put_with_kind(tx, account, row)?;
+    }
+    Ok(())
+}
+
+/// Puts a bucket, and the row beside it unless the rows that are kept show that it stays.
+fn put_counted_row<S: Alter>(
+    tx: &mut Transaction<'_, S>,
+    account: &AccountNumber,
+    kept: &Option<KeptRows>,
+    bucket: &Bucket,
+) -> Result<(), Error>
+    requires book { HasBook (state S.Store tx.old.conn.now) }
+    ensures same_reference { tx.new.conn.ghost_name ≡ tx.old.conn.ghost_name }
+    ensures makes { Attempts (Makes (with_counted_over account.now kept.now bucket.now))
+        (state S.Store tx.old.conn.now) (state S.Store tx.new.conn.now) result }
+{
+    if is_counted(kept, account, bucket) {
+        put_bucket(tx, account, bucket)
+    } else {
+        put_with_kind(tx, account, bucket)
+    }
+}
+
+/// Puts each bucket in turn, with the row beside it unless the rows that are kept show that it
+/// stays: nothing is removed then, and nothing put again.
+///
+/// # Errors
+/// As of `put_counted`.
+pub(crate) fn put_counted_over<S: Alter>(
+    tx: &mut Transaction<'_, S>,
+    account: &AccountNumber,
+    kept: &Option<KeptRows>,
+    rows: &[Bucket],
+) -> Result<(), Error>
+    requires open { IsInside (state S.Store tx.old.conn.now) }
+    requires book { HasBook (state S.Store tx.old.conn.now) }
+    ensures same_reference { tx.new.conn.ghost_name ≡ tx.old.conn.ghost_name }
+    ensures makes { Attempts
+        (MakesIfOpen (with_all_counted_over account.now kept.now rows.now))
+        (state S.Store tx.old.conn.now) (state S.Store tx.new.conn.now) result }
+{
+    'rows: for row in rows {
+        put_counted_row(tx, account, kept, row)?;
     }
     Ok(())
 }

@@ -59,7 +59,7 @@ fn copied(alloc: Global, rows: &LiveRows) -> Result<LiveRows, AllocError>
 }
 
 /// Whether rows are those of an account.
-fn is_of(kept: &KeptRows, account: &AccountNumber) -> bool
+pub(crate) fn is_of(kept: &KeptRows, account: &AccountNumber) -> bool
     ensures { result ≡ same_name kept.now.account account.now }
 {
     kept.account == *account

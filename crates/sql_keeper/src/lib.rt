@@ -20,6 +20,7 @@ mod found_vouchers;
 mod held_groups;
 mod keeper;
 mod keeping;
+mod kept_kinds;
 mod kept_rows;
 mod last_moment;
 mod laws;

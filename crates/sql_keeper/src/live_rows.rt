@@ -142,7 +142,7 @@ struct FirstRows {
     counters: Vec<Counter>,
 }
 
-/// Of the counters of the three cycles those of the groups that count by each.
+/// The head, and of the counters of the three cycles those of the groups that count by each.
 fn first_of(book: &TariffBook, read: HeadCycles) -> Result<FirstRows, ReadFault>
     ensures { IfOk result (IsFirstOf book.now read) }
 {

@@ -8,14 +8,14 @@ ghost use Rattle.sql_rows.specs.Each.{with_sessions};
 ghost use Rattle.sql_rows.specs.Makes.{Makes, MakesIfOpen};
 ghost use Rattle.sql_rows.specs.Texts.{kept_of};
 ghost use Rattle.sql_keeper.specs.Content.{shelf_names};
-ghost use Rattle.sql_keeper.specs.Commits.{with_money};
 ghost use Rattle.sql_keeper.specs.Writes.{head_columns_of, with_change_put, with_kept};
-ghost use Rattle.sql_keeper.specs.Writes.{with_changed_rows, with_moment_put, with_named};
-ghost use Rattle.sql_keeper.specs.Writes.{with_texts};
+ghost use Rattle.sql_keeper.specs.Writes.{with_changed_rows, with_moment_put, with_money};
+ghost use Rattle.sql_keeper.specs.Writes.{with_named, with_texts};
 ghost use Rattle.sqlite.specs.Held.{state};
 
-use crate::counted_buckets::put_counted;
+use crate::counted_buckets::put_counted_over;
 use crate::held_groups::put_groups_of;
+use crate::kept_rows::KeptRows;
 use crate::paid_charges::put_paid;
 use crate::seen::SeenAccount;
 use crate::voucher_puts::put_redeemed;
@@ -30,6 +30,19 @@ use sql_rows::{
 };
 use sqlite::{Alter, Error, Transaction};
 use units::Moment;
+
+/// What is known of the tables before a change is written.
+#[derive(Drop)]
+pub(crate) struct Known<'a> {
+    /// Whether nothing is there of the groups that are named, nor of their sessions.
+    pub are_new: bool,
+    /// What was seen of an account.
+    pub seen: &'a Option<SeenAccount>,
+    /// The rows that are kept of an account.
+    pub kept: &'a Option<KeptRows>,
+    /// Whether the moment of the change is there already.
+    pub is_there: bool,
+}
 
 /// What is kept of an account once, as it was loaded.
 pub(crate) fn head_of(rows: &EarlierRows) -> HeadColumns
@@ -60,16 +73,17 @@ pub(crate) fn head_named(rows: &NamedRows) -> HeadColumns
 fn put_named_money<S: Alter>(
     tx: &mut Transaction<'_, S>,
     account: &AccountNumber,
+    kept: &Option<KeptRows>,
     rows: &NamedRows,
 ) -> Result<(), Error>
     requires book { HasBook (state S.Store tx.old.conn.now) }
     ensures same_reference { tx.new.conn.ghost_name ≡ tx.old.conn.ghost_name }
-    ensures makes { Attempts (Makes (with_money account.now rows.now))
+    ensures makes { Attempts (Makes (with_money account.now kept.now rows.now))
         (state S.Store tx.old.conn.now) (state S.Store tx.new.conn.now) result }
 {
     let head = head_named(rows);
     put_account(tx, account, &head)?;
-    put_counted(tx, account, rows.buckets())?;
+    put_counted_over(tx, account, kept, rows.buckets())?;
     put_counters(tx, account, rows.counters())
 }
 
@@ -96,19 +110,18 @@ fn put_named<S: Alter>(
     tx: &mut Transaction<'_, S>,
     account: &AccountNumber,
     books: &TariffShelf,
-    are_new: bool,
-    seen: &Option<SeenAccount>,
+    known: &Known<'_>,
     rows: &NamedRows,
 ) -> Result<(), Error>
     requires book { HasBook (state S.Store tx.old.conn.now) }
     ensures same_reference { tx.new.conn.ghost_name ≡ tx.old.conn.ghost_name }
     ensures makes { Attempts
-        (Makes (with_named account.now (shelf_names books.now) are_new seen.now rows.now))
+        (Makes (with_named account.now (shelf_names books.now) known.now rows.now))
         (state S.Store tx.old.conn.now) (state S.Store tx.new.conn.now) result }
 {
-    put_named_money(tx, account, rows)?;
-    put_sessions_of(tx, account, are_new, rows.sessions())?;
-    put_groups_of(tx, account, books, are_new, seen, rows.groups())
+    put_named_money(tx, account, known.kept, rows)?;
+    put_sessions_of(tx, account, known.are_new, rows.sessions())?;
+    put_groups_of(tx, account, books, known.are_new, known.seen, rows.groups())
 }
 
 /// Puts the texts that are kept of a command under its key.
@@ -159,17 +172,16 @@ fn put_kept<S: Alter>(
 fn put_rows<S: Alter>(
     tx: &mut Transaction<'_, S>,
     books: &TariffShelf,
-    are_new: bool,
-    seen: &Option<SeenAccount>,
+    known: &Known<'_>,
     change: &Change,
 ) -> Result<(), Error>
     requires book { HasBook (state S.Store tx.old.conn.now) }
     ensures same_reference { tx.new.conn.ghost_name ≡ tx.old.conn.ghost_name }
     ensures makes { Attempts
-        (Makes (with_changed_rows (shelf_names books.now) are_new seen.now change.now))
+        (Makes (with_changed_rows (shelf_names books.now) known.now change.now))
         (state S.Store tx.old.conn.now) (state S.Store tx.new.conn.now) result }
 {
-    put_named(tx, &change.number, books, are_new, seen, &change.rows)?;
+    put_named(tx, &change.number, books, known, &change.rows)?;
     put_paid(tx, &change.number, &change.charges)
 }
 
@@ -197,13 +209,11 @@ pub(crate) fn put_moment<S: Alter>(
 /// Puts all that a change names: the moment unless it is there already, the account and its rows,
 /// the charges, the texts of what is kept, and the voucher that is redeemed. Where nothing was
 /// there of its sessions and groups, these are added, and nothing of them is removed; nor is it
-/// where what was seen of them stays.
+/// where what was seen of them stays, and what a bucket counts isn't written where that is kept.
 pub(crate) fn put_change<S: Alter>(
     tx: &mut Transaction<'_, S>,
     books: &TariffShelf,
-    are_new: bool,
-    seen: &Option<SeenAccount>,
-    is_there: bool,
+    known: &Known<'_>,
     change: &Change,
     texts: &Option<KeptTexts>,
 ) -> Result<(), Error>
@@ -211,12 +221,13 @@ pub(crate) fn put_change<S: Alter>(
     requires book { HasBook (state S.Store tx.old.conn.now) }
     requires rules { HasRules (state S.Store tx.old.conn.now) }
     ensures same_reference { tx.new.conn.ghost_name ≡ tx.old.conn.ghost_name }
-    ensures makes { Attempts (Makes (with_change_put (shelf_names books.now) are_new seen.now
-        is_there change.now (option_map kept_of texts.now)))
+    ensures makes { Attempts (Makes
+        (with_change_put (shelf_names books.now) known.now change.now
+        (option_map kept_of texts.now)))
         (state S.Store tx.old.conn.now) (state S.Store tx.new.conn.now) result }
 {
-    put_moment(tx, change.moment, is_there)?;
-    put_rows(tx, books, are_new, seen, change)?;
+    put_moment(tx, change.moment, known.is_there)?;
+    put_rows(tx, books, known, change)?;
     put_kept(tx, &change.number, &change.kept, texts)?;
     put_redeemed(tx, &change.redeemed)
 }

@@ -1,4 +1,6 @@
 use Rattle.sqlite.specs.Held.{state}
+use Rattle.sql_keeper.specs.Content.{shelf_names}
+use Rattle.sql_keeper.proofs.KeptRows.{still_kept}
 use Rattle.sql_keeper.proofs.SeenRows.{seen_after, stands_after}
 use Rattle.sql_keeper.proofs.StillOpen.{committed_standing, standing_shut}
 use Rattle.sql_keeper.proofs.committing.ask_to_change.Goals as goal
@@ -7,6 +9,11 @@ pub make_change-requires-clause-seen : goal.make_change-requires-clause-seen
 make_change-requires-clause-seen g c =
     seen_after c.args.seen.now (state g.S.Store c.args.conn.now)
     (state g.S.Store c.still_open.new.conn) c.requires.seen c.in_ok-still_open.ensures.only
+
+pub make_change-requires-clause-kept : goal.make_change-requires-clause-kept
+make_change-requires-clause-kept g c =
+    still_kept (shelf_names c.args.books.now) c.args.kept.now (state g.S.Store c.args.conn.now)
+    (state g.S.Store c.still_open.new.conn) c.requires.kept c.in_ok-still_open.ensures.only
 
 pub make_change-requires-clause-is_there : goal.make_change-requires-clause-is_there
 make_change-requires-clause-is_there g c =

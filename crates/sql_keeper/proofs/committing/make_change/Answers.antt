@@ -12,9 +12,14 @@ returns-in_err-write_change-clause-commits g c =
     c.in_ok-are_new.ensures.survives
     (become_at _ _ c.args.change.now _ c.as_of-named.ensures.named c.in_ok-texts.ensures.told
     c.in_ok-texts.ensures.rules
-    (omega (arith, c.seconds-moment.ensures.in_range, c.seconds-moment.ensures.value)) _
-    c.args.seen.now c.args.is_there _ _ c.in_ok-are_new.ensures.only c.in_ok-are_new.ensures.found
-    c.requires.seen c.requires.is_there) _ _
+    (omega (arith, c.seconds-moment.ensures.in_range, c.seconds-moment.ensures.value))
+    (record {
+      are_new = c.in_ok-are_new.are_new;
+      seen = c.args.seen;
+      kept = c.args.kept;
+      is_there = c.args.is_there;
+    }) _ _ c.in_ok-are_new.ensures.only c.in_ok-are_new.ensures.found c.requires.seen
+    c.requires.kept c.requires.is_there) _ _
     c.in_err-write_change.ensures.transacts)
 
 pub returns-clause-commits : goal.returns-clause-commits
@@ -22,7 +27,12 @@ returns-clause-commits g c =
     written _ _ _ _ _ c.in_ok-are_new.ensures.only c.in_ok-are_new.ensures.survives
     (become_at _ _ c.args.change.now _ c.as_of-named.ensures.named c.in_ok-texts.ensures.told
     c.in_ok-texts.ensures.rules
-    (omega (arith, c.seconds-moment.ensures.in_range, c.seconds-moment.ensures.value)) _
-    c.args.seen.now c.args.is_there _ _ c.in_ok-are_new.ensures.only c.in_ok-are_new.ensures.found
-    c.requires.seen c.requires.is_there) _ _
+    (omega (arith, c.seconds-moment.ensures.in_range, c.seconds-moment.ensures.value))
+    (record {
+      are_new = c.in_ok-are_new.are_new;
+      seen = c.args.seen;
+      kept = c.args.kept;
+      is_there = c.args.is_there;
+    }) _ _ c.in_ok-are_new.ensures.only c.in_ok-are_new.ensures.found c.requires.seen
+    c.requires.kept c.requires.is_there) _ _
     c.in_ok-write_change.ensures.transacts

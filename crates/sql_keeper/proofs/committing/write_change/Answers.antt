@@ -15,9 +15,8 @@ put_change-requires-clause-rules g c =
 
 pub returns-clause-transacts : goal.returns-clause-transacts
 returns-clause-transacts g c =
-    let change = (with_change_put (shelf_names c.args.books.now)
-    c.args.are_new c.args.seen.now c.args.is_there c.args.change.now
-    (option_map kept_of c.args.texts.now)) in
+    let change = with_change_put (shelf_names c.args.books.now) c.args.known.now c.args.change.now
+    (option_map kept_of c.args.texts.now) in
     let same : c.commit.new.self.0 ≡ c.conn-2-1.given.0 =
     sym (c.conn-2-1.given.1 (sym (c.in_ok-put_change.ensures.same_reference
     ∙ c.transaction-tx.ensures.same_reference))) in

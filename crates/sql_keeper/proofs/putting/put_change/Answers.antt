@@ -10,9 +10,9 @@ use Rattle.sql_keeper.proofs.putting.put_change.Goals as goal
 pub returns-clause-makes : goal.returns-clause-makes
 returns-clause-makes g c =
     let change = c.args.change.now in
-    let opened = with_moment_put c.args.is_there change.moment in
-    let rows = with_changed_rows (shelf_names c.args.books.now) c.args.are_new c.args.seen.now
-    change in
+    let known = c.args.known.now in
+    let opened = with_moment_put known.is_there change.moment in
+    let rows = with_changed_rows (shelf_names c.args.books.now) known change in
     let kept = with_kept change.number change.kept (option_map kept_of c.args.texts.now) in
     let redeemed = with_redeemed change.redeemed in
     makes_all_then (λ x. kept (rows (opened x))) redeemed _ _ _ c.in_ok-put_kept.field-0

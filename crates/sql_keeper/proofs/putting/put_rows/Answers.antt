@@ -7,8 +7,7 @@ pub returns-clause-makes : goal.returns-clause-makes
 returns-clause-makes g c =
     let change = c.args.change.now in
     let stored =
-    with_named change.number (shelf_names c.args.books.now) c.args.are_new c.args.seen.now
-    change.rows in
+    with_named change.number (shelf_names c.args.books.now) c.args.known.now change.rows in
     let charged = with_all_charged change.number change.charges.items in
     makes_all_then stored charged _ _ _ c.in_ok-put_named.field-0 c.put_paid.result
     c.in_ok-put_named.ensures.makes

@@ -1,0 +1,12 @@
+use Rattle.std.proofs.Common.{◌∙◌, arith}
+use Rattle.sql_keeper.specs.Writes.{with_counted_over}
+use Rattle.sql_rows.proofs.Each.{put_next}
+use Rattle.sql_keeper.proofs.counted_buckets.put_counted_over.Goals as goal
+
+pub rows-preserved : goal.rows-preserved
+rows-preserved g c = record {
+  same = c.in_ok-put_counted_row.ensures.same_reference ∙ c.rows.invariant.same;
+  put = put_next (with_counted_over c.args.account.now c.args.kept.now) c.args.rows.now
+      c.rows.row-index c.row-item.result _ _ _ c.in_ok-put_counted_row.field-0 (omega arith)
+      c.row-item.is c.rows.invariant.put c.in_ok-put_counted_row.ensures.makes;
+}

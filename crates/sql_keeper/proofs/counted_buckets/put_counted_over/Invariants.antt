@@ -1,0 +1,12 @@
+use Rattle.std.proofs.Common.{◌≡◌, drop}
+use Rattle.sqlite.specs.Held.{state}
+use Rattle.sql_keeper.specs.Writes.{with_counted_over}
+use Rattle.sql_rows.proofs.Each.{HasPut}
+use Rattle.sql_keeper.proofs.counted_buckets.put_counted_over.Given as goal
+
+abbrev pub invariant-rows : goal.invariant-rows
+invariant-rows g l = record {
+  same : l.tx.conn.ghost_name ≡ l.initial.tx.conn.ghost_name;
+  put : HasPut (with_counted_over l.account l.kept) l.rows (drop l.row-index l.rows)
+      (state g.S.Store l.fn.tx.conn.now) (state g.S.Store l.tx.conn.now);
+}
