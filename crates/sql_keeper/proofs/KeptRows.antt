@@ -1,7 +1,7 @@
 -- What a keeper keeps of an account's rows, and what its calls leave of it.
-use Rattle.std.proofs.Common.{◌≡◌, ℕ, Bool, true, List, Option, Some, None, Result, Ok, Err, IfOk}
+use Rattle.std.proofs.Common.{◌≡◌, ℕ, true, List, Option, Some, None, Result, Ok, Err, IfOk}
 use Rattle.std.proofs.Common.{OnOk, IsTrue, refl, sym, ap, subst, ◌∙◌, arith}
-use Rattle.std.specs.Prelude.{if◌then◌else◌, IfSome}
+use Rattle.std.specs.Prelude.{if◌then◌else◌}
 use Rattle.sqlite_trees.specs.Tree.{Trees}
 use Rattle.sqlite.specs.Effect.{Database}
 use Rattle.sqlite.specs.State.{State, HasCleanDisk}
@@ -19,12 +19,11 @@ use Rattle.keepers.specs.declared.loaded.Change.{Change}
 use Rattle.keepers.specs.declared.loaded.Loaded.{Loaded}
 use Rattle.sql_tables.specs.Keyed.{same_name}
 use Rattle.sql_tables.specs.Statements.{HasIdleBook, OnlyReads}
-use Rattle.sql_tables.specs.declared.reading.ReadFault.{ReadFault}
 use Rattle.sql_rows.specs.Content.{TableRows, rows_in}
 use Rattle.sql_keeper.specs.Asks.{Asks}
 use Rattle.sql_keeper.specs.Commits.{Becomes, CommitsStanding}
 use Rattle.sql_keeper.specs.Content.{Names, told_rows}
-use Rattle.sql_keeper.specs.KeptRows.{AreCopied, AreKept, AreOf, AreReplaced, AreTaken}
+use Rattle.sql_keeper.specs.KeptRows.{AreCopied, AreKept, AreOf, AreReplaced}
 use Rattle.sql_keeper.specs.KeptRows.{BecomesOver, IsOf, Keeps, is_unknown_in}
 use Rattle.sql_keeper.specs.Grants.{is_name}
 use Rattle.sql_keeper.specs.LiveGroups.{Gathers}

@@ -7,7 +7,7 @@ use Rattle.std.specs.List.{find}
 use Rattle.shelves.specs.Shelves.{Shelf}
 use Rattle.reserving.specs.declared.session.Session.{Session}
 use Rattle.ledger.specs.Pricing.{cycle_at}
-use Rattle.reserving.specs.Sessions.{counter_in, group_in, is_open}
+use Rattle.reserving.specs.Sessions.{counter_in, is_open}
 use Rattle.reserving.specs.Rows.{AccountRows}
 use Rattle.reserving.specs.Stored.{StoredRows, stored}
 use Rattle.reserving.specs.Restored.{in_key_order, FindsSame}

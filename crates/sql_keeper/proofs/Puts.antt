@@ -24,7 +24,7 @@ use Rattle.sql_rows.specs.Makes.{Makes, MakesIfOpen, Turns}
 use Rattle.sql_rows.specs.declared.voucher_rows.VoucherColumns.{VoucherColumns}
 use Rattle.sql_keeper.specs.Additions.{with_addition_put}
 use Rattle.sql_keeper.specs.Content.{Names}
-use Rattle.sql_keeper.specs.Writes.{head_columns_of, meta_at, voucher_row, with_all_charged}
+use Rattle.sql_keeper.specs.Writes.{head_columns_of, voucher_row, with_all_charged}
 use Rattle.sql_keeper.specs.Writes.{with_all_counted, with_all_counted_over, with_blocks}
 use Rattle.sql_keeper.specs.Writes.{with_groups, with_money, with_moment_put}
 use Rattle.sql_keeper.specs.declared.kept_rows.KeptRows.{KeptRows}

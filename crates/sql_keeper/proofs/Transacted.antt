@@ -1,7 +1,6 @@
 -- What is put in a transaction is committed, or nothing is.
 use Rattle.std.proofs.Common.{◌≡◌, inl, inr, IsTrue, true, false, ◌∙◌, sym, ap, subst, arith, []}
 use Rattle.std.specs.Prelude.{Result, Ok, Err, IfErr, OnOk}
-use Rattle.sqlite_trees.specs.Tree.{Trees}
 use Rattle.sqlite_trees.specs.declared.store.Store.{Ghosts}
 use Rattle.sqlite.specs.Effect.{Database}
 use Rattle.sqlite.specs.Held.{Held, state}
