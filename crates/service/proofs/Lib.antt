@@ -3,6 +3,7 @@ pub mod CommandLemmas
 pub mod ImportingLemmas
 pub mod MakingLemmas
 pub mod OverLemmas
+pub mod UnopenedFaults
 pub mod AddingLemmas
 pub mod FaultLines
 pub mod CleanOffices

@@ -21,7 +21,7 @@ use Rattle.sql_rows.specs.Content.{tables_content}
 use Rattle.sql_keeper.specs.Content.{shelf_names, tables_of, Names}
 use Rattle.sql_keeper.specs.Inside.{IsClean, KeeperState, tables_in}
 use Rattle.sql_keeper.specs.Migrates.{BecomesLatest, IsMigrated}
-use Rattle.sql_keeper.specs.Opened.{IsCreated, IsKept, IsLeft, IsOpened}
+use Rattle.sql_keeper.specs.Opened.{IsCreated, IsFresh, IsKept, IsLeft, IsOpened}
 use Rattle.sql_keeper.specs.Shelves.{IsShelfOf}
 use Rattle.sql_keeper.specs.Stops.{trees_in}
 use Rattle.sql_keeper.proofs.OneShelf.{one_shelf}
@@ -106,6 +106,17 @@ migrated_in image c k shelf new found migrated clean =
       still = λ same db held. ap (λ (d : Database). d.trees) (migrated.still clean same).now_is
           ∙ held_by image c (new early) (found early) db held;
     }
+
+-- what was made is fresh, and so is what was migrated
+pub made_fresh : {D : Type 0} {g : disk.Ghosts D} (text : List ℕ) (c : Held (FileStore D g))
+    (k : KeeperState (FileStore D g)) (shelf : Shelf) →
+    IsCreated over_files text c k shelf → IsFresh k shelf
+made_fresh text c k shelf created = created.fresh
+
+pub migrated_fresh : {D : Type 0} {g : disk.Ghosts D} (c : Held (FileStore D g))
+    (k : KeeperState (FileStore D g)) (shelf : Shelf) →
+    IsMigrated over_files c k shelf → IsFresh k shelf
+migrated_fresh c k shelf migrated = migrated.fresh
 
 -- it has the shelf of that database, and its tables
 pub same_office : {D : Type 0} {g : disk.Ghosts D} (image : Image)

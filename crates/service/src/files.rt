@@ -67,10 +67,8 @@ fn is_filled(rt: &HostRuntime, path: &str) -> Result<bool, DatabaseFault>
 
 /// Whether the folder is there in which a path is.
 fn has_folder(rt: &HostRuntime, path: &str) -> bool {
-    match Path::new(path).parent() {
-        Some(folder) => folder.as_str().is_empty() || folder.exists(rt),
-        None => true,
-    }
+    let folder = Path::new(path).parent();
+    folder.is_none_or(|folder| folder.as_str().is_empty() || folder.exists(rt))
 }
 
 /// A connection to the database at a path, where there is a file that isn't empty: none is made,

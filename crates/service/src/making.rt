@@ -12,7 +12,7 @@ ghost use Rattle.service.specs.Over.{IsMadeIn};
 use crate::database_files::DatabaseFiles;
 use crate::fault::{DatabaseFault, making_fault};
 use crate::files::{connect, read_file};
-use crate::opening::Office;
+use crate::opening::{Office, fault_alone};
 use operator::{FilePath, InitWords};
 use sql_keeper::SqlKeeper;
 use sqlite::{Alter, Connection};
@@ -56,10 +56,7 @@ pub fn make_over<S: Start>(
 {
     let text = book_text(rt.alloc(), bytes)?;
     let connection = connect(rt, path.as_str(), start)?;
-    match make_tables(rt.alloc(), connection, text) {
-        Ok(office) => Ok(office),
-        Err((fault, _left)) => Err(fault),
-    }
+    make_tables(rt.alloc(), connection, text).map_err(fault_alone)
 }
 
 /// The text of a tariff book.

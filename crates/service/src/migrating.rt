@@ -12,7 +12,7 @@ ghost use Rattle.service.specs.Over.{IsMigratedIn};
 use crate::database_files::DatabaseFiles;
 use crate::fault::DatabaseFault;
 use crate::files::connect_there;
-use crate::opening::Office;
+use crate::opening::{Office, fault_alone};
 use operator::MigrateWords;
 use sql_keeper::SqlKeeper;
 use sqlite::{Alter, Connection};
@@ -51,10 +51,7 @@ pub fn migrate_over<S: Start>(
     ensures told { IfErr result IsUnopened }
 {
     let connection = connect_there(rt, words.database.as_str(), start)?;
-    match migrate_tables(rt.alloc(), connection) {
-        Ok(office) => Ok(office),
-        Err((fault, _left)) => Err(fault),
-    }
+    migrate_tables(rt.alloc(), connection).map_err(fault_alone)
 }
 
 /// Brings the tables of a connection to the latest version in one transaction, and answers their

@@ -1,6 +1,6 @@
 //! A database that is opened.
 
-ghost use Rattle.std.specs.Prelude.{IfErr, IfOk};
+ghost use Rattle.std.specs.Prelude.{◌≡◌, IfErr, IfOk};
 ghost use Rattle.sqlite_wal.specs.Files.{image_at};
 ghost use Rattle.sql_keeper.specs.Opened.{IsNotOpened, IsOpened};
 ghost use Rattle.service.specs.Opening.{IsNotFound, IsUnopened};
@@ -41,10 +41,14 @@ pub fn open_office<S: Start>(
     ensures told { IfErr result IsUnopened }
 {
     let connection = connect_there(rt, path.as_str(), start)?;
-    match open_tables(rt.alloc(), connection) {
-        Ok(office) => Ok(office),
-        Err((fault, _left)) => Err(fault),
-    }
+    open_tables(rt.alloc(), connection).map_err(fault_alone)
+}
+
+/// A fault alone: the connection that is given back beside it is dropped.
+pub(crate) fn fault_alone<S: Alter + Drop>(left: (DatabaseFault, Connection<S>)) -> DatabaseFault
+    ensures { result ≡ left.0 }
+{
+    left.0
 }
 
 /// Opens the office of a connection, after each row of its tables was read once. It writes nothing.
