@@ -17,8 +17,12 @@ use std::alloc::Global;
 use std::io::{self, Write};
 use texts::{StreamFault, write_whole};
 
-/// What is reported of words of which one isn't what its place takes.
-const INVALID: &str = "ocs: a word is not one that its place takes";
+/// What is reported of words of which one isn't what its place takes, with the last line of an
+/// error of `clap`.
+const INVALID: &str = "\
+ocs: a word is not one that its place takes
+
+For more information, try '--help'.";
 
 /// Reports a fault by its line, as far as it can be written.
 pub(crate) fn tell_fault<E: Write>(errors: &mut E, fault: ProgramFault) -> Status
