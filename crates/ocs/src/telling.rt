@@ -5,7 +5,7 @@ ghost use Rattle.clap.specs.Words.{kind_of};
 ghost use Rattle.operations.specs.Written.{WritesBeginning};
 ghost use Rattle.operations.specs.declared.status.Status.TheVariants.{Failed, Unread};
 ghost use Rattle.ocs.specs.Ends.{IsEndOf, IsEndOfKind, IsMemory, is_text};
-ghost use Rattle.ocs.specs.Told.{IsTextTold, IsToldOf, fault_line};
+ghost use Rattle.ocs.specs.Told.{IsTextTold, IsToldOf, fault_line, invalid_text};
 ghost use Rattle.ocs.specs.declared.fault.ProgramFault.TheVariants.{Stream};
 
 use crate::fault::ProgramFault;
@@ -23,6 +23,16 @@ const INVALID: &str = "\
 ocs: a word is not one that its place takes
 
 For more information, try '--help'.";
+
+/// Reports that a word isn't what its place takes, as far as it can be written.
+fn tell_invalid<E: Write>(errors: &mut E) -> Status
+    ensures status { result ≡ Unread }
+    ensures told { WritesBeginning (E.contents errors.old) (E.contents errors.new)
+        (invalid_text ++ 10 ∷ []) }
+{
+    tell_line(errors, INVALID);
+    Status::Unread
+}
 
 /// Reports a fault by its line, as far as it can be written.
 pub(crate) fn tell_fault<E: Write>(errors: &mut E, fault: ProgramFault) -> Status
@@ -90,10 +100,7 @@ pub(crate) fn tell_unread<O: Write, E: Write>(
 {
     match fault {
         WordsFault::Unread(error) => tell_error(alloc, &error, output, errors),
-        WordsFault::Invalid => {
-            tell_line(errors, INVALID);
-            Status::Unread
-        }
+        WordsFault::Invalid => tell_invalid(errors),
         WordsFault::Memory => tell_stream(errors, StreamFault::Memory),
     }
 }
@@ -102,10 +109,7 @@ pub(crate) fn tell_unread<O: Write, E: Write>(
 /// memory was refused.
 pub(crate) fn tell_start<E: Write>(errors: &mut E, kind: io::ErrorKind) -> Status {
     match kind {
-        io::ErrorKind::InvalidData => {
-            tell_line(errors, INVALID);
-            Status::Unread
-        }
+        io::ErrorKind::InvalidData => tell_invalid(errors),
         _ => tell_stream(errors, StreamFault::Memory),
     }
 }
