@@ -1,0 +1,1 @@
+/work/notes/over /work/A3 http_api --source wire keepers charging statements http_messages -- --only http_api::telling --only http_api::answering --only http_api::serving --only http_api::stating --allow-holes > /tmp/A.h.log 2>&1

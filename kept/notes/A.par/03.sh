@@ -1,0 +1,1 @@
+/work/notes/over /work/A3 operations --source wire keepers charging statements -- --only operations::writing --only operations::serving --only operations::stating::write_unknown --only operations::stating::tell_unknown --allow-holes > /tmp/A.o.log 2>&1

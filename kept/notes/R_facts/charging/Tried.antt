@@ -1,0 +1,3 @@
+-- Tried.
+abbrev pub Tried : Type 0
+Tried = Unit {0}

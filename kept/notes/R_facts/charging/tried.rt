@@ -1,0 +1,8 @@
+//! Tried.
+
+ghost use Rattle.charging.specs.Tried.{Tried};
+
+/// Tried.
+pub fn looked()
+    ensures { Tried }
+{}

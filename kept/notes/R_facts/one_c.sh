@@ -1,0 +1,2 @@
+for f in $(cd /work/R/crates; ls -d charging/specs/*.antt charging/proofs/*.antt reserving/specs/*.antt reserving/proofs/*.antt reserving/proofs/{rows,ledger,kept,left,calls,order}/*.antt keepers/proofs/*.antt); do case $f in */Lib.antt|charging/proofs/OldNew.antt) ;; *) cmp -s /work/R/crates/$f /tmp/R/st/c/crates/$f || cp /work/R/crates/$f /tmp/R/st/c/crates/$f;; esac; done
+/work/notes/over /tmp/R/st/c charging --source reserving decisions keepers -- --only charging::tried::looked --allow-holes > /tmp/R/c.log 2>&1

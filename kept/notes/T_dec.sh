@@ -1,0 +1,1 @@
+cd /work/T2/crates/decisions && rt check --jobs 1 --allow-holes --only decisions::deciding::settle_or_refuse --only decisions::deciding::update --only decisions::deciding::terminate > /tmp/T2c.log 2>&1

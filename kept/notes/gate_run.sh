@@ -1,0 +1,6 @@
+#!/bin/bash
+until tail -3 /work/drive2.log | grep -q "proved ocs"; do sleep 1; done
+echo $$ > /sys/fs/cgroup/cpu/high/cgroup.procs
+date +%T
+rm -rf /work/gate; git clone -q /work/main /work/gate && cd /work/gate && CI=true bash .ci/run < /dev/null
+echo "rc=$? $(date +%T)"

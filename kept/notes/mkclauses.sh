@@ -1,0 +1,3 @@
+python3 /tmp/g/compare.py /work/GM origin/next > /tmp/g/cmpM.txt
+( echo "# Old clauses and the fields that took their place"; echo; echo "Made by /work/notes/compare_clauses.py over branch records-high beside next: 'now' is the clause that stands, 'record' its record and file; each old clause with its label, '= field' where the field is the same text once the record's arguments are put in, '? field' where it differs in text and was read by eye (renamed bound names, (λ t x. ..) applied, constants by their names: all equal by computation)."; cat /tmp/g/cmpM.txt ) > /work/notes/G_clauses.md
+tail -1 /tmp/g/cmpM.txt

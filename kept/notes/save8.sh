@@ -1,0 +1,19 @@
+#!/bin/bash
+# save8.sh: main = main's HEAD and, as a further parent of a merge that changes no file, the text that isn't landed: limits (with kept/notes)
+set -e
+export GIT_AUTHOR_NAME="Duhokine maintainers" GIT_AUTHOR_EMAIL=maintainers@users.noreply.duhokine.example GIT_COMMITTER_NAME="Duhokine maintainers" GIT_COMMITTER_EMAIL=maintainers@users.noreply.duhokine.example
+L=$(git -C /work/main rev-parse HEAD)
+rm -rf /work/sv; git clone -q -b after /work/hub.git /work/sv; cd /work/sv; git fetch -q /work/main main; git cat-file -e $L
+P="-p $L"
+declare -A WHAT=([limits]="limits with names in contracts and definitions")
+for b in limits; do
+  git checkout -q -f -B tmp origin/$b
+  if [ $b = limits ]; then
+    mkdir -p kept; rm -rf kept/notes; mkdir kept/notes; (cd /work/notes && tar cf - --exclude=./acc --exclude=./bench34 --exclude=./http_bench* --exclude=./ocs.* --exclude=./slot.* --exclude=./trydir --exclude=./try.* --exclude=./__pycache__ --exclude=*.pyc --exclude=./bench .) | tar xf - -C kept/notes; git add -f -A kept >/dev/null
+  fi
+  T=$(git write-tree); git reset -q --hard
+  C=$(git commit-tree $T -p $L -m "Kept: the text of ${WHAT[$b]}"); P="$P -p $C"; echo $b $C $(git diff --shortstat $L $C)
+done
+M=$(git commit-tree $L^{tree} $P -m "Keep what is written of names of limits")
+git branch -f incoming $M; git -C /work/main fetch -q /work/sv incoming; git -C /work/main merge -q --ff-only FETCH_HEAD
+git -C /work/main log --oneline -2; git -C /work/main status --short | head -2; git -C /work/main diff --stat $L HEAD | tail -1; git -C /work/main merge-base --is-ancestor 4290c363 HEAD && echo descends

@@ -1,0 +1,2 @@
+#!/bin/bash
+exec python3 /work/notes/autopull.py
