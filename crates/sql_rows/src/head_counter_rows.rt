@@ -133,7 +133,7 @@ pub fn read_head_cycles<S: Alter>(
     head_cycles_from(alloc, &rows)
 }
 
-/// Of the rows of both parts.
+/// What the rows of both parts say.
 fn head_counters_from(alloc: Global, rows: &[Row]) -> Result<HeadCounters, ReadFault>
     ensures cells { IfOk result (λ x. IsHeadAmong rows.now x.head
         × AreCountersAmong 1 rows.now x.counters.items) }
@@ -144,7 +144,7 @@ fn head_counters_from(alloc: Global, rows: &[Row]) -> Result<HeadCounters, ReadF
     Ok(HeadCounters { head, counters })
 }
 
-/// Of the rows of four parts.
+/// What the rows of the four parts say.
 fn head_cycles_from(alloc: Global, rows: &[Row]) -> Result<HeadCycles, ReadFault>
     ensures cells { IfOk result (λ x. IsHeadAmong rows.now x.head
         × AreCountersAmong 1 rows.now x.never.items × AreCountersAmong 2 rows.now x.daily.items

@@ -41,7 +41,8 @@ impl InOrder for OpenGroup {
     }
 }
 
-/// Of the rows of the part of the groups, in the order of the sessions and of each one's groups.
+/// What the rows of the part of the groups say, in the order of the sessions and of each one's
+/// groups.
 pub(crate) fn open_groups_from(alloc: Global, rows: &[Row]) -> Result<Vec<OpenGroup>, ReadFault>
     ensures cells { IfOk result
         (λ xs. map open_group_cells (map open_group_at xs.items) ≡ rows.now) }

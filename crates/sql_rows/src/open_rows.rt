@@ -93,7 +93,7 @@ pub fn read_open_rows_within<S: Alter>(
     open_rows_from(alloc, &rows)
 }
 
-/// Of the rows of the three parts, which follow one another.
+/// What the rows of the three parts say, which follow one another.
 fn open_rows_from(alloc: Global, rows: &[Row]) -> Result<OpenRows, ReadFault>
     ensures cells { IfOk result (λ x. open_cells x ≡ rows.now) }
     ensures order { IfOk result (λ x. DoOpenRowsRise x) }

@@ -41,8 +41,8 @@ impl InOrder for SessionBook {
     }
 }
 
-/// Of the rows of the part of the books, in the order of the sessions and of each one's rating
-/// groups.
+/// What the rows of the part of the books say, in the order of the sessions and of each one's
+/// rating groups.
 pub(crate) fn session_books_from(alloc: Global, rows: &[Row]) -> Result<Vec<SessionBook>, ReadFault>
     ensures cells { IfOk result
         (λ xs. map session_book_cells (map session_book_at xs.items) ≡ rows.now) }

@@ -42,8 +42,8 @@ impl InOrder for SessionHold {
     }
 }
 
-/// Of the rows of the part of the holds, in the order of the sessions, of each one's rating groups,
-/// and of each one's buckets.
+/// What the rows of the part of the holds say, in the order of the sessions, of each one's rating
+/// groups, and of each one's buckets.
 pub(crate) fn session_holds_from(alloc: Global, rows: &[Row]) -> Result<Vec<SessionHold>, ReadFault>
     ensures cells { IfOk result
         (λ xs. map session_hold_cells (map session_hold_at xs.items) ≡ rows.now) }
