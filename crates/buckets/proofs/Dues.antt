@@ -1,7 +1,7 @@
 -- What is due in each unit, and sums of the buckets of a kind.
-use Rattle.std.proofs.Common.{◌≡◌, ℕ, ◌+◌, ◌-◌, ◌<◌, List, [], ◌∷◌, refl, ap, ◌∙◌}
+use Rattle.std.proofs.Common.{◌≡◌, ℕ, ◌+◌, ◌-◌, ◌<◌, List, ◌∷◌, refl, ap, ◌∙◌}
 use Rattle.std.proofs.Common.{sym, length, get_or, drop, arith, set}
-use Rattle.std.specs.Prelude.{if◌then◌else◌, min}
+use Rattle.std.specs.Prelude.{if◌then◌else◌}
 use Rattle.std.proofs.lemmas.List.{drop_more, drop-set-lt}
 use Rattle.std.proofs.lemmas.List.Sums.{sum_by-cons}
 use Rattle.buckets.specs.declared.kind.BucketKind.{BucketKind}
@@ -19,15 +19,6 @@ due_less Money Blocks n d = omega arith
 due_less Blocks Money n d = omega arith
 due_less Blocks Blocks n d = refl
 
--- no more is taken than there is
-pub less_part : (k : BucketKind) (n : ℕ) (d : Due) → less k (min n (due_in k d)) d ≡ less k n d
-less_part Money n d =
-    let e : d.money - min n d.money ≡ d.money - n = omega arith in
-    λ i. record { money = e i; blocks = d.blocks }
-less_part Blocks n d =
-    let e : d.blocks - min n d.blocks ≡ d.blocks - n = omega arith in
-    λ i. record { money = d.money; blocks = e i }
-
 due_is : (d e : Due) → d.money ≡ e.money → d.blocks ≡ e.blocks → d ≡ e
 due_is d e m b = λ i. record { money = m i; blocks = b i }
 
@@ -41,10 +32,6 @@ pub due_left : (f : BucketRow → ℕ) (rows : List BucketRow) (d : Due) (k : Bu
     due_in k (left_over f rows d) ≡ due_in k d - sum_in k f rows
 due_left f rows d Money = refl
 due_left f rows d Blocks = refl
-
-pub left_over_none : (f : BucketRow → ℕ) (d : Due) → left_over f [] d ≡ d
-left_over_none f d =
-    due_is (left_over f [] d) d (omega arith) (omega arith)
 
 pub left_over_more : (f : BucketRow → ℕ) (b : BucketRow) (bs : List BucketRow) (d : Due) →
     left_over f (b ∷ bs) d ≡ left_over f bs (less b.kind (f b) d)

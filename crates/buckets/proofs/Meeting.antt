@@ -8,7 +8,7 @@ use Rattle.std.proofs.lemmas.List.Sums.{sum_by-cons}
 use Rattle.buckets.specs.declared.kind.Due.{Due}
 use Rattle.buckets.specs.declared.holds.HeldAmount.{HeldAmount}
 use Rattle.buckets.specs.Row.{BucketRow}
-use Rattle.buckets.specs.Spend.{Each, DiffersFromAll, AreDistinct}
+use Rattle.buckets.specs.Spend.{Each, DiffersFromAll}
 use Rattle.buckets.specs.Kinds.{less}
 use Rattle.buckets.specs.Holding.{held_in, IsWithin, IsLeftWithin}
 use Rattle.buckets.specs.Merged.{first_held, next_of, unmet, AreMet}
@@ -92,22 +92,6 @@ next_same : (holds rest : List HeldAmount) (b : BucketRow) (bs : List BucketRow)
 next_same holds rest b [] away h = tt
 next_same holds rest b (x ∷ xs) away h =
     (h.0 ∙ next_is rest b x away.0, next_same holds rest b xs away.1 h.1)
-
-each_same : (holds : List HeldAmount) (rows : List BucketRow) →
-    Each (λ b. held_in holds b ≡ held_in holds b) rows
-each_same holds [] = tt
-each_same holds (b ∷ bs) = (refl, each_same holds bs)
-
--- ---- at the beginning of a walk, and at each bucket
-
-pub walk_first : (holds : List HeldAmount) (in_order : Bool) (rows : List BucketRow) →
-    AreDistinct rows →
-    (in_order ≡ true → unmet holds rows ≡ []) → IsWalk holds 0 in_order rows 0
-walk_first holds in_order rows distinct met = record {
-  within = omega arith;
-  met = λ order.
-      record { met = met order; same = each_same holds rows; distinct = distinct };
-}
 
 one_met : (holds rest : List HeldAmount) (b : BucketRow) (bs : List BucketRow) →
     AreMet holds rest (b ∷ bs) →

@@ -1,10 +1,9 @@
 -- What buckets pay together.
 use Rattle.std.proofs.Common.{◌≡◌, ◌≢◌, ℕ, ◌+◌, ◌-◌, Bool, true, false, List, [], ◌∷◌, refl, sym}
 use Rattle.std.proofs.Common.{ap, ◌∙◌, arith}
-use Rattle.std.specs.Prelude.{if◌then◌else◌, nat_lt, min, sum_by}
+use Rattle.std.specs.Prelude.{if◌then◌else◌, nat_lt, min}
 use Rattle.std.specs.List.{AllByRecursion}
 use Rattle.std.proofs.lemmas.Bool.Decides.{nat_tests}
-use Rattle.std.proofs.lemmas.List.Sums.{sum_by-cons}
 use Rattle.buckets.specs.declared.kind.BucketKind.{BucketKind}
 use Rattle.buckets.specs.declared.kind.BucketKind.TheVariants.{Money, Blocks}
 use Rattle.buckets.specs.declared.kind.Due.{Due}
@@ -35,24 +34,6 @@ sum_in-both k f g (b ∷ bs) =
       if_both (is_alike b.kind k) (f b) (g b),
       sum_in-both k f g bs,
     )
-
--- what holds have together
-abbrev pub amounts : List HeldAmount → ℕ
-amounts [] = 0
-amounts (h ∷ hs) = h.amount + amounts hs
-
-one_part : (t : Bool) (h : HeldAmount) (hs : List HeldAmount) → nat_lt 0 h.amount ≡ t →
-    amounts (if t then h ∷ hs else hs) ≡ h.amount + amounts hs
-one_part true h hs e = refl
-one_part false h hs e = (let none : h.amount ≡ 0 = grind (arith, nat_tests) in omega (arith, none))
-
-pub amounts-parts : (f : BucketRow → ℕ) (rows : List BucketRow) →
-    amounts (parts f rows) ≡ sum_by f rows
-amounts-parts f [] = refl
-amounts-parts f (b ∷ bs) =
-    one_part (nat_lt 0 (f b)) (record { bucket = b.number; amount = f b }) (parts f bs) refl
-    ∙ ap (λ n. f b + n) (amounts-parts f bs)
-    ∙ sym (sum_by-cons f b bs)
 
 -- the shares of those behind the first
 sum_in-next : (k : BucketKind) (f : BucketRow → ℕ) (b : BucketRow) (bs ys : List BucketRow)

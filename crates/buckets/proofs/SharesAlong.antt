@@ -13,7 +13,7 @@ use Rattle.buckets.specs.Row.{with_release, eligible_amount}
 use Rattle.buckets.specs.Share.{sum_before, share, left_over, by_shares, along, parts, parts_along}
 use Rattle.buckets.specs.Spend.{PrecedesAll, IsInOrder, IsBelow, inserted, place}
 use Rattle.buckets.specs.declared.holds.HeldAmount.{HeldAmount}
-use Rattle.buckets.specs.Holding.{held_in, unheld, IsWithin, IsLeftWithin, charged_rows}
+use Rattle.buckets.specs.Holding.{held_in, unheld, IsLeftWithin, charged_rows}
 use Rattle.buckets.proofs.Dues.{due_less, left_over_more}
 
 -- what precedes is not preceded
@@ -269,11 +269,6 @@ released_keeps holds at =
       until = λ b. with_release_until at b (held_in holds b);
     }
 
--- charging holds leaves what is available
-eligible_kept : (group at : ℕ) (b : BucketRow) (n : ℕ) →
-    eligible_amount group at (with_charge_of_hold b n) ≡ eligible_amount group at b
-eligible_kept group at b n = refl
-
 pub eligible-charged : (holds : List HeldAmount) (group at : ℕ) (left d : Due)
     (rows : List BucketRow) →
     left_over (eligible_amount group at) (along with_charge_of_hold (held_in holds) left rows) d
@@ -286,12 +281,6 @@ eligible-charged holds group at left d (b ∷ bs) =
     ∙ eligible-charged holds group at (less b.kind (held_in holds b) left)
     (less b.kind (eligible_amount group at b) d) bs
     ∙ sym (left_over_more (eligible_amount group at) b bs d)
-
--- what is within at the bucket that is next
-pub within_at : (holds : List HeldAmount) (rows : List BucketRow) (i : ℕ) (d : BucketRow) →
-    i < length rows →
-    IsWithin holds (drop i rows) → held_in holds (get_or rows i d) ≤ (get_or rows i d).reserved
-within_at holds rows i d lt h = (rw (drop_more rows i d lt) at h).0
 
 -- charged to the holds and then to what is eligible
 pub charged_rows-along : (holds : List HeldAmount) (group at : ℕ) (due : Due)

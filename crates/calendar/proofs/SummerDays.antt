@@ -20,9 +20,6 @@ use Rattle.calendar.proofs.Shown.{size_is}
 
 -- ---- the first day of a month, in days since 1968-12-31
 
-abbrev pub month_start : ℕ → ℕ → ℕ
-month_start year month = day_count (pos year) month 1 - 4_371_587
-
 -- 4,371,953 days are counted before 1970, so 4,371,588 before 1969
 count_1969 : day_count (pos 1969) 1 1 ≡ 4_371_588
 count_1969 =

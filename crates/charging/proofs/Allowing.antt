@@ -89,12 +89,6 @@ module _ (b : Shelf) (a : Allowance) (t : ℕ) (ledger : Ledger) where
   by_tariff over full known is =
       ap (λ v. by_range (v || is_full ledger)) over ∙ ap by_range full ∙ ap by_group is
 
--- an allowance that is over is refused, whatever became of the account
-pub allows_over : (b : Shelf) (a : Allowance) (t : ℕ) (old new : AccountRows) →
-    is_over a t ≡ true → (ledger : Ledger) (left : LeftRows) → IsWith ledger left t old →
-    Allows b (Err OutOfRange) a t ledger left new
-allows_over b a t old new over ledger left before = refused_over b a t ledger over
-
 -- a bucket that is made by what an allowance says is the allowance's, where it can be used
 module _ (b : Shelf) (a : Allowance) (t from until : ℕ) (old new : AccountRows)
     (begins : from ≡ begin_of a t) (ends : until ≡ end_of a) (over : is_over a t ≡ false)

@@ -2,8 +2,7 @@
 -- is known, and one that is decided.
 use Rattle.std.proofs.Common.{◌≡◌, ℕ, ◌≤◌, Bool, true, false, true≢false, List, ◌∷◌, ◌++◌, refl}
 use Rattle.std.proofs.Common.{sym, ap, subst, ◌∙◌, Option, Some, None}
-use Rattle.std.specs.Prelude.{if◌then◌else◌, ◌&&◌, is_some, max, Result, MatchResult, IfOk, OnErr}
-use Rattle.std.specs.Prelude.{Ok, Err}
+use Rattle.std.specs.Prelude.{if◌then◌else◌, ◌&&◌, is_some, max}
 use Rattle.std.proofs.lemmas.Bool.{and_parts}
 use Rattle.commands.specs.declared.answer.Answer.{Answer}
 use Rattle.commands.specs.declared.answer.Answer.TheVariants as answer
@@ -331,9 +330,3 @@ module _ (b : Shelf) (list : List Accepted) (r : Request) (t : ℕ) (old new : T
           after = afters;
         })
         makes
-
--- a call that answers, or leaves all as it was
-pub by_result : {X E : Type 0} (result : Result X E) {P Q : X → Type 0} (Same : Type 0) →
-    IfOk result P → OnErr result Same → ((x : X) → P x → Q x) → MatchResult result Q (λ fault. Same)
-by_result (Ok x) Same p same f = f x p
-by_result (Err e) Same p same f = same

@@ -5,11 +5,9 @@ use Rattle.std.specs.Prelude.{if◌then◌else◌, nat_lt, Result, Ok, Err, IfOk
 use Rattle.std.proofs.lemmas.List.{append-nil}
 use Rattle.commands.specs.declared.service.Service.{Service}
 use Rattle.commands.specs.declared.service.Requested.{Requested}
-use Rattle.commands.specs.declared.answer.Failure.TheVariants.{Denied}
 use Rattle.commands.specs.declared.answer.Outcome.{Outcome}
 use Rattle.commands.specs.declared.answer.Outcome.TheVariants.{Services, Failed}
 use Rattle.commands.specs.declared.answer.ServiceAnswer.{ServiceAnswer}
-use Rattle.commands.specs.declared.answer.ServiceFailure.{ServiceFailure}
 use Rattle.commands.specs.declared.answer.ServiceFailure.TheVariants.{EndUserServiceDenied}
 use Rattle.commands.specs.declared.answer.ServiceFailure.TheVariants.{CreditLimitReached}
 use Rattle.commands.specs.declared.answer.ServiceOutcome.TheVariants as service
@@ -19,14 +17,14 @@ use Rattle.shelves.specs.Shelves.{Shelf, book_at}
 use Rattle.ledger.specs.declared.charge.ChargeRow.{ChargeRow}
 use Rattle.ledger.specs.Ledger.{Ledger, is_barred, used}
 use Rattle.ledger.specs.Pricing.{tariff_of}
-use Rattle.ledger.specs.Requests.{recorded, touched, closed}
+use Rattle.ledger.specs.Requests.{touched, closed}
 use Rattle.ledger.specs.Reservation.{reserved, grant_for, held_due}
 use Rattle.ledger.specs.Charges.{charge_rows}
 use Rattle.reserving.specs.Rows.{AccountRows}
 use Rattle.reserving.specs.Left.{LeftRows, NotLeft, IsWith}
-use Rattle.reserving.proofs.ChargeRows.{charge_rows-recorded, charge_rows-touched}
+use Rattle.reserving.proofs.ChargeRows.{charge_rows-touched}
 use Rattle.reserving.proofs.ChargeRows.{charge_rows-closed, charge_rows-reserved}
-use Rattle.decisions.specs.Decided.{Decision, accepted, denied, told}
+use Rattle.decisions.specs.Decided.{Decision, accepted, told}
 use Rattle.decisions.specs.Settling.{settled_services, settled_answers}
 use Rattle.decisions.specs.Granting.{Answered, grant_answer, granted_with, granted_units}
 use Rattle.decisions.specs.Granting.{granted_unless_barred, granted_if, granted_by, granted}
@@ -165,17 +163,6 @@ ruled_if asked decision t old new o c (Err fault) outcome is charges at f = tt
 pub uncharged : (after ledger : Ledger) → charge_rows after ≡ charge_rows ledger →
     charge_rows after ≡ charge_rows ledger ++ []
 uncharged after ledger same = same ∙ sym (append-nil (charge_rows ledger))
-
-pub follows_denied : (old new : AccountRows) (t : ℕ) (s : List ℕ) (n : ℕ) (why : ServiceFailure) →
-    ((ledger : Ledger) (left : LeftRows) → NotLeft s left → IsWith ledger left t old →
-    IsWith (recorded t s n ledger) left t new) →
-    Follows (IsNew s) (denied t s n why) t old new (Failed (Denied why)) true []
-follows_denied old new t s n why rows = λ ledger left asked h. record {
-  same = refl;
-  acceptance = refl;
-  rows = rows ledger left asked h;
-  written = uncharged (recorded t s n ledger) ledger (charge_rows-recorded t s n ledger);
-}
 
 -- ---- grants make no charge
 

@@ -1,7 +1,6 @@
 -- The reply to one request.
 use Rattle.std.proofs.Common.{◌≡◌, ℕ, Bool, List, [], ◌∷◌, refl, sym, ap, subst}
 use Rattle.std.proofs.Common.{◌∙◌, inl, inr, arith, Option, Some, None, Result, Ok, Err}
-use Rattle.std.proofs.KnownBytes.{Appends-nil}
 use Rattle.std.specs.Prelude.{IsErrAnd, OnErr}
 pub use Rattle.std.proofs.lemmas.Result.{on_ok_weaker as ok_gives, on_err_weaker as err_gives}
 use Rattle.texts.specs.declared.streams.StreamFault.{StreamFault}
@@ -23,17 +22,13 @@ use Rattle.http_messages.specs.Asking.{Asking, refuses, reads, states, IsAsked}
 use Rattle.http_messages.specs.declared.asking.StatementAsked.{StatementAsked}
 use Rattle.http_messages.specs.declared.asking.HttpAsked.TheVariants as told
 use Rattle.http_messages.specs.Refusals.{refusal_status}
-use Rattle.http_messages.specs.Texts.{response, no_members, unable, Begins, TellsFault}
+use Rattle.http_messages.specs.Texts.{response, no_members, unable, TellsFault}
 use Rattle.http_messages.specs.declared.refusal.HttpRefusal.{HttpRefusal}
 use Rattle.http_api.specs.Clocks.{GivesInTurn}
 use Rattle.http_api.specs.Faults.{serve_fault}
 use Rattle.http_api.specs.Replies.{refusal, unserved, reply_at, IsDue, MayAsk, IsReply, Replies}
 use Rattle.http_api.specs.declared.fault.ServeFault.{ServeFault}
 use Rattle.http_api.specs.declared.fault.ServeFault.TheVariants as serve
-
--- nothing is a beginning of a text
-pub begins_none : (w : Option (List ℕ)) (text : List ℕ) → Begins w w text
-begins_none w text = (0, Appends-nil w)
 
 -- which fault was answered
 abbrev error_of : {A : Type 0} → Result A ServeFault → ServeFault

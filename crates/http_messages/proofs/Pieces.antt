@@ -8,12 +8,12 @@ use Rattle.std.specs.Global.{Global}
 use Rattle.std.proofs.Math.Seq.{take-suc}
 use Rattle.std.proofs.lemmas.Bool.{lt-ltb}
 use Rattle.std.proofs.lemmas.Bool.Decides.{Decides-eqb}
-use Rattle.std.proofs.lemmas.List.{get_or_push, nil_from_length}
+use Rattle.std.proofs.lemmas.List.{get_or_push}
 use Rattle.std.proofs.lemmas.List.Elements.{All-head, All-tail}
 use Rattle.std.proofs.lemmas.Slice.Eq.{ends_is}
 use Rattle.texts.specs.Parts.{TakesPiece}
 use Rattle.http_messages.specs.declared.head_part.HeadPart.TheVariants as head_part
-use Rattle.http_messages.specs.Parts.{whole, cut, too_long, first_part, part_after, ends_head}
+use Rattle.http_messages.specs.Parts.{whole, too_long, first_part, part_after, ends_head}
 use Rattle.http_messages.specs.Parts.{IsHeadPart}
 
 abbrev pub end_of_head : List ℕ
@@ -143,23 +143,3 @@ ends_whole (Some stream) mid new before part most count takes some short e known
     let told : first_part stream ≡ whole part.items rest = is
     ∙ ap (λ t. if t then whole part.items rest else part_after part.items rest) e in
     subst (λ p. IsHeadPart p (head_part.Whole part) new) (sym told) (refl, left)
-
--- the stream ends
-pub ends_cut : (old mid new : Option (List ℕ)) (before after : List ℕ) (most count : ℕ) →
-    TakesPiece (Some 10) most before after mid new count →
-    count ≡ 0 → length before < 8192 → IsKnown before old mid →
-    IfSome old (λ stream. IsHeadPart (first_part stream) head_part.Ended new)
-ends_cut None mid new before after most count takes none short known = tt
-ends_cut (Some stream) None new before after most count takes none short known =
-    absurd (let no : None ≡ Some known.0 = known.1 in cc)
-ends_cut (Some stream) (Some xs) None before after most count takes none short known =
-    absurd takes.taken
-ends_cut (Some stream) (Some xs) (Some ys) before after most count takes none short known =
-    let same : xs ≡ known.0 = (let k : Some xs ≡ Some known.0 = known.1 in cc) in
-    let empty : xs ≡ [] = takes.taken
-    ∙ ap (λ l. l ++ ys) (nil_from_length takes.piece (takes.counted ∙ none))
-    ∙ takes.end none in
-    let told : first_part stream ≡ cut = known.2
-    ∙ ap (part_after before) (sym same ∙ empty)
-    ∙ ap (λ t. if t then cut else too_long) (lt-ltb (length before) 8192 short) in
-    subst (λ p. IsHeadPart p head_part.Ended (Some ys)) (sym told) tt

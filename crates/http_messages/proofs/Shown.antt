@@ -5,7 +5,7 @@ use Rattle.std.proofs.Common.{append-nil, take-append-drop, refl, sym, ap, subst
 use Rattle.std.proofs.Common.{Option, Some, None, IfSome, IfNone}
 use Rattle.std.specs.Prelude.{Vec, min}
 use Rattle.std.specs.Global.{Global}
-use Rattle.std.specs.Io.KnownBytes.{Keeps, IsAtEnd}
+use Rattle.std.specs.Io.KnownBytes.{IsAtEnd}
 use Rattle.std.proofs.Math.Seq.{take-add, drop-append_seam}
 use Rattle.std.proofs.lemmas.Bool.Decides.{Decides-eqb}
 use Rattle.std.proofs.lemmas.List.{take-append-le}
@@ -165,12 +165,6 @@ pub none_shown : (old : Option (List ℕ)) (shown : List ℕ) →
     IfSome old (λ stream. length shown ≡ 0 → stream ≡ []) → length shown ≡ 0 → IsAtEnd old
 none_shown None shown end none = tt
 none_shown (Some stream) shown end none = end none
-
--- it was at its end before what kept it
-pub at_end_before : (old new : Option (List ℕ)) → Keeps old new → IsAtEnd new → IsAtEnd old
-at_end_before None new kept end = tt
-at_end_before (Some stream) None kept end = absurd kept
-at_end_before (Some stream) (Some rest) kept end = sym kept ∙ end
 
 pub ended : (old new : Option (List ℕ)) → IsAtEnd old →
     IfSome old (λ stream. IsHeadPart (first_part stream) head_part.Ended new)

@@ -2,7 +2,7 @@
 -- after it.
 use Rattle.std.proofs.Common.{◌≡◌, ℕ, Bool, true, false, List, ◌++◌, refl, sym, ap, subst, ◌∙◌}
 use Rattle.std.proofs.Common.{Option, Some, None}
-use Rattle.std.specs.Prelude.{if◌then◌else◌, ◌==◌, not, is_some, option_map}
+use Rattle.std.specs.Prelude.{if◌then◌else◌, ◌==◌, not, option_map}
 use Rattle.buckets.specs.Row.{BucketRow}
 use Rattle.shelves.specs.Shelves.{Shelf}
 use Rattle.reserving.specs.declared.session.Session.{Session}
@@ -59,9 +59,6 @@ held_if false o x m n e k = absurd (no_some x e)
 
 none_both : {A : Type 0} (l x : Option A) → l ≡ None → x ≡ None → first_of l x ≡ None
 none_both l x e k = ap (λ o. first_of o x) e ∙ k
-
-not_held : (r : SessionGroup) → is_some r.reservation ≡ false → r.reservation ≡ None
-not_held r e = Rattle.reserving.proofs.KeysFound.is_none_is r.reservation e
 
 module _ (shelf : Shelf) (before after : Ledger) (u t : ℕ) (r : Rows) (a x : AccountRows)
     (h : AreRowsAt shelf before u r) (own : IsAccount a) (loads : IsLoadedFrom shelf t r a)

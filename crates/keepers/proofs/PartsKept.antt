@@ -18,7 +18,7 @@ use Rattle.reserving.specs.Changes.{lapse, lapse_group, lapsed_in}
 use Rattle.ledger.specs.Lists.{EachIn}
 use Rattle.reserving.specs.Rows.{AccountRows, AreApart}
 use Rattle.reserving.specs.Stored.{StoredRows, IsStored, priced}
-use Rattle.reserving.specs.Left.{is_dead, bucket_in, none_left, first_of}
+use Rattle.reserving.specs.Left.{is_dead, bucket_in, none_left}
 use Rattle.reserving.proofs.Lists.{no_some, not_both, AreApart-map, EachIn-weaker}
 use Rattle.reserving.proofs.Keys.{first_true, second_true}
 use Rattle.reserving.proofs.KeysFound.{placed, unplaced, is_none_is}
@@ -51,17 +51,6 @@ placed_found q xs = at (position q xs) refl
     at : (o : Option ℕ) → position q xs ≡ o → is_some o ≡ is_some (find q xs)
     at None e = sym (ap is_some (unplaced q xs e))
     at (Some n) e = some_found q xs n e
-
--- found among those left, or among those that are live
-pub known_left : {A : Type 0} (l x : Option A) → is_some l ≡ true →
-    is_some l ≡ is_some (first_of l x)
-known_left None x e = absurd (not_both e)
-known_left (Some y) x e = refl
-
-pub known_live : {A : Type 0} (l x : Option A) → is_some l ≡ false →
-    is_some x ≡ is_some (first_of l x)
-known_live None x e = refl
-known_live (Some y) x e = absurd (not_both (sym e))
 
 pub if_ok : {X E : Type 0} (r : Result X E) {P Q : X → Type 0} → IfOk r P → ((x : X) → P x → Q x) →
     IfOk r Q

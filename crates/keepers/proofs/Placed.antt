@@ -1,13 +1,12 @@
 -- Accounts in a list, found by their numbers and written where they were found, and the places that
 -- are kept.
 use Rattle.std.proofs.Common.{◌≡◌, ℕ, suc, ◌+◌, ◌<◌, Bool, true, false, cond, List, [], ◌∷◌, ◌++◌}
-use Rattle.std.proofs.Common.{length, length-set, get_or, set, refl, sym, ap, ◌∙◌, arith, Option}
+use Rattle.std.proofs.Common.{length, get_or, set, refl, sym, ap, ◌∙◌, arith, Option}
 use Rattle.std.proofs.Common.{Some, None, Bor, subst}
-use Rattle.std.specs.Prelude.{if◌then◌else◌, ◌==◌, nat_lt, is_some, position, Result, Ok, Err}
+use Rattle.std.specs.Prelude.{if◌then◌else◌, ◌==◌, is_some, position, Result, Ok, Err}
 use Rattle.std.specs.Prelude.{OnErr, OnOk}
-use Rattle.std.specs.List.{find, position_or_len, position_from}
+use Rattle.std.specs.List.{find, position_from}
 use Rattle.std.specs.Option.{option_copied, IsSome, IfSome}
-use Rattle.std.proofs.lemmas.List.Folds.{position_or_len-set}
 use Rattle.std.proofs.lemmas.Iterator.Adapters.{position_from-zero}
 use Rattle.std.specs.Cmp.Lexicographic.{bytes_decides}
 use Rattle.identifiers.specs.Texts.{same_name}
@@ -204,16 +203,6 @@ read_at p i [] None h some same = absurd (no_some i h)
 read_at p i (y ∷ ys) None h some same =
     absurd (not_both (some (placed never p y i (y ∷ ys) h).within))
 read_at p i xs (Some x) h some same = ap Some same ∙ sym ((placed never p x.now i xs h).found x.now)
-
-pub place_written : (a : List ℕ) (place : ℕ) (xs : List AccountEntry) (old e : AccountEntry) →
-    old ≡ get_or xs place old → e.number ≡ old.number →
-    position (is_entry a) (set xs place e) ≡ position (is_entry a) xs
-place_written a place xs old e is number =
-    let same : position_or_len (is_entry a) (set xs place e) ≡ position_or_len (is_entry a) xs =
-    position_or_len-set (is_entry a) xs place e old
-    (ap (λ n. same_name n a) number ∙ ap (λ (x : AccountEntry). same_name x.number a) is) in
-    let long : length (set xs place e) ≡ length xs = length-set xs place e in
-    λ i. cond (nat_lt (same i) (long i)) (Some (same i)) None
 
 from_added : {A : Type 0} (p : A → Bool) (k : ℕ) (xs : List A) (x : A) →
     position_from p k (xs ++ x ∷ []) ≡

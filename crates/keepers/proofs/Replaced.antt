@@ -1,6 +1,6 @@
 -- What is left once the rows are others, by what a store in memory does: those that leave are
 -- behind, and what there are rows of again goes.
-use Rattle.std.proofs.Common.{◌≡◌, ℕ, zero, suc, ◌+◌, ◌<◌, ◌≤◌, Bool, true, false, List, [], ◌∷◌}
+use Rattle.std.proofs.Common.{◌≡◌, ℕ, zero, suc, ◌+◌, ◌<◌, Bool, true, false, List, [], ◌∷◌}
 use Rattle.std.proofs.Common.{◌++◌, length, take, get_or, sym, ap, subst, ◌∙◌, arith}
 use Rattle.std.specs.Prelude.{not, filter, is_some}
 use Rattle.std.proofs.lemmas.Bool.{not-true}
@@ -92,12 +92,6 @@ pub each_next : {A : Type 0} (P : A → Type 0) (xs : List A) (i : ℕ) (d : A) 
 each_next P xs i d h less k =
     let one : suc i ≡ i + 1 = omega arith in
     subst (λ (n : ℕ). EachIn P (take n xs)) one (each_on P xs i d h less k)
-
-pub each_whole : {A : Type 0} (P : A → Type 0) (xs : List A) (i : ℕ) → EachIn P (take i xs) →
-    length xs ≤ i → EachIn P xs
-each_whole P [] i h le = tt
-each_whole P (x ∷ xs) zero h le = absurd (no_less (length xs) (omega (arith, le)))
-each_whole P (x ∷ xs) (suc i) h le = (h.0, each_whole P xs i h.1 (omega (arith, le)))
 
 -- with more known
 pub each_stays : {A : Type 0} (P Q : A → Type 0) (xs : List A) (i : ℕ) → ((x : A) → P x → Q x) →

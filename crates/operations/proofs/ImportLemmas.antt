@@ -63,10 +63,6 @@ abbrev pub ImportsSoFar : Shelf → List DatedCommand → Tables → Tables → 
 ImportsSoFar b ds old new counts = (list : List Accepted) → IsInTime list → AreTables b list old →
     IsSoFar b list ds old new counts
 
-pub none-yet : (b : Shelf) (old : Tables) → ImportsSoFar b [] old old no_counts
-none-yet b old = λ list time tables.
-    record { counted = refl; tables = tables; time = time; same = λ none. refl }
-
 so-far-more : (b : Shelf) (list : List Accepted) (ds : List DatedCommand) (d : DatedCommand)
     (old mid new : Tables) (n : Counts) (x : Addition) → IsSoFar b list ds old mid n →
     IsAdded b (after_commands b list ds) d mid new x →

@@ -1,5 +1,5 @@
 -- The lines of a stream, one after another, and what they hand in.
-use Rattle.std.proofs.Common.{append-nil, ◌≡◌, ℕ, Bool, true, false, List, [], ◌∷◌, ◌++◌, map, refl}
+use Rattle.std.proofs.Common.{◌≡◌, ℕ, Bool, true, false, List, [], ◌∷◌, ◌++◌, map, refl}
 use Rattle.std.proofs.Common.{sym, ap, subst, ◌∙◌, Option, Some, None, append_assoc, IfSome, Result}
 use Rattle.std.proofs.Common.{Ok, Err}
 use Rattle.std.proofs.lemmas.List.{map-append}
@@ -140,19 +140,3 @@ read-line (Some stream) r1 r2 line old new h k more =
       input = subst (λ l. IsInput l new) (sym (map-append line_request h.told (line.items ∷ [])))
           (more (map line_request h.told) h.input);
     }
-
-no_line : (rest : List ℕ) (left : Option (List ℕ)) → IsLineOf rest None left → lines_of rest ≡ []
-no_line [] left h = refl
-no_line (b ∷ bs) left h = absurd h
-
--- the end of the stream
-pub read-ended : (r0 r1 r2 : Option (List ℕ)) (input : Input) →
-    IfSome r0 (λ stream. IsReadSoFar stream r1 input) →
-    IfSome r1 (λ stream. IsLineOf stream None r2) →
-    IfSome r0 (λ stream. IsInput (map line_request (lines_of stream)) input)
-read-ended None r1 r2 input h k = tt
-read-ended (Some stream) r1 r2 input h k =
-    let none : lines_of h.rest ≡ [] = no_line h.rest r2
-    (subst (λ (r : Option (List ℕ)). IfSome r (λ left. IsLineOf left None r2)) h.left_is k) in
-    subst (λ l. IsInput (map line_request l) input)
-    (sym (h.lines ∙ ap (λ l. h.told ++ l) none ∙ append-nil h.told)) h.input

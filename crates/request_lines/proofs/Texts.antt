@@ -1,9 +1,8 @@
 -- The texts of lines: with a line more, and with the answers to a beginning of the commands.
-use Rattle.std.proofs.Common.{◌≡◌, ℕ, zero, suc, ◌+◌, ◌<◌, ◌≤◌, Bool, true, false, get_or, add-one}
+use Rattle.std.proofs.Common.{◌≡◌, ℕ, zero, suc, ◌+◌, ◌<◌, Bool, true, false, get_or, add-one}
 use Rattle.std.proofs.Common.{drop-cons, List, [], ◌∷◌, ◌++◌, map, refl, sym, ap, arith, subst, ◌∙◌}
 use Rattle.std.proofs.Common.{Option, Some, None, append_assoc, take, drop, take-append-drop}
 use Rattle.std.specs.Prelude.{if◌then◌else◌, is_some, not, option_map, length}
-use Rattle.std.proofs.lemmas.List.{drop_all}
 use Rattle.std.specs.List.{slice_get}
 use Rattle.std.specs.Slice.{IsItemAt}
 use Rattle.std.specs.Borrow.{Bor}
@@ -47,20 +46,6 @@ next_text None faults answers n text h =
     next_answer answers n faults text h
     ∙ ap (λ m. text ++ 10 ∷ answer_texts faults (drop m answers)) (plus_one n)
     ∙ sym (append_assoc text (10 ∷ []) (answer_texts faults (drop (n + 1) answers)))
-
--- and none
-no_answer : (answers : List Answer) (n : ℕ) (faults : List (Option WireFault)) →
-    None ≡ line_text None (slice_get answers n) → answer_texts (None ∷ faults) (drop n answers) ≡ []
-no_answer [] zero faults h = refl
-no_answer [] (suc n) faults h = refl
-no_answer (a ∷ answers) zero faults h = absurd (subst IsThere (sym h) tt)
-no_answer (a ∷ answers) (suc n) faults h = no_answer answers n faults h
-
-pub no_text : (fault : Option WireFault) (faults : List (Option WireFault)) (answers : List Answer)
-    (n : ℕ) → None ≡ line_text fault (slice_get answers n) →
-    answer_texts (fault ∷ faults) (drop n answers) ≡ []
-no_text (Some fault) faults answers n h = absurd (subst IsThere (sym h) tt)
-no_text None faults answers n h = no_answer answers n faults h
 
 -- what a look-up answers
 pub answer_at : (answers : List Answer) (n : ℕ) (o : Option (Bor Answer)) → IsItemAt answers n o →
@@ -141,23 +126,3 @@ texts_next lines answers d i n next o request text lt item told is moved =
     turned : (b : Bool) → (if not b then n else n + 1) ≡ (if b then n + 1 else n)
     turned true = refl
     turned false = refl
-
--- a request without an answer
-pub texts_none : (lines : List Line) (answers : List Answer) (d : Line) (i n : ℕ)
-    (o : Option (Bor Answer)) → i < length lines → IsItemAt answers n o →
-    None ≡ line_text (told_fault (get_or lines i d)) (option_map (λ a. a.now) o) →
-    answer_texts (map told_fault (drop i lines)) (drop n answers) ≡ []
-texts_none lines answers d i n o lt item told =
-    let fault = told_fault (get_or lines i d) in
-    let here : drop i lines ≡ get_or lines i d ∷ drop (i + 1) lines =
-    rw (add-one, drop-cons lines i d lt) refl in
-    let same : None ≡ line_text fault (slice_get answers n) = told
-    ∙ ap (line_text fault) (answer_at answers n o item) in
-    ap (λ l. answer_texts (map told_fault l) (drop n answers)) here
-    ∙ no_text fault (map told_fault (drop (i + 1) lines)) answers n same
-
--- no line is left
-pub texts_ended : (lines : List Line) (answers : List Answer) (i : ℕ) → length lines ≤ i →
-    answer_texts (map told_fault (drop i lines)) answers ≡ []
-texts_ended lines answers i le = ap (λ l. answer_texts (map told_fault l) answers)
-    (drop_all i lines le)

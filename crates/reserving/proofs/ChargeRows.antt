@@ -1,6 +1,6 @@
 -- The charge rows of a ledger with more facts: a report and a debit add one each, and nothing else
 -- adds any.
-use Rattle.std.proofs.Common.{◌≡◌, ℕ, ◌+◌, ◌-◌, ◌≤◌, Bool, false, List, [], ◌∷◌, ◌++◌, refl, sym}
+use Rattle.std.proofs.Common.{◌≡◌, ℕ, ◌+◌, ◌-◌, ◌≤◌, false, List, [], ◌∷◌, ◌++◌, refl, sym}
 use Rattle.std.proofs.Common.{ap, ◌∙◌, arith, Option}
 use Rattle.std.proofs.lemmas.Bool.Decides.{nat_tests}
 use Rattle.std.proofs.lemmas.List.{append-nil}
@@ -15,7 +15,7 @@ use Rattle.reserving.specs.declared.settle.Settled.{Settled}
 use Rattle.ledger.specs.Ledger.{Ledger, uses_in, next_charge}
 use Rattle.ledger.specs.Ledger.Fact.{Grant, End, Use}
 use Rattle.ledger.specs.Charges.{charge_of, charge_rows}
-use Rattle.ledger.specs.Requests.{recorded, touched, closed, credited, with_bar}
+use Rattle.ledger.specs.Requests.{recorded, touched, closed, credited}
 use Rattle.ledger.specs.Pricing.{validity_of}
 use Rattle.ledger.specs.Balance.{buckets_at, holds_at}
 use Rattle.rating.specs.declared.report.Rated.{Rated}
@@ -56,10 +56,6 @@ pub charge_rows-credited : (t : ℕ) (kind : BucketKind) (from until : ℕ) (sco
     (amount : ℕ) (ledger : Ledger) →
     charge_rows (credited t kind from until scope amount ledger) ≡ charge_rows ledger
 charge_rows-credited t kind from until scope amount ledger = append-nil (charge_rows ledger)
-
-pub charge_rows-barred : (t : ℕ) (barred : Bool) (ledger : Ledger) →
-    charge_rows (with_bar t barred ledger) ≡ charge_rows ledger
-charge_rows-barred t barred ledger = append-nil (charge_rows ledger)
 
 -- a reservation ends
 pub charge_rows-ended : (t : ℕ) (s : List ℕ) (g : ℕ) (ledger : Ledger) →

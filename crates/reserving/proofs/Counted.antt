@@ -23,10 +23,6 @@ use Rattle.reserving.proofs.rows.Touching.{SameMoney, same_more, unknown-same, I
 pub has_none : {A : Type 0} (P : A → Type 0) (o : Option A) → o ≡ None → IfSome o P
 has_none P o e = subst (λ x. IfSome x P) (sym e) tt
 
-pub none_from : {A : Type 0} (o : Option A) → is_none o ≡ true → o ≡ None
-none_from None e = refl
-none_from (Some x) e = absurd (true≢false (sym e))
-
 -- where the newest of a kind is none, there was none before
 pub rest_none : {A : Type 0} (x y : Option A) → or_else x y ≡ None → y ≡ None
 rest_none None y e = e

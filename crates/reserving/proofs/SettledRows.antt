@@ -254,10 +254,6 @@ ended_other s g s' g' h a b =
         (sym (key_group a b s g q) ∙ key_group a b s' g' e) in
         cc
 
-and_not : (x : Bool) → (x && not x) ≡ false
-and_not true = refl
-and_not false = refl
-
 abbrev pub parts_paid : (ℕ → ℕ) → ℕ → List ℕ → ℕ → Due → Ledger → List HeldAmount
 parts_paid v t session group due ledger =
     parts (paid (holds_at v t session group ledger) group t due (buckets_at v t ledger))

@@ -1,6 +1,6 @@
 -- Rows that are written over those with their keys: what is found, and what is kept.
 use Rattle.std.proofs.Common.{◌≡◌, ◌≤◌, ℕ, ◌+◌, ◌==◌, ◌&&◌, Bool, true, false, List, [], ◌∷◌}
-use Rattle.std.proofs.Common.{Option, Some, None, refl, sym, ap, ◌∙◌, arith, subst, cond, nat_lt}
+use Rattle.std.proofs.Common.{Some, refl, sym, ap, ◌∙◌, arith, cond, nat_lt}
 use Rattle.std.proofs.Common.{eqb-true, leb-true, nat_le, length, get_or, ◌<◌}
 use Prim.Native.Nat.{suc, zero}
 use Rattle.std.specs.Prelude.{if◌then◌else◌, filter, map, unwrap_or, sum_by, is_some, Result, Ok}
@@ -9,7 +9,6 @@ use Rattle.std.specs.List.{list_all, find}
 use Rattle.std.proofs.lemmas.Bool.{and_parts}
 use Rattle.buckets.specs.declared.holds.HeldAmount.{HeldAmount}
 use Rattle.buckets.specs.Row.{BucketRow}
-use Rattle.buckets.specs.Share.{parts}
 use Rattle.buckets.specs.Holding.{held_in}
 use Rattle.buckets.specs.Spend.{Each, IsSound, IsBelow}
 use Rattle.reserving.specs.declared.session.Session.{Session}
@@ -66,9 +65,6 @@ EachIn-written P before same (x ∷ xs) rows n h =
 find_alike : {A : Type 0} (q r : A → Bool) → ((y : A) → q y ≡ r y) → (xs : List A) →
     find q xs ≡ find r xs
 find_alike q r e xs = λ i. find (λ y. e y i) xs
-
-found_first : {A : Type 0} (o : Option A) (x : A) → o ≡ None → Some x ≡ first_of o (Some x)
-found_first o x e = ap (λ u. first_of u (Some x)) (sym e)
 
 pub find_written : {A : Type 0} (before same : A → A → Bool) (q : A → Bool) →
     ((x : A) → same x x ≡ true) → ((x y : A) → q x ≡ true → q y ≡ same x y) →

@@ -20,7 +20,7 @@ use Rattle.keepers.specs.declared.fault.StoreFault.TheVariants.{Memory as NoMemo
 use Rattle.keepers.specs.declared.fault.StoreFault.TheVariants.{Store as Failed}
 use Rattle.sql_tables.specs.Statements.{OnlyReads}
 use Rattle.sql_keeper.specs.AddsBook.{AddsBook, AddsToAll, BecomesDated, IsAddFault}
-use Rattle.sql_keeper.specs.AddsBook.{IsAdded, IsBehind, IsOnBoth, IsTextFault}
+use Rattle.sql_keeper.specs.AddsBook.{IsAdded, IsBehind, IsOnBoth}
 use Rattle.sql_keeper.specs.AddsBook.{AreTakenBack, LeavesDated, add_told, last_at, was_added}
 use Rattle.sql_keeper.specs.Asks.{IsHanded}
 use Rattle.sql_keeper.specs.Books.{IsBookOf}
@@ -52,14 +52,6 @@ fault_told o (Ok x) told memory = tt
 fault_told None (Err f) told memory = λ other.
     absurd (other (let is = memory refl in let same : f ≡ Memory = cc in same))
 fault_told (Some e) (Err f) told memory = λ other. let same : f ≡ e = cc told in ap Some (sym same)
-
-pub some_later : (s after : Shelf) (from : ℕ) (b : Book) → after ≡ with_book s from b →
-    1 ≤ length after.later
-some_later s after from b is =
-    let long : length after.later ≡ length s.later + 1 =
-    ap (λ (x : Shelf). length x.later) is
-    ∙ length-append s.later (record { from = from; book = b } ∷ []) in
-    omega (arith, long)
 
 one_more : (s after : Shelf) (from : ℕ) (b : Book) → after ≡ with_book s from b →
     count after ≡ suc (count s)
@@ -246,44 +238,12 @@ handed_all {A} {E} from text b old new before after own own' (Err e) (Err f) h a
   told = a.told;
 }
 
--- the text is no book's
-text_told : (text : List ℕ) (from : ℕ) (s : Shelf) (last : ℕ) (f : AddFault) → IsTextFault text f
-    → IsAddFault text from s last f
-text_told text from s last (OfBook fault) told = told
-text_told text from s last (OfShelf fault) told = absurd told
-text_told text from s last (OfStore fault) told = absurd told
-
-text_counts : {A B : Type 0} (text : List ℕ) (f : AddFault) → IsTextFault text f →
-    (r : Result A AddFault) → r ≡ Err f → IsErrOf r (OfStore Failed) → B
-text_counts text (OfBook fault) told r is e = absurd (cc)
-text_counts text (OfShelf fault) told r is e = absurd told
-text_counts text (OfStore fault) told r is e = absurd told
-
 -- the store's fault that is reported
 abbrev fault_in : {A : Type 0} → Result A AddFault → StoreFault
 fault_in (Ok x) = Failed
 fault_in (Err (OfBook fault)) = Failed
 fault_in (Err (OfShelf fault)) = Failed
 fault_in (Err (OfStore fault)) = fault
-
-pub no_text : {S A : Type 0} (g : Ghosts S) (text : List ℕ) (from : ℕ) (k : KeeperState S)
-    (shelf : Shelf) (f : AddFault) → IsTextFault text f
-    → AddsBook {A = A} g text from k k shelf shelf (Err f)
-no_text g text from k shelf f told = record {
-  added = λ clean. tt;
-  own = tt;
-  numbered = tt;
-  done = λ clean. tt;
-  shelf = refl;
-  kept = refl;
-  tables = λ clean. refl;
-  told = λ clean. text_told text from shelf (tables_in g k).last f told;
-  cleanness = λ clean. clean;
-  counts = omega arith;
-  cause = text_counts text f told (Err f) refl;
-  whole = record { left = λ clean db may. inl may };
-  follows = record { left = λ clean db may. inl may };
-}
 
 module _ {S : Type 0} (g : Ghosts S) (old new : KeeperState S) (text : List ℕ) (from : ℕ)
     (b : Book) (read : IsBookOf text b) (before after own own' : Shelf)

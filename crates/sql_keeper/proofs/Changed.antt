@@ -19,18 +19,17 @@ use Rattle.ledger.specs.declared.terms.Terms.{Terms}
 use Rattle.reserving.specs.Sessions.{session_in, is_session, is_of, is_open, group_in, holds_in}
 use Rattle.ledger.specs.Lists.{EachIn}
 use Rattle.reserving.specs.Rows.{AreApart}
-use Rattle.reserving.specs.Stored.{StoredRows, IsStored}
+use Rattle.reserving.specs.Stored.{StoredRows}
 use Rattle.reserving.specs.Left.{is_open_row, first_of}
 use Rattle.reserving.proofs.Lists.{find-passes, EachIn-found, EachIn-weaker}
 use Rattle.commands.specs.declared.key.Key.{Key}
 use Rattle.commands.specs.declared.key.Key.TheVariants.{Request, Reference}
 use Rattle.commands.specs.Keys.{same_key, key_of}
 use Rattle.keepers.specs.Keyed.{same_bucket, same_counter, same_session, same_group}
-use Rattle.keepers.proofs.Found.{distinct_apart}
 use Rattle.keepers.specs.declared.kept_answer.KeptAnswer.{KeptAnswer}
 use Rattle.keepers.specs.declared.loaded.Change.{Change}
 use Rattle.keepers.specs.declared.loaded.Redeemed.{Redeemed}
-use Rattle.keepers.specs.Tables.{GroupRow, group_row, charge_in}
+use Rattle.keepers.specs.Tables.{group_row, charge_in}
 use Rattle.keepers.specs.Tables as tables
 use Rattle.keepers.specs.Change.{over, held_over, kept_after, redeemed_over, changed}
 use Rattle.keepers.specs.Naming.{IsNamed}
@@ -73,15 +72,6 @@ pub record AreKeyed (w : StoredRows) : Type 0 where
   pub counters : AreApart same_counter w.counters
   pub sessions : AreApart same_session w.sessions
   pub groups : AreApart same_group w.groups
-
-pub keyed : (w : StoredRows) → IsStored w → AreKeyed w
-keyed w h = record {
-  buckets = distinct_apart w.buckets h.sound.distinct;
-  scoped = scoped w.buckets h.sound.balanced;
-  counters = h.counters;
-  sessions = h.sessions;
-  groups = h.groups;
-}
 
 -- all but the groups
 abbrev pub without_groups : StoredRows → StoredRows
@@ -270,18 +260,6 @@ module _ (names : Names) (among : List Session) (w : StoredRows) (r : TableRows)
     groups = λ s g. groups_read s g i;
     holds = λ s g n. holds_read s g n i;
   }
-
--- a session that is named by no group of those that are stored: what was loaded and isn't written
--- has no reservation, and its session isn't written either
-pub free_settled : (names : Names) (w : StoredRows) (r : TableRows) →
-    ((s : List ℕ) (g : ℕ) (x : GroupRow) → (told_rows names r).groups s g ≡ Some x →
-    group_in s g w.groups ≡ None → (x.terms ≡ None) × (session_in s w.sessions ≡ None)) →
-    AreSettled w.sessions w.groups r
-free_settled names w r free s g y there none = inl
-    (ap (λ o. is_open_row (first_of o (r.sessions s)))
-    (free s g (stored_group_in names (is_open_row (r.sessions s)) (r.grant_books s g) y)
-    (ap (option_map (stored_group_in names (is_open_row (r.sessions s)) (r.grant_books s g))) there)
-    none).1)
 
 -- so of each session that is named by itself
 pub settled_each : (sessions : List Session) (groups : List SessionGroup) (r : TableRows) →

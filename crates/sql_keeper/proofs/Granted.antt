@@ -232,26 +232,6 @@ still_inside old mid u inside still clean on =
     let same = still.done clean in
     same.0.mode ∙ inside (omega (arith, still.survives.clean, clean)) same.0.was_open
 
--- what was done, with another answer, and what wasn't
-pub done_still : {A B E F : Type 0} (does : State → State → Type 0) (old new : State) (u : A)
-    (v : B) → Attempts {A = A} {E = E} does old new (Ok u)
-    → Attempts {A = B} {E = F} does old new (Ok v)
-done_still does old new u v a =
-    record { done = a.done; kept = λ clean. tt; survives = a.survives }
-
-pub failed_still : {A B E F : Type 0} (does : State → State → Type 0) (old new : State) (e : E)
-    (f : F) → Attempts {A = A} {E = E} does old new (Err e)
-    → Attempts {A = B} {E = F} does old new (Err f)
-failed_still does old new e f a =
-    record { done = λ clean. tt; kept = a.kept; survives = a.survives }
-
--- what wasn't done is no other thing either
-pub no_grants : {A B E : Type 0} (does tells : State → State → Type 0) (old new : State) (e : E)
-    → Attempts {A = A} {E = E} does old new (Err e)
-    → Attempts {A = B} {E = E} tells old new (Err e)
-no_grants does tells old new e a =
-    record { done = λ clean. tt; kept = a.kept; survives = a.survives }
-
 -- ---- those of a list, then one statement
 
 module _ (f g : TablesContent → TablesContent) (a b c : State) where

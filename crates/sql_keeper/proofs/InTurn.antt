@@ -82,14 +82,3 @@ pub gathers_made : {A B E : Type 0} (P : Trees → A → Type 0) (told : Trees �
 gathers_made {A} {B} {E} P told old new x r h to =
     gathers_from told old new r (have_gathered {A = A} {E = E} P old new x h)
     (λ clean on. to old.now.trees (h.found clean on))
-
--- the same of one read
-pub reads_made : {A B E : Type 0} (P : Trees → A → Type 0) (told : Trees → B → Type 0)
-    (old new : State) (x : A) (r : Result B E) → Reads {A = A} {E = E} P old new (Ok x)
-    → ((trees : Trees) → P trees x → IfOk r (told trees)) → Reads told old new r
-reads_made P told old new x r h to = record {
-  found = λ clean. to old.now.trees (h.found clean);
-  only = h.only;
-  stays = λ clean. on_ok r (h.stays clean);
-  survives = h.survives;
-}

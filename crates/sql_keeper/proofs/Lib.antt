@@ -2,7 +2,6 @@ pub mod Added
 pub mod AddedBooks
 pub mod Again
 pub mod Asked
-pub mod Beside
 pub mod BookPlaces
 pub mod BookTexts
 pub mod Brought

@@ -1,5 +1,5 @@
 -- A keeper that is made or opened, and what was read of its database.
-use Rattle.std.proofs.Common.{◌≡◌, ◌≤◌, ◌⊎◌, inl, inr, ◌∙◌, ap, refl, sym, subst, ℕ, List, Some}
+use Rattle.std.proofs.Common.{◌≡◌, ◌≤◌, ◌⊎◌, inr, ◌∙◌, ap, refl, sym, subst, ℕ, List, Some}
 use Rattle.std.proofs.Common.{IsTrue, true, false, arith, ◌<◌, Bool, nat_lt, ltb-true}
 use Rattle.std.proofs.Common.{ltb-false}
 use Rattle.std.specs.Prelude.{◌^◌, Ok, Err, Result, IfErr, IfOk, map, Vec}
@@ -33,9 +33,7 @@ use Rattle.sql_tables.specs.Opens.{IsFound, IsNoVersion, IsOpenFaultTold}
 use Rattle.sql_tables.specs.declared.fault.OpenFault.{OpenFault}
 use Rattle.sql_tables.specs.declared.fault.OpenFault.TheVariants.{Foreign, Version, Rules, Older}
 use Rattle.sql_tables.specs.declared.fault.OpenFault.TheVariants.{Memory as Memory'}
-use Rattle.sqlite_schema.specs.declared.schema.Schema.{Schema}
-use Rattle.sql_tables.specs.Ours.{has_ours}
-use Rattle.sql_keeper.specs.Books.{IsBookOf, IsBookText}
+use Rattle.sql_keeper.specs.Books.{IsBookOf}
 use Rattle.sql_keeper.specs.Causes.{AreUnruled, HasFault, IsOtherThan, IsStores, IsUnruledMeta}
 use Rattle.keepers.specs.Tables.{no_tables}
 use Rattle.sql_keeper.specs.Content.{last_in, tables_of}
@@ -49,42 +47,13 @@ use Rattle.sql_keeper.specs.OlderVersions.{IsNotLatest}
 use Rattle.sql_keeper.specs.Shelves.{HasShelf, IsAlone, IsNoShelf, IsShelfOf, IsShelfRead}
 use Rattle.sql_keeper.specs.declared.books.ReadBooks.{ReadBooks}
 use Rattle.sql_keeper.specs.declared.create_fault.CreateFault.{CreateFault}
-use Rattle.sql_keeper.specs.declared.create_fault.CreateFault.TheVariants.{Store, Memory}
 use Rattle.sql_keeper.proofs.Again.{alone_shelf}
 use Rattle.sql_keeper.proofs.Causes.{caused, ruled_row}
 use Rattle.sql_keeper.proofs.Shelved.{shelf_ruled}
 use Rattle.sql_keeper.proofs.InTurn.{have_read, have_read_then}
-use Rattle.sql_keeper.proofs.Whole.{not_shut, survives_self}
+use Rattle.sql_keeper.proofs.Whole.{not_shut}
 
 -- ---- the tables of a book
-
-pub untouched : {A E : Type 0} (text : List ℕ) (s : State) (e : E)
-    → CreatesBook {A = A} {E = E} text s s (Err e)
-untouched text s e = record {
-  done = λ clean. tt;
-  kept = λ clean on. record { was_open = on; now_is = refl; committed_is = refl };
-  survives = survives_self s (IsNewBook text);
-}
-
-pub made_still : {A B E F : Type 0} (text : List ℕ) (old new : State) (u : A) (v : B)
-    → CreatesBook {A = A} {E = E} text old new (Ok u)
-    → CreatesBook {A = B} {E = F} text old new (Ok v)
-made_still text old new u v c =
-    record { done = c.done; kept = λ clean on. tt; survives = c.survives }
-
-pub refused_still : {A B E F : Type 0} (text : List ℕ) (old new : State) (e : E) (f : F)
-    → CreatesBook {A = A} {E = E} text old new (Err e)
-    → CreatesBook {A = B} {E = F} text old new (Err f)
-refused_still text old new e f c =
-    record { done = λ clean. tt; kept = c.kept; survives = c.survives }
-
--- what the store reports is reported of a book and of tables that aren't there
-pub store_told : (text : List ℕ) (schema : Schema) (f : CreateFault) → (f ≡ Store) ⊎ (f ≡ Memory)
-    → has_ours schema ≡ false → IsBookText text → IsCreateFault text schema f
-store_told text schema f (inl is) none book =
-    subst (IsCreateFault text schema) (sym is) (book, none)
-store_told text schema f (inr is) none book =
-    subst (IsCreateFault text schema) (sym is) (book, none)
 
 -- ---- a keeper before its first call
 

@@ -1,18 +1,17 @@
 -- A store that is stopped where it is and opened again, and what a change leaves over a stop.
-use Rattle.std.proofs.Common.{◌≡◌, ◌≤◌, ◌⊎◌, inl, inr, ◌∙◌, ap, sym, subst, arith, IsTrue}
+use Rattle.std.proofs.Common.{◌≡◌, ◌⊎◌, inl, inr, ◌∙◌, ap, sym, subst, arith}
 use Rattle.std.specs.Prelude.{IfOk, OnOk, Ok, Err, Result}
 use Rattle.sqlite_trees.specs.Tree.{Trees}
-use Rattle.sqlite_trees.specs.View.{IsClean as IsHonest, IsQuiet, IsReopened, doubt}
 use Rattle.sqlite_trees.specs.declared.store.Store.{Ghosts}
 use Rattle.sqlite.specs.Held.{Held, state}
-use Rattle.sqlite.specs.State.{HasCleanDisk, IsLive, Opens}
+use Rattle.sqlite.specs.State.{HasCleanDisk}
 use Rattle.shelves.specs.Shelves.{Shelf}
 use Rattle.keepers.specs.Change.{changed}
 use Rattle.keepers.specs.declared.fault.StoreFault.{StoreFault}
 use Rattle.keepers.specs.declared.loaded.Change.{Change}
 use Rattle.sql_tables.specs.declared.fault.OpenFault.{OpenFault}
 use Rattle.sql_rows.specs.Content.{tables_content}
-use Rattle.sql_keeper.specs.Again.{IsChangedWhole, IsFoundAfter, IsLeftFresh, IsShownBy}
+use Rattle.sql_keeper.specs.Again.{IsChangedWhole, IsFoundAfter}
 use Rattle.sql_keeper.specs.Again.{ShowsStopped}
 use Rattle.sql_keeper.specs.Causes.{IsStores}
 use Rattle.sql_keeper.specs.Commits.{Becomes}
@@ -29,50 +28,6 @@ use Rattle.sql_keeper.specs.Settled.{AreSettled}
 use Rattle.sql_keeper.proofs.Stopped.{one_kept, opened_again, stopped_whole}
 
 -- ---- the store and the connection
-
-pub left_fresh : {S : Type 0} (g : Ghosts S) (old : Held S) (mid new : S)
-    → (IsHonest (g.view mid) → IsTrue (g.view mid).is_numbered)
-    → IsQuiet g.view g.faults g.recovers g.is_shielded old.store mid
-    → doubt (g.view mid).is_clean ≤ doubt (g.view new).is_clean
-    → (IsHonest (g.view new) → g.recovers mid (g.view new).committed)
-    → IsReopened (g.view mid) (g.view new) → IsHonest (g.view new) → IsLeftFresh g old new
-left_fresh g old mid new numbered quiet falls found reopened clean =
-    let before : IsHonest (g.view mid) = omega (arith, falls, clean) in
-    record {
-      honest = omega (arith, quiet.clean, before);
-      may = subst (g.recovers old.store) (sym reopened.clean)
-          (quiet.outcomes (g.view new).committed (found clean));
-      fresh = record {
-        sound = reopened.sound clean;
-        numbered = subst IsTrue (sym reopened.numbered) (numbered before);
-        clean = reopened.clean;
-        unmarked = reopened.unmarked clean;
-      };
-    }
-
-pub shown_by : {S : Type 0} (g : Ghosts S) (store : S) (new : Held S)
-    → (HasCleanDisk (state g new) → Opens (state g new) × IsLive (state g new))
-    → doubt (g.view store).is_clean ≤ doubt (state g new).is_clean
-    → (HasCleanDisk (state g new) → (state g new).now.trees ≡ (g.view store).trees)
-    → HasCleanDisk (state g new) → IsShownBy g store new
-shown_by g store new opens falls trees clean = record {
-  honest = omega (arith, falls, clean);
-  trees = trees clean;
-  sound = let it = opens clean in (it.1 it.0.is_open).0;
-}
-
-pub shows_stopped : {S : Type 0} (g : Ghosts S) (old : Held S) (store : S) (new : Held S)
-    → (IsHonest (g.view store) → IsLeftFresh g old store)
-    → (HasCleanDisk (state g new) → IsShownBy g store new)
-    → HasCleanDisk (state g new) → ShowsStopped g old new
-shows_stopped g old store new left shown clean =
-    let it = shown clean in
-    let was = left it.honest in
-    record {
-      honest = was.honest;
-      may = subst (state g old).may_leave (sym it.trees) was.may;
-      sound = it.sound;
-    }
 
 -- ---- the keeper
 

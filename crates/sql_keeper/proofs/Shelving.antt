@@ -1,72 +1,30 @@
 -- The shelf of a text and of rows, as its books are read one after another.
 use Rattle.std.proofs.Common.{◌≡◌, ◌≤◌, ◌<◌, ◌⊎◌, inl, inr, ◌+◌, ◌∙◌, ◌++◌, ◌&&◌, ◌||◌, ℕ, suc}
-use Rattle.std.proofs.Common.{Bool, true, false, not, List, [], ◌∷◌, Option, Some, None, Ok, cond}
+use Rattle.std.proofs.Common.{Bool, true, false, not, List, [], ◌∷◌, Option, Some, None, cond}
 use Rattle.std.proofs.Common.{refl, sym, ap, ap₂, subst, arith, length, length-append, nat_eq}
 use Rattle.std.proofs.Common.{eq-eqb, eqb-true, map}
 use Rattle.std.specs.Prelude.{option_map, nat_le, if◌then◌else◌, ◌==◌}
 use Rattle.std.specs.List.{find, list_all}
-use Rattle.std.specs.Str.{IsUtf8}
 use Rattle.std.proofs.lemmas.Bool.{and_parts, and_from}
 use Rattle.std.proofs.lemmas.Bool.Decides.{nat_tests}
-use Rattle.tariffs.specs.declared.fault.BookFault.{BookFault}
-use Rattle.tariffs.specs.declared.fault.BookFault.TheVariants.{Memory}
-use Rattle.tariffs.specs.Books.{Book, IsDocument, book_of}
+use Rattle.tariffs.specs.Books.{Book}
 use Rattle.shelves.specs.Shelves.{AreInSequence, Follows, IsShelf, Shelf, count, last_book}
-use Rattle.shelves.specs.Shelves.{last_book_of, last_from, last_from_of, one_book, with_book}
+use Rattle.shelves.specs.Shelves.{last_book_of, last_from, last_from_of, with_book}
 use Rattle.shelves.specs.Succession.{shelf_fault}
 use Rattle.shelves.specs.declared.dated.DatedBook.{DatedBook}
-use Rattle.shelves.specs.declared.fault.ShelfFault.{ShelfFault}
 use Rattle.shelves.specs.declared.fault.ShelfFault.TheVariants.{Full, TooEarly, OtherZone}
 use Rattle.shelves.specs.declared.fault.ShelfFault.TheVariants.{GroupMissing, GroupDiffers}
-use Rattle.shelves.specs.declared.fault.ShelfFault.TheVariants.{Memory as NoMemory}
 use Rattle.shelves.proofs.Begun.{unbegun_test}
 use Rattle.sql_rows.specs.Lists.{BookAt}
 use Rattle.sql_rows.specs.Texts.{book_at}
 use Rattle.sql_rows.specs.Values.{BookRow}
 use Rattle.sql_rows.specs.declared.book_rows.BookColumns.{BookColumns}
-use Rattle.sql_keeper.specs.Books.{IsBookFault, IsBookOf}
+use Rattle.sql_keeper.specs.Books.{IsBookOf}
 use Rattle.sql_keeper.specs.Shelves.{AreLater, AreOnly, AreShelved, HasShelf, IsDatedAt, IsDatedOf}
 use Rattle.sql_keeper.specs.Shelves.{IsNoneBehind, IsOnlyAt, IsRefusedRow, IsShelfOf}
 use Rattle.sql_keeper.specs.Shelves.{IsShelfRead, IsShelved, are_up_to, row_numbered}
 
 -- ---- one row
-
-pub row_shelved : (starts : ℕ) (content text : List ℕ) (old new : Shelf) (b : Book)
-    → text ≡ content → starts ≤ 4_102_488_000 → IsUtf8 content → IsBookOf text b
-    → ((x : Book) → IsBookOf text x → b ≡ x) → new ≡ with_book old starts b
-    → IsShelved (record { starts = starts; content = content }) old new
-row_shelved starts content text old new b is range utf8 read only new_is = record {
-  book = b;
-  row = record {
-    dated = record {
-      starts = refl;
-      range = range;
-      utf8 = utf8;
-      book = subst (λ t. IsBookOf t b) is read;
-    };
-    only = λ x of_text. sym (only x (subst (λ t. IsBookOf t x) (sym is) of_text));
-  };
-  new_is = new_is;
-}
-
--- its text is no book's
-pub row_unread : (starts : ℕ) (content text : List ℕ) (s : Shelf) (f : BookFault)
-    → text ≡ content → ¬ (f ≡ Memory) → IsBookFault text f
-    → IsRefusedRow (record { starts = starts; content = content }) s
-row_unread starts content text s f is other fault b read free =
-    let refused = fault.document read.0 (subst (λ x. IsDocument x read.0) (sym is) read.1) other in
-    let given : book_of read.0 ≡ Ok b = read.2 in
-    let both = sym given ∙ refused in cc
-
--- the shelf refuses its book
-pub row_refused : (starts after : ℕ) (content text : List ℕ) (s : Shelf) (b : Book)
-    (f : ShelfFault) → text ≡ content → after ≡ 0
-    → ((x : Book) → IsBookOf text x → b ≡ x) → ¬ (f ≡ NoMemory)
-    → (shelf_fault s starts b after ≡ None → f ≡ NoMemory)
-    → IsRefusedRow (record { starts = starts; content = content }) s
-row_refused starts after content text s b f is none only other memory x of_text free =
-    let same : b ≡ x = only x (subst (λ t. IsBookOf t x) (sym is) of_text) in
-    other (memory (ap₂ (λ y t. shelf_fault s starts y t) same none ∙ free))
 
 -- ---- which book may follow
 
@@ -308,17 +266,6 @@ pub record AreShelvedTo (b : Book) (xs : List BookAt) (n : ℕ) (own other : She
   pub number : n ≡ suc (count own)
   pub same : other ≡ own
 
-pub none_shelved : (xs : List BookAt) (own other : Shelf) → own ≡ one_book own.first
-    → other ≡ own → AreShelvedTo own.first xs 2 own other
-none_shelved xs own other alone same =
-    let none : own.later ≡ [] = ap (λ (s : Shelf). s.later) alone in
-    record {
-      first = refl;
-      later = subst (λ (l : List DatedBook). AreOnly (λ m. row_numbered m xs) 2 l) (sym none) tt;
-      number = let no_book : length own.later ≡ 0 = ap length none in omega (arith, no_book);
-      same = same;
-    }
-
 module _ (b : Book) (xs : List BookAt) (n : ℕ) (own other : Shelf)
     (so : AreShelvedTo b xs n own other) where
   -- the row of the number, if there is one
@@ -393,15 +340,6 @@ no_shelf_read text b xs s only all out shelf =
     numbers_in (count s) xs (subst (λ k. (n : ℕ) → (n < 2) ⊎ (k < n) → row_numbered n xs ≡ None)
     same shelf.1.none) in
     let no : true ≡ false = sym up ∙ out in cc
-
--- the text has no book
-pub no_first : (text : List ℕ) (f : BookFault) → ¬ (f ≡ Memory) → IsBookFault text f
-    → (rows : ℕ → Option BookRow) → HasShelf text rows → ⊥
-no_first text f other fault rows shelf =
-    let read = shelf.1.first in
-    let refused = fault.document read.0 read.1 other in
-    let given : book_of read.0 ≡ Ok shelf.0.first = read.2 in
-    let both = sym given ∙ refused in cc
 
 -- ---- a row more
 

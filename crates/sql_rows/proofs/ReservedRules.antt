@@ -1,13 +1,11 @@
 -- Reservations as they are read: where each is in its rules, no fault of the rules is reported.
-use Rattle.std.proofs.Common.{◌≡◌, inl, inr, ℕ, List, [], ◌∷◌, map, drop, Bool, true, false, ◌&&◌}
-use Rattle.std.proofs.Common.{Some, None, is_eq, refl, sym, ap, ap₂, subst, ◌∙◌, arith, eqb-true}
-use Rattle.std.proofs.Common.{IsTrue, length, nat_eq, nat_le, ◌<◌, zero, suc}
-use Rattle.std.proofs.lemmas.Bool.{and_parts, and_from, leb-true}
+use Rattle.std.proofs.Common.{◌≡◌, inl, inr, ℕ, List, [], ◌∷◌, map, drop, true, false, ◌&&◌}
+use Rattle.std.proofs.Common.{Some, None, is_eq, refl, sym, ap, ap₂, subst, ◌∙◌, eqb-true}
+use Rattle.std.proofs.Common.{nat_eq}
+use Rattle.std.proofs.lemmas.Bool.{and_parts, and_from}
 use Rattle.std.proofs.lemmas.Cmp.{tied_itself}
-use Rattle.std.proofs.lemmas.Str.{IsUtf8-from_ascii}
 use Rattle.std.specs.Prelude.{option_map, is_some, if◌then◌else◌}
-use Rattle.std.specs.List.{AllByRecursion, list_all}
-use Rattle.std.specs.Str.{IsAscii, IsUtf8}
+use Rattle.std.specs.List.{AllByRecursion}
 use Rattle.std.specs.FinMap.{get-from_entries}
 use Rattle.sqlite_value.specs.declared.value.Value.{Value}
 use Rattle.sqlite_value.specs.declared.value.Value.TheVariants.{Text}
@@ -21,7 +19,6 @@ use Rattle.sqlite_trees.specs.Tree.{Trees}
 use Rattle.sqlite_rules.specs.Lists.{Has}
 use Rattle.sqlite_rules.proofs.ListLemmas.{all_has}
 use Rattle.sqlite.specs.State.{State}
-use Rattle.identifiers.specs.Texts.{is_account_number, is_digit, is_session_id, is_visible}
 use Rattle.sql_tables.specs.Keyed.{IsStored, entries_of, look}
 use Rattle.sql_tables.specs.Schema.{book_schema, key_index, session_groups}
 use Rattle.sql_tables.specs.Statements.{Answers}
@@ -200,22 +197,3 @@ all_refused old new rows got refused ruled =
     refused it.xs it.are (all_ruled old.now.trees ruled it.xs it.stand)
 
 -- ---- texts of bytes below 128 are texts of characters
-
-below : (test : ℕ → Bool) → ((b : ℕ) → test b ≡ true → b < 128) → (s : List ℕ)
-    → list_all test s ≡ true → IsAscii s
-below test low [] h i = omega arith
-below test low (b ∷ s) h zero = low b (and_parts (test b) (list_all test s) h).0
-below test low (b ∷ s) h (suc i) =
-    below test low s (and_parts (test b) (list_all test s) h).1 i
-
-pub session_utf8 : (s : List ℕ) → IsTrue (is_session_id s) → IsUtf8 s
-session_utf8 s h =
-    IsUtf8-from_ascii s (below is_visible (λ b v. let high =
-    leb-true b 126 (and_parts (nat_le 33 b) (nat_le b 126) v).1 in omega (arith, high)) s
-    (and_parts (nat_le 1 (length s) && nat_le (length s) 128) (list_all is_visible s) h).1)
-
-pub account_utf8 : (s : List ℕ) → IsTrue (is_account_number s) → IsUtf8 s
-account_utf8 s h =
-    IsUtf8-from_ascii s (below is_digit (λ b v. let high =
-    leb-true b 57 (and_parts (nat_le 48 b) (nat_le b 57) v).1 in omega (arith, high)) s
-    (and_parts (nat_le 1 (length s) && nat_le (length s) 15) (list_all is_digit s) h).1)

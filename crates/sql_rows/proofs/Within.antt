@@ -1,6 +1,6 @@
 -- Selections within a transaction, one after another, and what is made of what they answer.
 use Rattle.std.proofs.Common.{◌∙◌, Result, Ok, Err, IfOk, OnErr, ap, refl, subst, sym}
-use Rattle.std.proofs.Common.{IsTrue, arith, true≢false}
+use Rattle.std.proofs.Common.{arith, true≢false}
 use Rattle.std.specs.Result.{IsErr}
 use Rattle.sqlite_trees.specs.Tree.{Trees}
 use Rattle.sqlite.specs.Effect.{Database}
@@ -118,31 +118,7 @@ pub record TellWithin (P : Trees → Type 0) (old new : State) : Type 0 where
   pub found : HasCleanDisk new → P old.now.trees
   pub have : HaveWithin old new
 
-pub tell_within : {A E : Type 0} (told : Trees → A → Type 0) (old new : State) (x : A)
-    → ReadsWithin {A = A} {E = E} told old new (Ok x) → TellWithin (λ trees. told trees x) old new
-tell_within {A} {E} told old new x h =
-    record { found = h.found; have = have_within {A = A} {E = E} told old new x h }
-
-pub tell_then : (P Q : Trees → Type 0) (old mid new : State) → TellWithin P old mid
-    → TellWithin Q mid new → TellWithin (λ trees. P trees × Q trees) old new
-tell_then P Q old mid new one two = record {
-  found = λ clean.
-      let before : HasCleanDisk mid = omega (arith, two.have.survives.clean, clean) in
-      (one.found before, told_since Q old mid (one.have.same before) (two.found clean));
-  have = have_within_then old mid new one.have two.have;
-}
-
--- what is made of all that they said
-pub made_within : {A E : Type 0} (P : Trees → Type 0) (told : Trees → A → Type 0)
-    (old new : State) (r : Result A E) → TellWithin P old new
-    → ((trees : Trees) → P trees → IfOk r (told trees)) → ReadsWithin told old new r
-made_within P told old new r h to =
-    within_from told old new r h.have (λ clean. to old.now.trees (h.found clean))
-
 -- ---- what stays
-
-pub open_still : (old new : State) → HaveWithin old new → HasCleanDisk new → IsTrue new.is_open
-open_still old new have clean = (have.same clean).0.is_open
 
 pub book_still : (old new : State) → HaveWithin old new → HasBook old → HasBook new
 book_still old new have book clean on =

@@ -1,16 +1,13 @@
 -- A row is the list of its columns, and texts and numbers in SQL's tests.
-use Rattle.std.proofs.Common.{◌≡◌, ◌≢◌, ℕ, pos, suc, [], ◌∷◌, false, length}
-use Rattle.std.proofs.Common.{Some, None, Option, is_eq, refl, ap, ap₂, ◌∙◌, arith}
-use Rattle.std.specs.Prelude.{MatchOption}
+use Rattle.std.proofs.Common.{◌≡◌, ℕ, suc, [], ◌∷◌, false, length}
+use Rattle.std.proofs.Common.{is_eq, refl, ap, ap₂, ◌∙◌, arith}
 use Rattle.std.proofs.lemmas.Cmp.{tied_back}
 use Rattle.sqlite_value.specs.declared.value.Value.{Value}
-use Rattle.sqlite_value.specs.declared.value.Value.TheVariants.{Null, Int}
 use Rattle.sqlite_value.specs.declared.keys.Collation.TheVariants.{Binary}
 use Rattle.sqlite_value.specs.Order.{Row, column, value_cmp}
 use Rattle.sqlite_value.proofs.OrderLemmas.{value_cmp_total}
 use Rattle.sqlite_sql.specs.Ops.{is_null}
 use Rattle.sqlite_schema.specs.Rules.{equal}
-use Rattle.sqlite.specs.Values.{or_null}
 use Rattle.sql_tables.proofs.Steps.{same_test}
 use Rattle.sql_tables.proofs.Ties.{equal_is, equal_present}
 
@@ -38,9 +35,3 @@ tie_turned v w = same_test _ _
 -- SQL's equality with a value that isn't NULL
 pub equal_turned : (v w : Value) → is_null w ≡ false → equal Binary v w ≡ is_eq (value_cmp w v)
 equal_turned v w full = equal_present v w full ∙ tie_turned v w
-
-pub optional_is : (v : Value) (o : Option ℕ) →
-    MatchOption o (v ≡ Null) (λ n. (v ≢ Null) × (v ≡ Int (pos n))) → v ≡
-    or_null (λ n. Int (pos n)) o
-optional_is v None e = e
-optional_is v (Some n) e = e.1

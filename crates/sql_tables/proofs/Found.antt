@@ -70,7 +70,3 @@ pub apart_if : {A : Type 0} (p q : Bool) (x y : A) →
     (if p && q then x else y) ≡ (if p then (if q then x else y) else y)
 apart_if true q x y = refl
 apart_if false q x y = refl
-
-pub same_if : {A : Type 0} (p : Bool) (x y : A) → x ≡ y → x ≡ (if p then y else y)
-same_if true x y e = e
-same_if false x y e = e

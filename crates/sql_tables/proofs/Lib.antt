@@ -3,7 +3,6 @@ pub mod ByKey
 pub mod Casts
 pub mod Columns
 pub mod Counted
-pub mod Coupled
 pub mod Creates
 pub mod Found
 pub mod Indexed

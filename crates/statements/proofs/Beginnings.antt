@@ -1,6 +1,6 @@
 -- Beginnings of texts that are written.
 use Rattle.std.proofs.Common.{◌≡◌, ℕ, List, [], ◌++◌, take, drop, refl, sym, ap, ◌∙◌}
-use Rattle.std.proofs.Common.{take-append-drop, append_assoc, append-nil, subst}
+use Rattle.std.proofs.Common.{take-append-drop, append_assoc, subst}
 use Rattle.std.specs.Prelude.{Option}
 use Rattle.std.specs.Io.KnownBytes.{Appends}
 use Rattle.std.proofs.KnownBytes.{Appends-nil, Appends-trans}
@@ -58,33 +58,3 @@ pub record Remains (old new : Option (List ℕ)) (text left : List ℕ) : Type 0
   pub part : List ℕ
   pub written : Appends old new part
   pub whole : text ≡ part ++ left
-
-pub all_left : (a : Option (List ℕ)) (text : List ℕ) → Remains a a text text
-all_left a text = record { part = []; written = Appends-nil a; whole = refl }
-
-pub one_part : (a b c : Option (List ℕ)) (text next left : List ℕ) →
-    Remains a b text (next ++ left) → Appends b c next → Remains a c text left
-one_part a b c text next left h p = record {
-  part = h.part ++ next;
-  written = Appends-trans a b c h.part next h.written p;
-  whole = h.whole ∙ sym (append_assoc h.part next left);
-}
-
-pub part_begun : (a b c : Option (List ℕ)) (text next left : List ℕ) →
-    Remains a b text (next ++ left) → WritesBeginning b c next → WritesBeginning a c text
-part_begun a b c text next left h p = record {
-  part = h.part ++ p.part;
-  rest = p.rest ++ left;
-  written = Appends-trans a b c h.part p.part h.written p.written;
-  whole = h.whole ∙ ap (λ l. h.part ++ (l ++ left)) p.whole
-      ∙ ap (λ l. h.part ++ l) (append_assoc p.part p.rest left)
-      ∙ sym (append_assoc h.part p.part (p.rest ++ left));
-}
-
-pub part_only : {a b : Option (List ℕ)} {text left : List ℕ} → Remains a b text left →
-    WritesBeginning a b text
-part_only {a} {b} {text} {left} h =
-    record { part = h.part; rest = left; written = h.written; whole = h.whole }
-
-pub nothing_left : {a b : Option (List ℕ)} {text : List ℕ} → Remains a b text [] → Appends a b text
-nothing_left {a} {b} h = subst (Appends a b) (sym (h.whole ∙ append-nil h.part)) h.written

@@ -74,10 +74,6 @@ pub record AreFirst (count : ℕ) (tiers : List Tier) : Type 0 where
   pub rises : length tiers < count → RisesTo 0 tiers (last_bound tiers)
   pub whole : length tiers ≡ count → IsOpen tiers × IsRisingFrom 0 tiers
 
-pub first_none : (count : ℕ) → 0 < count → AreFirst count []
-first_none count some =
-    record { priced = tt; rises = λ lt. refl; whole = λ is. absurd (omega (arith, is)) }
-
 bounds_rise : (above : ℕ) (tiers : List Tier) (tier : Tier) (upto : Option ℕ) → tier.upto ≡ upto →
     IsBoundAfter false (last_bound tiers) upto → RisesTo above tiers (last_bound tiers) →
     RisesTo above (tiers ++ tier ∷ []) (last_bound (tiers ++ tier ∷ []))
@@ -117,14 +113,3 @@ pub first_goes_on : (count : ℕ) (tiers : List Tier) (tier : Tier) → length t
     AreFirst count (tiers ++ tier ∷ [])
 first_goes_on count tiers tier lt priced bounded first =
     first_more count tiers tier (length tiers + 1 == count) refl lt priced bounded first
-
--- all of them
-pub first_all : (count : ℕ) (tiers : List Tier) → count ≤ 8 → length tiers ≡ count →
-    AreFirst count tiers → AreTiers tiers
-first_all count tiers few is first =
-    record {
-      few = omega (arith, is);
-      priced = first.priced;
-      open_end = (first.whole is).0;
-      rising = (first.whole is).1;
-    }

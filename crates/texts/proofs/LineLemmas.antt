@@ -11,9 +11,6 @@ pub record Begins (taken rest stream : List ℕ) : Type 0 where
   pub line : (xs : List ℕ) → line_of (taken ++ xs) ≡ taken ++ line_of xs
   pub after : (xs : List ℕ) → after_line (taken ++ xs) ≡ after_line xs
 
-pub begins_none : (stream : List ℕ) → Begins [] stream stream
-begins_none stream = record { whole = refl; line = λ xs. refl; after = λ xs. refl }
-
 begins_more : (taken rest stream : List ℕ) (b : ℕ) → (b == 10) ≡ false →
     Begins taken (b ∷ rest) stream → Begins (taken ++ b ∷ []) rest stream
 begins_more taken rest stream b h k = record {

@@ -12,14 +12,14 @@ use Rattle.tariffs.specs.GroupPrices.{prices_in}
 use Rattle.tariffs.specs.BookPrices.{prices_at}
 use Rattle.rating.specs.declared.grant.Periods.{Periods}
 use Rattle.ledger.specs.declared.terms.Terms.{Terms}
-use Rattle.shelves.specs.Shelves.{book_at, book_numbered, tariff_in}
+use Rattle.shelves.specs.Shelves.{book_at, book_numbered}
 use Rattle.shelves.proofs.Begun.{last_begun_holds}
 use Rattle.std.specs.Prelude.{option_and_then}
 use Rattle.reserving.specs.declared.session.SessionState.{SessionState}
 use Rattle.reserving.specs.declared.session.SessionGroup.{SessionGroup}
 use Rattle.reserving.specs.declared.session.Reservation.{Reservation}
 use Rattle.reserving.specs.declared.session.Counter.{Counter}
-use Rattle.ledger.specs.Pricing.{tariff_of, tariff_at, cycle_at, periods_at, terms_at, prices_by}
+use Rattle.ledger.specs.Pricing.{tariff_of, tariff_at, cycle_at, periods_at, terms_at}
 use Rattle.ledger.specs.Pricing.{validity_of}
 use Rattle.reserving.specs.Sessions.{session_in, is_of, group_in, is_counter, is_live_in}
 use Rattle.buckets.specs.Holding.{holds_of}
@@ -94,17 +94,6 @@ prices_there b g p of some =
     by_tariff None e = absurd (false≢true e)
     by_tariff (Some t) e = refl
 
-prices_are : (b : Book) (g : ℕ) (p : Periods) → AreOfBook b p →
-    prices_at b g p.before.0 p.after.0
-    ≡ option_map (λ t. prices_in t p.before.0 p.after.0) (tariff_of b g)
-prices_are b g p of =
-    let lower = of.before in
-    let upper = of.after in
-    let x : nat_lt p.before.0 (length b.periods) ≡ true = grind (arith, nat_tests) in
-    let y : nat_lt p.after.0 (length b.periods) ≡ true = grind (arith, nat_tests) in
-    λ i. if x i && y i
-    then option_map (λ t. prices_in t p.before.0 p.after.0) (tariff_of b g) else None
-
 -- ---- the prices of a group by the terms of a grant
 
 terms_known : (s : Shelf) (g : ℕ) (x : Terms) → is_some (prices_on s g x) ≡ true → AreOfShelf s x
@@ -123,15 +112,6 @@ terms_there s g x of some =
     ap (λ (o : Option Book).
     is_some (option_and_then (λ b. prices_at b g x.periods.before.0 x.periods.after.0) o)) of.there
     ∙ prices_there of.book g x.periods of.periods some
-
-pub prices_by_terms : (s : Shelf) (g : ℕ) (x : Terms) → AreOfShelf s x →
-    prices_on s g x ≡ option_map (λ t. prices_by t x.periods) (tariff_in s x.book g)
-prices_by_terms s g x of =
-    ap (λ (o : Option Book).
-    option_and_then (λ b. prices_at b g x.periods.before.0 x.periods.after.0) o) of.there
-    ∙ prices_are of.book g x.periods of.periods
-    ∙ sym (ap (λ (o : Option Book).
-    option_map (λ t. prices_by t x.periods) (option_and_then (λ b. tariff_of b g) o)) of.there)
 
 -- the terms of a grant at a moment
 abbrev pub terms_at-of : (s : Shelf) (t : ℕ) → IsShelf s →

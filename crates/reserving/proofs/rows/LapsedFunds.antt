@@ -1,10 +1,9 @@
 -- The funds at a later moment: what is available, and what ended sessions held.
 use Rattle.std.proofs.Common.{◌≡◌, ℕ, ◌+◌, ◌*◌, ◌<◌, ◌≤◌, ◌^◌, Bool, true, false, List, [], ◌∷◌}
-use Rattle.std.proofs.Common.{length, drop, get_or, map, refl, sym, ap, ◌∙◌, arith, None}
+use Rattle.std.proofs.Common.{length, map, refl, sym, ap, ◌∙◌, arith, None}
 use Rattle.std.specs.Prelude.{if◌then◌else◌, not, ◌&&◌}
 use Rattle.std.specs.List.{list_any}
 use Rattle.std.proofs.lemmas.Bool.{or_parts}
-use Rattle.std.proofs.lemmas.List.{drop_more}
 use Rattle.buckets.specs.declared.holds.HeldAmount.{HeldAmount}
 use Rattle.buckets.specs.Row.{BucketRow, IsBalanced, is_eligible, eligible_amount, with_end}
 use Rattle.buckets.specs.Row.{with_release}
@@ -245,13 +244,3 @@ lapsed_funds-most keeps kind group t groups rows short sound held =
       lapsed_sum keeps kind group t groups rows,
       sum_most keeps kind group t groups rows sound.balanced held,
     )
-
--- the next reservation is a part of what is left
-pub lapsed_funds-next : (keeps : List ℕ → Bool) (kind : BucketKind) (group t : ℕ)
-    (groups : List SessionGroup)
-    (i : ℕ) (d : SessionGroup) (rows : List BucketRow) → i < length groups →
-    lapsed_funds keeps kind group t (drop i groups) rows
-    ≡ lapsed_for keeps kind group t (get_or groups i d) rows
-    + lapsed_funds keeps kind group t (drop (i + 1) groups) rows
-lapsed_funds-next keeps kind group t groups i d rows lt =
-    ap (λ rs. lapsed_funds keeps kind group t rs rows) (drop_more groups i d lt)

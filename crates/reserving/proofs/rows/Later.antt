@@ -59,10 +59,6 @@ is_live-later v t1 t2 ledger s le h =
 
 -- ---- the rows of sessions
 
-lapse_by : (v : ℕ → ℕ) (t x : ℕ) (r : Session) (o : Bool) → is_open r.state ≡ o → r.touched ≡ x →
-    lapse v t r ≡ (if o && not (nat_lt t (x + 2 * v x)) then record r { state = Ended } else r)
-lapse_by v t x r o e g = rw (e, g) refl
-
 later_state : (p1 p2 closed : Bool) (s : List ℕ) (n x : ℕ) (v : ℕ → ℕ) (t : ℕ) → (p1 && p2) ≡ p2 →
     nat_lt t (x + 2 * v x) ≡ p2 →
     (let r : Session =

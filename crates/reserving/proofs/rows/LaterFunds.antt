@@ -1,6 +1,6 @@
 -- The funds of a group at a later moment, summed before time goes on.
 use Rattle.std.proofs.Common.{◌≡◌, ℕ, ◌+◌, ◌-◌, Bool, true, false, List, [], ◌∷◌, map, refl, sym}
-use Rattle.std.proofs.Common.{◌∙◌, arith}
+use Rattle.std.proofs.Common.{◌∙◌}
 use Rattle.std.specs.Prelude.{if◌then◌else◌, ◌&&◌, nat_lt, nat_le}
 use Rattle.buckets.specs.Row.{BucketRow, is_eligible, eligible_amount, covers, with_end}
 use Rattle.buckets.specs.Row.{with_release}
@@ -10,9 +10,8 @@ use Rattle.buckets.proofs.Dues.{sum_in-cons}
 use Rattle.buckets.specs.Kinds.{is_alike}
 use Rattle.reserving.specs.declared.session.Session.{Session}
 use Rattle.reserving.specs.declared.session.SessionGroup.{SessionGroup}
-use Rattle.reserving.specs.Sessions.{is_live_in, held_by}
+use Rattle.reserving.specs.Sessions.{is_live_in}
 use Rattle.reserving.specs.Changes.{lapsed_in, amount_later, funds_later}
-use Rattle.reserving.proofs.Advancing.{held_by-split}
 
 -- an eligible bucket hasn't ended, so that what is given up is available
 amount_is : (group t n : ℕ) (b : BucketRow) →
@@ -59,8 +58,3 @@ funds_later-is kind group v t sessions groups (b ∷ bs) =
     (with_end t (with_release t b (lapsed_in (is_live_in v t sessions) groups b)))
     (map (λ x. with_end t (with_release t x (lapsed_in (is_live_in v t sessions) groups x)))
     bs))
-
--- nothing is given up of a bucket of which nothing is held
-pub lapsed_none : (keeps : List ℕ → Bool) (groups : List SessionGroup) (b : BucketRow) →
-    held_by (λ s. true) groups b ≡ 0 → lapsed_in keeps groups b ≡ 0
-lapsed_none keeps groups b e = omega (arith, e, held_by-split keeps b groups)
