@@ -21,13 +21,16 @@ use Rattle.operations.specs.Written.{WritesBeginning}
 use Rattle.operations.proofs.Beginnings.{all_written, nothing_written}
 use Rattle.operations.specs.declared.status.Status.{Status}
 use Rattle.operations.specs.declared.status.Status.TheVariants.{Done, Failed, Unread}
+use Rattle.operator.specs.Arguments.{argument_line}
 use Rattle.operator.specs.Program.{program_app}
 use Rattle.operator.specs.Read.{IsInvalid, IsSaid, IsUnread}
+use Rattle.operator.specs.declared.argument_names.Argument.{Argument}
 use Rattle.operator.specs.declared.fault.WordsFault.{WordsFault}
 use Rattle.operator.specs.declared.fault.WordsFault.TheVariants as fault
 use Rattle.operator.specs.declared.parsed.OnceWords.{OnceWords}
 use Rattle.operator.specs.declared.parsed.ProgramWords.{ProgramWords}
 use Rattle.operator.specs.declared.parsed.ProgramWords.TheVariants as words
+use Rattle.operator.proofs.ProgramLemmas.{one_invalid}
 use Rattle.service.specs.declared.fault.DatabaseFault.{DatabaseFault}
 use Rattle.ocs.specs.Ends.{HasPrinted, IfOnce, IsEnd, IsEndBy, IsEndOf, IsMemory, IsRefused}
 use Rattle.ocs.specs.Ends.{HasBegun}
@@ -288,9 +291,10 @@ true_false e = subst (λ (b : Bool). if_true b) e tt
     if_true true = Unit {0}
     if_true false = ⊥
 
-not_said : (texts : List Text) (said : ProgramWords) → IsSaid texts said → IsInvalid texts → ⊥
+not_said : (texts : List Text) (said : ProgramWords) (argument : Argument) → IsSaid texts said →
+    IsInvalid texts argument → ⊥
 unfolding is_ok
-not_said texts said h k = true_false (ap is_ok (sym h.means ∙ k.means))
+not_said texts said argument h k = true_false (ap is_ok (sym h.means ∙ k.means))
 
 pub end_unread : (texts : List Text) (f : WordsFault) (status : Status) → IsUnread texts f →
     IsEndOf f status → IsEnd texts status
@@ -299,9 +303,9 @@ end_unread texts (fault.Unread error) Done unread end =
 end_unread texts (fault.Unread error) Failed unread end = tt
 end_unread texts (fault.Unread error) Unread unread end =
     inr (record { kind = kind_of error; among = unread; is = end })
-end_unread texts fault.Invalid Done unread end = absurd end
-end_unread texts fault.Invalid Failed unread end = tt
-end_unread texts fault.Invalid Unread unread end = inl unread
+end_unread texts (fault.Invalid argument) Done unread end = absurd end
+end_unread texts (fault.Invalid argument) Failed unread end = tt
+end_unread texts (fault.Invalid argument) Unread unread end = inl (argument, unread)
 end_unread texts fault.Memory Done unread end = absurd end
 end_unread texts fault.Memory Failed unread end = tt
 end_unread texts fault.Memory Unread unread end = absurd end
@@ -331,10 +335,13 @@ told_of texts before after (fault.Unread error) Failed old new unread end same t
     (text_in texts (λ said h. not_among (kind_of error) (fault_of program_app texts) h.taken unread))
     same told
 told_of texts before after (fault.Unread error) Unread old new unread end same told =
-    λ invalid. absurd (not_among (kind_of error) (fault_of program_app texts) invalid.taken unread)
-told_of texts before after fault.Invalid Done old new unread end same told = absurd end
-told_of texts before after fault.Invalid Failed old new unread end same told = absurd end
-told_of texts before after fault.Invalid Unread old new unread end same told = λ invalid. told
+    λ argument invalid.
+    absurd (not_among (kind_of error) (fault_of program_app texts) invalid.taken unread)
+told_of texts before after (fault.Invalid argument) Done old new unread end same told = absurd end
+told_of texts before after (fault.Invalid argument) Failed old new unread end same told = absurd end
+told_of texts before after (fault.Invalid argument) Unread old new unread end same told =
+    λ other invalid. subst (λ (a : Argument). WritesBeginning old new (argument_line a ++ 10 ∷ []))
+    (one_invalid texts argument other unread invalid) told
 told_of texts before after fault.Memory Done old new unread end same told = absurd end
 told_of texts before after fault.Memory Failed old new unread end same told =
     none_tells texts before after old new IsMemoryFault (λ f memory. inr (inl memory)) same told
@@ -345,7 +352,8 @@ pub memory_alone : (texts : List Text) (f : WordsFault) (said : ProgramWords) �
     IsSaid texts said → IsMemory f
 memory_alone texts (fault.Unread error) said unread h =
     absurd (not_among (kind_of error) (fault_of program_app texts) h.taken unread)
-memory_alone texts fault.Invalid said unread h = absurd (not_said texts said h unread)
+memory_alone texts (fault.Invalid argument) said unread h =
+    absurd (not_said texts said argument h unread)
 memory_alone texts fault.Memory said unread h = tt
 
 pub told_unread : (texts : List Text) (before after : Option (List ℕ)) (f : WordsFault)
@@ -360,7 +368,7 @@ told_unread texts before after f status old new unread end same told =
 pub not_done : (f : WordsFault) (status : Status) → IsMemory f → IsEndOf f status →
     status ≡ Done → ⊥
 not_done (fault.Unread error) status memory end e = memory
-not_done fault.Invalid status memory end e = memory
+not_done (fault.Invalid argument) status memory end e = memory
 not_done fault.Memory status memory end e = subst (IsEndOf fault.Memory) e end
 
 -- ---- lines

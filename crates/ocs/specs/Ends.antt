@@ -14,6 +14,7 @@ use Rattle.operations.specs.declared.status.Status.TheVariants.{Done, Failed, Un
 use Rattle.service.specs.Stating.{BeginsMonthOf, PrintsMonthOf}
 use Rattle.operator.specs.Program.{program_app}
 use Rattle.operator.specs.Read.{IsInvalid, IsSaid}
+use Rattle.operator.specs.declared.argument_names.Argument.{Argument}
 use Rattle.operator.specs.declared.fault.WordsFault.{WordsFault}
 use Rattle.operator.specs.declared.fault.WordsFault.TheVariants as fault
 use Rattle.operator.specs.declared.parsed.OnceWords.{OnceWords}
@@ -100,7 +101,7 @@ pub record HasError (texts : List Text) (text : Bool) : Type 0 where
 abbrev pub IsEnd : List Text → Status → Type 0
 IsEnd texts Done = SaysCommand texts ⊎ HasError texts true
 IsEnd texts Failed = Unit {0}
-IsEnd texts Unread = IsInvalid texts ⊎ HasError texts false
+IsEnd texts Unread = ((argument : Argument) × IsInvalid texts argument) ⊎ HasError texts false
 
 -- ---- the same by the fault of the words
 
@@ -111,16 +112,16 @@ IsEndOfKind kind Unread = is_text kind ≡ false
 
 abbrev pub IsEndOf : WordsFault → Status → Type 0
 IsEndOf (fault.Unread error) status = IsEndOfKind (kind_of error) status
-IsEndOf fault.Invalid Done = ⊥
-IsEndOf fault.Invalid Failed = ⊥
-IsEndOf fault.Invalid Unread = Unit {0}
+IsEndOf (fault.Invalid argument) Done = ⊥
+IsEndOf (fault.Invalid argument) Failed = ⊥
+IsEndOf (fault.Invalid argument) Unread = Unit {0}
 IsEndOf fault.Memory Done = ⊥
 IsEndOf fault.Memory Failed = Unit {0}
 IsEndOf fault.Memory Unread = ⊥
 
 abbrev pub IsMemory : WordsFault → Type 0
 IsMemory (fault.Unread error) = ⊥
-IsMemory fault.Invalid = ⊥
+IsMemory (fault.Invalid argument) = ⊥
 IsMemory fault.Memory = Unit {0}
 
 -- ---- the same where the words say a command

@@ -11,7 +11,9 @@ use Rattle.operations.specs.Told.{FaultWords, about_stream, numbered_words, plac
 use Rattle.operations.specs.Written.{WritesBeginning}
 use Rattle.operations.specs.declared.status.Status.{Status}
 use Rattle.operations.specs.declared.status.Status.TheVariants.{Done, Failed, Unread}
+use Rattle.operator.specs.Arguments.{argument_line}
 use Rattle.operator.specs.Read.{IsInvalid, IsSaid}
+use Rattle.operator.specs.declared.argument_names.Argument.{Argument}
 use Rattle.operator.specs.declared.fault.WordsFault.{WordsFault}
 use Rattle.operator.specs.declared.fault.WordsFault.TheVariants as fault
 use Rattle.operator.specs.declared.parsed.ProgramWords.{ProgramWords}
@@ -47,11 +49,6 @@ fault_place _ = None
 
 abbrev pub fault_line : ProgramFault → Bytes
 fault_line fault = told_line (about_fault fault) ++ place_told (fault_place fault)
-
--- a word isn't what its place takes; then the last line of an error of `clap`
-abbrev pub invalid_text : Bytes
-invalid_text =
-    codes "ocs: a word is not one that its place takes\n\nFor more information, try '--help'."
 
 -- ---- what is printed
 
@@ -133,7 +130,8 @@ pub record ServesConnections (texts : List Text) (old new : Option Bytes) : Type
 -- nothing where all is done, but faults of connections that were served, or where an operator's
 -- command or a statement is refused, which is printed; a fault by its line, which leaves the output
 -- as it was where the words print nothing before it; of words that aren't read the text is
--- `clap`'s, and where `clap` takes them one of the program's
+-- `clap`'s, and where `clap` takes them the line of the first operand or option whose word isn't
+-- what it takes
 abbrev pub IsTold : List Text → Option Bytes → Option Bytes → Status → Option Bytes → Option Bytes →
     Type 0
 IsTold texts before after Done old new = Keeps old new ⊎ ServesConnections texts old new
@@ -141,8 +139,8 @@ IsTold texts before after Failed old new =
     TellsFault (IsFaultIn texts)
     (λ fault. (said : ProgramWords) → IsSaid texts said → LeavesOutput said before after fault)
     old new ⊎ (Says texts (λ said. IsRefused said before after) × Keeps old new)
-IsTold texts before after Unread old new =
-    IsInvalid texts → WritesBeginning old new (invalid_text ++ 10 ∷ [])
+IsTold texts before after Unread old new = (argument : Argument) → IsInvalid texts argument →
+    WritesBeginning old new (argument_line argument ++ 10 ∷ [])
 
 -- ---- the same by the fault of the words
 
@@ -154,7 +152,8 @@ IsTextTold Unread old new = Unit {0}
 
 abbrev pub IsToldOf : WordsFault → Status → Option Bytes → Option Bytes → Type 0
 IsToldOf (fault.Unread error) status old new = IsTextTold status old new
-IsToldOf fault.Invalid status old new = WritesBeginning old new (invalid_text ++ 10 ∷ [])
+IsToldOf (fault.Invalid argument) status old new =
+    WritesBeginning old new (argument_line argument ++ 10 ∷ [])
 IsToldOf fault.Memory status old new = TellsFault IsMemoryFault (λ _. Unit {0}) old new
 
 -- ---- the same by what the words say

@@ -5,32 +5,26 @@ ghost use Rattle.clap.specs.Words.{kind_of};
 ghost use Rattle.operations.specs.Written.{WritesBeginning};
 ghost use Rattle.operations.specs.declared.status.Status.TheVariants.{Failed, Unread};
 ghost use Rattle.ocs.specs.Ends.{IsEndOf, IsEndOfKind, IsMemory, is_text};
-ghost use Rattle.ocs.specs.Told.{IsTextTold, IsToldOf, fault_line, invalid_text};
+ghost use Rattle.operator.specs.Arguments.{argument_line};
+ghost use Rattle.ocs.specs.Told.{IsTextTold, IsToldOf, fault_line};
 ghost use Rattle.ocs.specs.declared.fault.ProgramFault.TheVariants.{Stream};
 
 use crate::fault::ProgramFault;
 use clap::Error;
 use clap::error::ErrorKind;
 use operations::{Status, tell_line};
-use operator::WordsFault;
+use operator::{Argument, WordsFault};
 use std::alloc::Global;
 use std::io::{self, Write};
 use texts::{StreamFault, write_whole};
 
-/// What is reported of words of which one isn't what its place takes, with the last line of an
-/// error of `clap`.
-const INVALID: &str = "\
-ocs: a word is not one that its place takes
-
-For more information, try '--help'.";
-
-/// Reports that a word isn't what its place takes, as far as it can be written.
-fn tell_invalid<E: Write>(errors: &mut E) -> Status
+/// Reports that a word isn't what this operand or option takes, as far as it can be written.
+fn tell_invalid<E: Write>(errors: &mut E, argument: Argument) -> Status
     ensures status { result ≡ Unread }
     ensures told { WritesBeginning (E.contents errors.old) (E.contents errors.new)
-        (invalid_text ++ 10 ∷ []) }
+        (argument_line argument ++ 10 ∷ []) }
 {
-    tell_line(errors, INVALID);
+    tell_line(errors, argument.line());
     Status::Unread
 }
 
@@ -100,7 +94,7 @@ pub(crate) fn tell_unread<O: Write, E: Write>(
 {
     match fault {
         WordsFault::Unread(error) => tell_error(alloc, &error, output, errors),
-        WordsFault::Invalid => tell_invalid(errors),
+        WordsFault::Invalid(argument) => tell_invalid(errors, argument),
         WordsFault::Memory => tell_stream(errors, StreamFault::Memory),
     }
 }
@@ -108,8 +102,9 @@ pub(crate) fn tell_unread<O: Write, E: Write>(
 /// Reports why the words that the program is started with weren't handed over: one isn't text, or
 /// memory was refused.
 pub(crate) fn tell_start<E: Write>(errors: &mut E, kind: io::ErrorKind) -> Status {
-    match kind {
-        io::ErrorKind::InvalidData => tell_invalid(errors),
-        _ => tell_stream(errors, StreamFault::Memory),
+    if kind == io::ErrorKind::InvalidData {
+        tell_line(errors, "ocs: a word is not UTF-8");
+        return Status::Unread;
     }
+    tell_stream(errors, StreamFault::Memory)
 }

@@ -13,6 +13,8 @@ use Rattle.texts.specs.Steps.{GivesUnless}
 use Rattle.operator.specs.Program.{program_app}
 use Rattle.operator.specs.Read.{IsInvalid, IsRefusal, IsRefused, IsSaid, IsUnread}
 use Rattle.operator.specs.Said.{said_by}
+use Rattle.operator.specs.declared.argument_names.Argument.{Argument}
+use Rattle.operator.specs.declared.argument_names.Argument.TheVariants as argument
 use Rattle.operator.specs.declared.fault.ValueFault.{ValueFault}
 use Rattle.operator.specs.declared.fault.ValueFault.TheVariants as value
 use Rattle.operator.specs.declared.fault.WordsFault.{WordsFault}
@@ -51,13 +53,13 @@ refused_by kinds error (Unread same) has is = elim has [
   | inl memory ↦ absurd (is.1 memory)
   | inr among ↦ subst (λ (e : Error). IsAmong (kind_of e) kinds) (sym is.0) among
 ]
-refused_by kinds error Invalid has is = is
+refused_by kinds error (Invalid argument) has is = is
 refused_by kinds error Memory has is = tt
 
 pub refused_unread : (words : List Text) (fault : WordsFault) →
     IsRefused (fault_of program_app words) fault → IsUnread words fault
 refused_unread words (Unread error) is = is
-refused_unread words Invalid is = absurd is
+refused_unread words (Invalid argument) is = absurd is
 refused_unread words Memory is = tt
 
 pub is_said : (words : List Text) (rows : Option (Text × List Row)) (said : ProgramWords)
@@ -66,10 +68,11 @@ pub is_said : (words : List Text) (rows : Option (Text × List Row)) (said : Pro
 is_said words rows said taken is means =
     record { taken = taken; means = ap said_by (sym is) ∙ means }
 
-pub is_invalid : (words : List Text) (rows : Option (Text × List Row))
+pub is_invalid : (words : List Text) (rows : Option (Text × List Row)) (argument : Argument)
     → fault_of program_app words ≡ [] → rows ≡ subcommand_of program_app words
-    → said_by rows ≡ Err value.Invalid → IsInvalid words
-is_invalid words rows taken is means = record { taken = taken; means = ap said_by (sym is) ∙ means }
+    → said_by rows ≡ Err (value.Invalid argument) → IsInvalid words argument
+is_invalid words rows argument taken is means =
+    record { taken = taken; means = ap said_by (sym is) ∙ means }
 
 -- ---- the same, by what the calls gave
 
@@ -89,13 +92,25 @@ is_said_from words rows r said taken is e gives =
 
 abbrev is_memory : ValueFault → Bool
 is_memory value.Memory = true
-is_memory value.Invalid = false
+is_memory (value.Invalid argument) = false
 
 pub is_invalid_from : (words : List Text) (rows : Option (Text × List Row))
-    (r : Result ProgramWords ValueFault)
+    (r : Result ProgramWords ValueFault) (argument : Argument)
     → fault_of program_app words ≡ [] → rows ≡ subcommand_of program_app words
-    → r ≡ Err value.Invalid → GivesUnless value.Memory (λ w. w) r (said_by rows) → IsInvalid words
-is_invalid_from words rows r taken is e gives =
+    → r ≡ Err (value.Invalid argument) → GivesUnless value.Memory (λ w. w) r (said_by rows)
+    → IsInvalid words argument
+is_invalid_from words rows r argument taken is e gives =
     let told = subst (λ (x : Result ProgramWords ValueFault).
     GivesUnless value.Memory (λ w. w) x (said_by rows)) e gives in
-    is_invalid words rows taken is (told (λ same. true≢false (sym (ap is_memory same))))
+    is_invalid words rows argument taken is (told (λ same. true≢false (sym (ap is_memory same))))
+
+-- ---- the first that isn't taken is one alone
+
+abbrev argument_in : Result ProgramWords ValueFault → Argument
+argument_in (Ok said) = argument.Command
+argument_in (Err (value.Invalid argument)) = argument
+argument_in (Err value.Memory) = argument.Command
+
+pub one_invalid : (words : List Text) (one other : Argument) → IsInvalid words one →
+    IsInvalid words other → one ≡ other
+one_invalid words one other h k = ap argument_in (sym h.means ∙ k.means)

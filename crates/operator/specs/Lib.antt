@@ -1,6 +1,7 @@
 pub mod Lines
 pub mod Paths
 pub mod Faults
+pub mod Arguments
 pub mod Values
 pub mod Office
 pub mod Program

@@ -11,6 +11,7 @@ use Rattle.commands.specs.declared.command.Credit.{Credit}
 use Rattle.clap.specs.Words.{Row, Text}
 use Rattle.texts.specs.Steps.{◌>>=◌}
 use Rattle.operator.specs.Values.{account_of, group_of, number_at, reference_of, scope_of, until_of}
+use Rattle.operator.specs.declared.argument_names.Argument.TheVariants as argument
 use Rattle.operator.specs.declared.fault.ValueFault.{ValueFault}
 use Rattle.operator.specs.declared.office.OfficeCommand.{OfficeCommand}
 use Rattle.operator.specs.declared.office.OfficeCommand.TheVariants as office
@@ -33,7 +34,7 @@ office_name name.Allow = codes "allow"
 unfoldable pub credit_said : List Row → Result Credit ValueFault
 credit_said rows = do
   account ← account_of rows
-  amount ← number_at 1 most_money (codes "AMOUNT") rows
+  amount ← number_at 1 most_money argument.Amount rows
   reference ← reference_of rows
   until ← until_of rows
   scope ← scope_of rows
@@ -50,7 +51,7 @@ credit_said rows = do
 unfoldable pub allowance_said : List Row → Result Allowance ValueFault
 allowance_said rows = do
   account ← account_of rows
-  blocks ← number_at 1 most_blocks (codes "BLOCKS") rows
+  blocks ← number_at 1 most_blocks argument.Blocks rows
   reference ← reference_of rows
   until ← until_of rows
   group ← group_of rows

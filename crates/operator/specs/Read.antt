@@ -12,6 +12,7 @@ use Rattle.operator.specs.Said.{said_by}
 use Rattle.operator.specs.Values.{most_connections}
 use Rattle.clap.specs.declared.error.Error.{Error}
 use Rattle.clap.specs.declared.error.kind.ErrorKind.TheVariants.{OutOfMemory}
+use Rattle.operator.specs.declared.argument_names.Argument.{Argument}
 use Rattle.operator.specs.declared.fault.ValueFault.TheVariants as value
 use Rattle.operator.specs.declared.fault.WordsFault.{WordsFault}
 use Rattle.operator.specs.declared.fault.WordsFault.TheVariants.{Unread, Invalid, Memory}
@@ -32,27 +33,27 @@ pub record IsSaid (words : List Text) (said : ProgramWords) : Type 0 where
   pub taken : fault_of program_app words ≡ []
   pub means : said_by (subcommand_of program_app words) ≡ Ok said
 
--- `clap` takes the words, and one isn't what its place takes
-pub record IsInvalid (words : List Text) : Type 0 where
+-- `clap` takes the words, and that of this operand or option is the first that isn't what it takes
+pub record IsInvalid (words : List Text) (argument : Argument) : Type 0 where
   pub taken : fault_of program_app words ≡ []
-  pub means : said_by (subcommand_of program_app words) ≡ Err value.Invalid
+  pub means : said_by (subcommand_of program_app words) ≡ Err (value.Invalid argument)
 
 -- an error of `clap`, of a kind that it states of the words; or one isn't what its place takes
 abbrev pub IsUnread : List Text → WordsFault → Type 0
 IsUnread words (Unread error) = IsAmong (kind_of error) (fault_of program_app words)
-IsUnread words Invalid = IsInvalid words
+IsUnread words (Invalid argument) = IsInvalid words argument
 IsUnread words Memory = Unit {0}
 
 -- the fault is this error of `clap`, or lack of memory where the error is that
 abbrev pub IsRefusal : Error → WordsFault → Type 0
 IsRefusal error (Unread same) = (same ≡ error) × (kind_of error ≢ OutOfMemory)
-IsRefusal error Invalid = ⊥
+IsRefusal error (Invalid argument) = ⊥
 IsRefusal error Memory = kind_of error ≡ OutOfMemory
 
 -- an error of `clap` of one of these kinds, or lack of memory
 abbrev pub IsRefused : Kinds → WordsFault → Type 0
 IsRefused kinds (Unread error) = IsAmong (kind_of error) kinds
-IsRefused kinds Invalid = ⊥
+IsRefused kinds (Invalid argument) = ⊥
 IsRefused kinds Memory = Unit {0}
 
 -- ---- ranges

@@ -8,6 +8,7 @@ use Rattle.operator.specs.Office.{office_command_said}
 use Rattle.operator.specs.Program.{command_named}
 use Rattle.operator.specs.Values.{account_of, at_of, database_of, from_of, has_flag, month_at}
 use Rattle.operator.specs.Values.{most_connections, number_at, path_at}
+use Rattle.operator.specs.declared.argument_names.Argument.TheVariants as argument
 use Rattle.operator.specs.declared.fault.ValueFault.{ValueFault}
 use Rattle.operator.specs.declared.fault.ValueFault.TheVariants.{Invalid}
 use Rattle.operator.specs.declared.office.OfficeName.{OfficeName}
@@ -27,15 +28,15 @@ use Rattle.operator.specs.declared.program.CommandName.TheVariants as name
 
 unfoldable pub once_said : List Row → Result OnceWords ValueFault
 once_said rows = do
-  credit ← number_at 1 most_money (codes "credit") rows
-  price ← number_at 0 greatest_price (codes "price") rows
-  block ← number_at 1 most_granted (codes "block") rows
+  credit ← number_at 1 most_money argument.Credit rows
+  price ← number_at 0 greatest_price argument.Price rows
+  block ← number_at 1 most_granted argument.Block rows
   Ok (record { credit = credit; price = price; block = block })
 
 unfoldable pub init_said : List Row → Result InitWords ValueFault
 init_said rows = do
   database ← database_of rows
-  book ← path_at (codes "BOOK") rows
+  book ← path_at argument.Book rows
   Ok (record { database = database; book = book })
 
 unfoldable pub migrate_said : List Row → Result MigrateWords ValueFault
@@ -46,22 +47,22 @@ migrate_said rows = do
 unfoldable pub book_said : List Row → Result BookWords ValueFault
 book_said rows = do
   database ← database_of rows
-  file ← path_at (codes "FILE") rows
+  file ← path_at argument.File rows
   from ← from_of rows
   Ok (record { database = database; file = file; from = from })
 
 unfoldable pub serve_said : List Row → Result ServeWords ValueFault
 serve_said rows = do
   database ← database_of rows
-  port ← number_at 1 most_of_16_bits (codes "port") rows
-  connections ← number_at 1 most_connections (codes "connections") rows
+  port ← number_at 1 most_of_16_bits argument.Port rows
+  connections ← number_at 1 most_connections argument.Connections rows
   at ← at_of rows
   Ok (record { database = database; port = port; connections = connections; at = at })
 
 unfoldable pub import_said : List Row → Result ImportWords ValueFault
 import_said rows = do
   database ← database_of rows
-  file ← path_at (codes "FILE") rows
+  file ← path_at argument.File rows
   at ← at_of rows
   Ok (record { database = database; file = file; at = at })
 
@@ -90,7 +91,7 @@ statement_said rows = do
 unfoldable pub replay_said : List Row → Result ReplayWords ValueFault
 replay_said rows = do
   database ← database_of rows
-  file ← path_at (codes "FILE") rows
+  file ← path_at argument.File rows
   Ok (record { database = database; file = file })
 
 abbrev pub said_as : {A : Type 0} → (A → ProgramWords) → Result A ValueFault
@@ -111,6 +112,6 @@ command_said name.Replay rows = said_as words.Replay (replay_said rows)
 
 -- what a line's words say, by the command that they name and what it finds
 abbrev pub said_by : Option (Text × List Row) → Result ProgramWords ValueFault
-said_by None = Err Invalid
+said_by None = Err (Invalid argument.Command)
 said_by (Some (name, rows)) =
-    or_fault Invalid (command_named name) >>= λ command. command_said command rows
+    or_fault (Invalid argument.Command) (command_named name) >>= λ command. command_said command rows

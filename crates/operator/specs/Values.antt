@@ -1,7 +1,7 @@
 -- What an operand or an option says, by what `clap` finds for it. A number is 1 to 16 digits
 -- without a sign.
 -- Source: profile.
-use Rattle.std.specs.Prelude.{ℕ, ◌&&◌, nat_le, Bool, List, [], Option, Some, None, Result, Ok, Err}
+use Rattle.std.specs.Prelude.{ℕ, ◌&&◌, nat_le, Bool, List, [], Option, Some, None, Result, Ok}
 use Rattle.std.specs.Prelude.{codes, unwrap_or}
 use Rattle.units.specs.Words.{Moment, GroupId, no_end, greatest_number, latest_command}
 use Rattle.identifiers.specs.Texts.{is_account_number, is_reference, same_name}
@@ -10,7 +10,10 @@ use Rattle.texts.specs.Numbers.{number_of}
 use Rattle.texts.specs.NumberWords.{MonthNumber}
 use Rattle.texts.specs.Steps.{◌>>=◌, or_fault, where_holds}
 use Rattle.clap.specs.Words.{Row, Text, first_of}
+use Rattle.operator.specs.Arguments.{argument_id}
 use Rattle.operator.specs.Paths.{is_file_path}
+use Rattle.operator.specs.declared.argument_names.Argument.{Argument}
+use Rattle.operator.specs.declared.argument_names.Argument.TheVariants as argument
 use Rattle.operator.specs.declared.fault.ValueFault.{ValueFault}
 use Rattle.operator.specs.declared.fault.ValueFault.TheVariants.{Invalid}
 
@@ -19,69 +22,73 @@ abbrev pub most_connections : ℕ
 most_connections = 1_000_000
 
 -- the word of an operand or an option
-abbrev pub word : Text → List Row → Result Text ValueFault
-word id rows = or_fault Invalid (first_of id rows)
+abbrev pub word : Argument → List Row → Result Text ValueFault
+word argument rows = or_fault (Invalid argument) (first_of (argument_id argument) rows)
 
 -- a number of this range
-unfoldable pub number_in : ℕ → ℕ → Text → Result ℕ ValueFault
-number_in low high text = do
-  n ← or_fault Invalid (number_of text)
-  where_holds (nat_le low n && nat_le n high) Invalid n
+unfoldable pub number_in : ℕ → ℕ → Argument → Text → Result ℕ ValueFault
+number_in low high argument text = do
+  n ← or_fault (Invalid argument) (number_of text)
+  where_holds (nat_le low n && nat_le n high) (Invalid argument) n
 
-unfoldable pub number_at : ℕ → ℕ → Text → List Row → Result ℕ ValueFault
-number_at low high id rows = do
-  text ← word id rows
-  number_in low high text
+unfoldable pub number_at : ℕ → ℕ → Argument → List Row → Result ℕ ValueFault
+number_at low high argument rows = do
+  text ← word argument rows
+  number_in low high argument text
 
 -- the same, where the option is there
-unfoldable pub optional_in : ℕ → ℕ → Option Text → Result (Option ℕ) ValueFault
-optional_in low high None = Ok None
-optional_in low high (Some text) = do
-  n ← number_in low high text
+unfoldable pub optional_in : ℕ → ℕ → Argument → Option Text → Result (Option ℕ) ValueFault
+optional_in low high argument None = Ok None
+optional_in low high argument (Some text) = do
+  n ← number_in low high argument text
   Ok (Some n)
+
+abbrev pub optional_at : ℕ → ℕ → Argument → List Row → Result (Option ℕ) ValueFault
+optional_at low high argument rows =
+    optional_in low high argument (first_of (argument_id argument) rows)
 
 -- the moment of a command, where it is said
 abbrev pub at_of : List Row → Result (Option Moment) ValueFault
-at_of rows = optional_in 0 latest_command (first_of (codes "at") rows)
+at_of rows = optional_at 0 latest_command argument.At rows
 
 -- until when a credit can be used, where it is said
 abbrev pub until_of : List Row → Result (Option Moment) ValueFault
-until_of rows = optional_in 1 no_end (first_of (codes "until") rows)
+until_of rows = optional_at 1 no_end argument.Until rows
 
 -- the rating group that a credit pays for, where it is said
 abbrev pub scope_of : List Row → Result (Option GroupId) ValueFault
-scope_of rows = optional_in 0 greatest_number (first_of (codes "scope") rows)
+scope_of rows = optional_at 0 greatest_number argument.Scope rows
 
 -- the rating group of an allowance, which must be said
 abbrev pub group_of : List Row → Result GroupId ValueFault
-group_of rows = number_at 0 greatest_number (codes "scope") rows
+group_of rows = number_at 0 greatest_number argument.Scope rows
 
 -- the moment from which a book holds
 abbrev pub from_of : List Row → Result Moment ValueFault
-from_of rows = number_at 0 latest_command (codes "from") rows
+from_of rows = number_at 0 latest_command argument.From rows
 
-unfoldable pub path_at : Text → List Row → Result Text ValueFault
-path_at id rows = do
-  text ← word id rows
-  where_holds (is_file_path text) Invalid text
+unfoldable pub path_at : Argument → List Row → Result Text ValueFault
+path_at argument rows = do
+  text ← word argument rows
+  where_holds (is_file_path text) (Invalid argument) text
 
 abbrev pub database_of : List Row → Result Text ValueFault
-database_of rows = path_at (codes "DB") rows
+database_of rows = path_at argument.Database rows
 
 unfoldable pub account_of : List Row → Result Text ValueFault
 account_of rows = do
-  text ← word (codes "ACCOUNT") rows
-  where_holds (is_account_number text) Invalid text
+  text ← word argument.Account rows
+  where_holds (is_account_number text) (Invalid argument.Account) text
 
 unfoldable pub reference_of : List Row → Result Text ValueFault
 reference_of rows = do
-  text ← word (codes "REFERENCE") rows
-  where_holds (is_reference text) Invalid text
+  text ← word argument.Reference rows
+  where_holds (is_reference text) (Invalid argument.Reference) text
 
 unfoldable pub month_at : List Row → Result MonthNumber ValueFault
 month_at rows = do
-  text ← word (codes "YYYYMM") rows
-  or_fault Invalid (month_of text)
+  text ← word argument.Month rows
+  or_fault (Invalid argument.Month) (month_of text)
 
 -- whether a flag is there
 abbrev pub has_flag : Text → List Row → Bool

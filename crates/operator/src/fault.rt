@@ -1,5 +1,6 @@
 //! Why words aren't the program's.
 
+use crate::argument_names::Argument;
 use std::alloc::AllocError;
 use thiserror::Error;
 
@@ -9,9 +10,10 @@ pub enum WordsFault {
     /// `clap` doesn't take them, or they ask for the help or the version: its text says which.
     #[error("{0}")]
     Unread(clap::Error),
-    /// A word isn't one that its place takes: no number, out of range, or no name.
+    /// The word of this operand or option isn't one that it takes: no number, out of range, or no
+    /// name.
     #[error("a word is not one that its place takes")]
-    Invalid,
+    Invalid(Argument),
     /// Memory was refused.
     #[error("out of memory")]
     Memory,
@@ -20,8 +22,8 @@ pub enum WordsFault {
 /// Why a word isn't what its place takes.
 #[derive(Clone, Copy, Drop)]
 pub(crate) enum ValueFault {
-    /// It is no number, out of range, or no name.
-    Invalid,
+    /// That of this operand or option is no number, out of range, or no name.
+    Invalid(Argument),
     /// Memory was refused.
     Memory,
 }

@@ -1,6 +1,7 @@
 //! What an operator writes: the program's words, and lines of dated requests.
 #![tactic(auto)]
 
+mod argument_names;
 mod arguments;
 mod dated;
 mod fault;
@@ -12,6 +13,7 @@ mod reading;
 mod saying;
 mod values;
 
+pub use crate::argument_names::Argument;
 pub use crate::dated::{DatedLine, dated_line};
 pub use crate::fault::WordsFault;
 pub use crate::office::OfficeCommand;

@@ -8,6 +8,7 @@ ghost use Rattle.operator.specs.Office.{allowance_said, command_of, credit_said}
 ghost use Rattle.operator.specs.Office.{office_command_said, office_name, IsOfficeCommandInRange};
 ghost use Rattle.operator.specs.declared.fault.ValueFault.TheVariants.{Memory};
 
+use crate::argument_names::Argument;
 use crate::fault::ValueFault;
 use crate::values::{account, amount_at, blocks, group, reference, scope, until};
 use clap::ArgMatches;
@@ -102,7 +103,7 @@ fn credit(alloc: Global, matches: &ArgMatches<'_>) -> Result<Credit, ValueFault>
     ensures in_range { IfOk result (λ c. 1 ≤ c.amount) }
 {
     let account = account(alloc, matches)?;
-    let amount = amount_at(matches, "AMOUNT")?;
+    let amount = amount_at(matches, Argument::Amount)?;
     let reference = reference(alloc, matches)?;
     let until = until(matches)?;
     let scope = scope(matches)?;

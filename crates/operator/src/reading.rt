@@ -9,6 +9,7 @@ ghost use Rattle.operator.specs.Read.{IsInRange, IsRefusal, IsRefused, IsSaid, I
 ghost use Rattle.operator.specs.Said.{command_said, said_by};
 ghost use Rattle.operator.specs.declared.fault.ValueFault.TheVariants.{Memory};
 
+use crate::argument_names::Argument;
 use crate::fault::{ValueFault, WordsFault};
 use crate::parsed::ProgramWords;
 use crate::program::{CommandName, program};
@@ -25,8 +26,8 @@ use std::alloc::Global;
 ///
 /// # Errors
 /// `Unread` where `clap` doesn't take the words, with its error, also where they ask for the help
-/// or the version. `Invalid` where it takes them and one isn't what its place takes. `Memory`
-/// where memory was refused.
+/// or the version. `Invalid` where it takes them and one isn't what its place takes, with the first
+/// such place. `Memory` where memory was refused.
 #[tactic(auto, using(crate::proofs::ProgramLemmas::is_said_from, crate::proofs::ProgramLemmas::is_invalid_from, crate::proofs::ProgramLemmas::refused_unread))]
 pub fn program_words<'a>(alloc: Global, words: &'a [&'a str]) -> Result<ProgramWords, WordsFault>
     ensures read { IfOk result (IsSaid (texts_of words.entry.now)) }
@@ -41,7 +42,7 @@ pub fn program_words<'a>(alloc: Global, words: &'a [&'a str]) -> Result<ProgramW
     };
     match said_in(alloc, &matches) {
         Ok(said) => Ok(said),
-        Err(ValueFault::Invalid) => Err(WordsFault::Invalid),
+        Err(ValueFault::Invalid(argument)) => Err(WordsFault::Invalid(argument)),
         Err(ValueFault::Memory) => Err(WordsFault::Memory),
     }
 }
@@ -83,9 +84,9 @@ fn said_in(alloc: Global, matches: &ArgMatches<'_>) -> Result<ProgramWords, Valu
     ensures in_range { IfOk result IsInRange }
 {
     let Some((name, inner)) = entered(matches) else {
-        return Err(ValueFault::Invalid);
+        return Err(ValueFault::Invalid(Argument::Command));
     };
-    let command = CommandName::named(name).ok_or(ValueFault::Invalid)?;
+    let command = CommandName::named(name).ok_or(ValueFault::Invalid(Argument::Command))?;
     said_of(alloc, command, inner)
 }
 

@@ -9,6 +9,7 @@ ghost use Rattle.operator.specs.Said.{book_said, import_said, init_said, migrate
 ghost use Rattle.operator.specs.Said.{once_said, replay_said, serve_said, statement_said};
 ghost use Rattle.operator.specs.declared.fault.ValueFault.TheVariants.{Memory};
 
+use crate::argument_names::Argument;
 use crate::fault::ValueFault;
 use crate::office::{OfficeName, office_command};
 use crate::parsed::{
@@ -27,9 +28,9 @@ pub(crate) fn once_said(matches: &ArgMatches<'_>) -> Result<OnceWords, ValueFaul
     ensures value { Says (λ w. w) result (once_said (rows_of (found_of matches.now))) }
     ensures in_range { IfOk result IsOnceInRange }
 {
-    let credit = amount_at(matches, "credit")?;
-    let price = number_at(matches, 0, 1_000_000_000, "price")?;
-    let block = number_at(matches, 1, 1_000_000_000_000_000, "block")?;
+    let credit = amount_at(matches, Argument::Credit)?;
+    let price = number_at(matches, 0, 1_000_000_000, Argument::Price)?;
+    let block = number_at(matches, 1, 1_000_000_000_000_000, Argument::Block)?;
     Ok(OnceWords {
         credit,
         price,
@@ -43,7 +44,7 @@ pub(crate) fn init_words(alloc: Global, matches: &ArgMatches<'_>) -> Result<Init
     ensures { GivesUnless Memory (λ w. w) result (init_said (rows_of (found_of matches.now))) }
 {
     let database = database(alloc, matches)?;
-    let book = path_at(alloc, matches, "BOOK")?;
+    let book = path_at(alloc, matches, Argument::Book)?;
     Ok(InitWords { database, book })
 }
 
@@ -67,7 +68,7 @@ pub(crate) fn book_words(alloc: Global, matches: &ArgMatches<'_>) -> Result<Book
     ensures in_range { IfOk result IsBookInRange }
 {
     let database = database(alloc, matches)?;
-    let file = path_at(alloc, matches, "FILE")?;
+    let file = path_at(alloc, matches, Argument::File)?;
     let from = first_moment(matches)?;
     Ok(BookWords {
         database,
@@ -84,8 +85,8 @@ pub(crate) fn serve_words(alloc: Global, matches: &ArgMatches<'_>) -> Result<Ser
     ensures in_range { IfOk result IsServeInRange }
 {
     let database = database(alloc, matches)?;
-    let port = number_at(matches, 1, 65_535, "port")?;
-    let connections = number_at(matches, 1, 1_000_000, "connections")?;
+    let port = number_at(matches, 1, 65_535, Argument::Port)?;
+    let connections = number_at(matches, 1, 1_000_000, Argument::Connections)?;
     let at = at(matches)?;
     Ok(ServeWords {
         database,
@@ -106,7 +107,7 @@ pub(crate) fn import_words(
     ensures in_range { IfOk result IsImportInRange }
 {
     let database = database(alloc, matches)?;
-    let file = path_at(alloc, matches, "FILE")?;
+    let file = path_at(alloc, matches, Argument::File)?;
     let at = at(matches)?;
     Ok(ImportWords { database, file, at })
 }
@@ -164,6 +165,6 @@ pub(crate) fn replay_words(
     ensures { GivesUnless Memory (λ w. w) result (replay_said (rows_of (found_of matches.now))) }
 {
     let database = database(alloc, matches)?;
-    let file = path_at(alloc, matches, "FILE")?;
+    let file = path_at(alloc, matches, Argument::File)?;
     Ok(ReplayWords { database, file })
 }

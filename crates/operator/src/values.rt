@@ -1,14 +1,16 @@
 //! The values of operands and options.
 
-ghost use Rattle.std.specs.Prelude.{◌≡◌, ◌≤◌, IfOk, IfSome, codes, option_map};
+ghost use Rattle.std.specs.Prelude.{◌≡◌, ◌≤◌, IfOk, IfSome, option_map};
 ghost use Rattle.units.specs.Words.{latest_command, most_money, most_blocks};
 ghost use Rattle.clap.specs.Words.{found_of, first_of, rows_of};
 ghost use Rattle.texts.specs.Steps.{GivesUnless, Says};
 ghost use Rattle.operator.specs.Values.{account_of, at_of, database_of, from_of, group_of};
-ghost use Rattle.operator.specs.Values.{has_flag, month_at, number_at, number_in, optional_in};
+ghost use Rattle.operator.specs.Values.{has_flag, month_at, number_at, number_in, optional_at};
 ghost use Rattle.operator.specs.Values.{path_at, reference_of, scope_of, until_of, word};
+ghost use Rattle.operator.specs.declared.argument_names.Argument.TheVariants as argument;
 ghost use Rattle.operator.specs.declared.fault.ValueFault.TheVariants.{Memory};
 
+use crate::argument_names::Argument;
 use crate::fault::ValueFault;
 use crate::path::FilePath;
 use clap::ArgMatches;
@@ -26,23 +28,23 @@ fn found<'a>(matches: &ArgMatches<'a>, id: &str) -> Option<&'a str>
 }
 
 /// The word of an operand or an option.
-fn word<'a>(matches: &ArgMatches<'a>, id: &str) -> Result<&'a str, ValueFault>
-    ensures { Says (λ s. s.now) result (word id.now (rows_of (found_of matches.now))) }
+fn word<'a>(matches: &ArgMatches<'a>, argument: Argument) -> Result<&'a str, ValueFault>
+    ensures { Says (λ s. s.now) result (word argument (rows_of (found_of matches.now))) }
 {
-    found(matches, id).ok_or(ValueFault::Invalid)
+    found(matches, argument.id()).ok_or(ValueFault::Invalid(argument))
 }
 
 /// The number of this range that a word says.
 #[tactic(auto, unfolding(crate::specs::Values::number_in))]
-fn number_in(low: u64, high: u64, word: &str) -> Result<u64, ValueFault>
-    ensures value { Says (λ n. n) result (number_in low high word.now) }
+fn number_in(low: u64, high: u64, argument: Argument, word: &str) -> Result<u64, ValueFault>
+    ensures value { Says (λ n. n) result (number_in low high argument word.now) }
     ensures in_range { IfOk result (λ n. (low ≤ n) × (n ≤ high)) }
 {
-    let number = number(word).ok_or(ValueFault::Invalid)?;
+    let number = number(word).ok_or(ValueFault::Invalid(argument))?;
     if low <= number && number <= high {
         Ok(number)
     } else {
-        Err(ValueFault::Invalid)
+        Err(ValueFault::Invalid(argument))
     }
 }
 
@@ -52,13 +54,13 @@ pub(crate) fn number_at(
     matches: &ArgMatches<'_>,
     low: u64,
     high: u64,
-    id: &str,
+    argument: Argument,
 ) -> Result<u64, ValueFault>
     ensures value { Says (λ n. n) result
-        (number_at low high id.now (rows_of (found_of matches.now))) }
+        (number_at low high argument (rows_of (found_of matches.now))) }
     ensures in_range { IfOk result (λ n. (low ≤ n) × (n ≤ high)) }
 {
-    number_in(low, high, word(matches, id)?)
+    number_in(low, high, argument, word(matches, argument)?)
 }
 
 /// The number of this range that an option says, where it is there.
@@ -67,36 +69,36 @@ fn optional_at(
     matches: &ArgMatches<'_>,
     low: u64,
     high: u64,
-    id: &str,
+    argument: Argument,
 ) -> Result<Option<u64>, ValueFault>
     ensures value { Says (λ n. n) result
-        (optional_in low high (first_of id.now (rows_of (found_of matches.now)))) }
+        (optional_at low high argument (rows_of (found_of matches.now))) }
     ensures in_range { IfOk result (λ o. IfSome o (λ n. (low ≤ n) × (n ≤ high))) }
 {
-    match found(matches, id) {
-        Some(word) => Ok(Some(number_in(low, high, word)?)),
+    match found(matches, argument.id()) {
+        Some(word) => Ok(Some(number_in(low, high, argument, word)?)),
         None => Ok(None),
     }
 }
 
 /// An amount of money, 1 to 10^15 micro-units.
-pub(crate) fn amount_at(matches: &ArgMatches<'_>, id: &str) -> Result<Money, ValueFault>
+pub(crate) fn amount_at(matches: &ArgMatches<'_>, argument: Argument) -> Result<Money, ValueFault>
     ensures value { Says (λ m. m) result
-        (number_at 1 most_money id.now (rows_of (found_of matches.now))) }
+        (number_at 1 most_money argument (rows_of (found_of matches.now))) }
     ensures in_range { IfOk result (λ m. (1 ≤ m) × (m ≤ most_money)) }
 {
-    let micros = number_at(matches, 1, 1_000_000_000_000_000, id)?;
-    Money::new(micros).ok_or(ValueFault::Invalid)
+    let micros = number_at(matches, 1, 1_000_000_000_000_000, argument)?;
+    Money::new(micros).ok_or(ValueFault::Invalid(argument))
 }
 
 /// The blocks of an allowance, 1 to 10^9.
 pub(crate) fn blocks(matches: &ArgMatches<'_>) -> Result<AllowanceBlocks, ValueFault>
     ensures value { Says (λ b. b) result
-        (number_at 1 most_blocks (codes "BLOCKS") (rows_of (found_of matches.now))) }
+        (number_at 1 most_blocks argument.Blocks (rows_of (found_of matches.now))) }
     ensures in_range { IfOk result (λ b. (1 ≤ b) × (b ≤ most_blocks)) }
 {
-    let number = number_at(matches, 1, 1_000_000_000, "BLOCKS")?;
-    AllowanceBlocks::new(Blocks(number)).ok_or(ValueFault::Invalid)
+    let number = number_at(matches, 1, 1_000_000_000, Argument::Blocks)?;
+    AllowanceBlocks::new(Blocks(number)).ok_or(ValueFault::Invalid(Argument::Blocks))
 }
 
 /// The moment of `--from`.
@@ -104,8 +106,8 @@ pub(crate) fn first_moment(matches: &ArgMatches<'_>) -> Result<Moment, ValueFaul
     ensures value { Says (λ t. t) result (from_of (rows_of (found_of matches.now))) }
     ensures in_range { IfOk result (λ t. t ≤ latest_command) }
 {
-    let seconds = number_at(matches, 0, 4_102_444_799, "from")?;
-    Moment::of_command(seconds).ok_or(ValueFault::Invalid)
+    let seconds = number_at(matches, 0, 4_102_444_799, Argument::From)?;
+    Moment::of_command(seconds).ok_or(ValueFault::Invalid(Argument::From))
 }
 
 /// The moment of `--at`, where it is there.
@@ -113,7 +115,7 @@ pub(crate) fn at(matches: &ArgMatches<'_>) -> Result<Option<Moment>, ValueFault>
     ensures value { Says (λ t. t) result (at_of (rows_of (found_of matches.now))) }
     ensures in_range { IfOk result (λ o. IfSome o (λ t. t ≤ latest_command)) }
 {
-    match optional_at(matches, 0, 4_102_444_799, "at")? {
+    match optional_at(matches, 0, 4_102_444_799, Argument::At)? {
         None => Ok(None),
         Some(seconds) => Ok(Moment::of_command(seconds)),
     }
@@ -123,7 +125,7 @@ pub(crate) fn at(matches: &ArgMatches<'_>) -> Result<Option<Moment>, ValueFault>
 pub(crate) fn until(matches: &ArgMatches<'_>) -> Result<Option<CreditEnd>, ValueFault>
     ensures { Says (λ e. e) result (until_of (rows_of (found_of matches.now))) }
 {
-    match optional_at(matches, 1, 4_102_444_800, "until")? {
+    match optional_at(matches, 1, 4_102_444_800, Argument::Until)? {
         None => Ok(None),
         Some(seconds) => match Moment::new(seconds) {
             Some(moment) => Ok(CreditEnd::new(moment)),
@@ -136,7 +138,7 @@ pub(crate) fn until(matches: &ArgMatches<'_>) -> Result<Option<CreditEnd>, Value
 pub(crate) fn scope(matches: &ArgMatches<'_>) -> Result<Option<u32>, ValueFault>
     ensures { Says (λ g. g) result (scope_of (rows_of (found_of matches.now))) }
 {
-    match optional_at(matches, 0, 4_294_967_295, "scope")? {
+    match optional_at(matches, 0, 4_294_967_295, Argument::Scope)? {
         None => Ok(None),
         Some(group) => Ok(Some(group as u32)),
     }
@@ -146,7 +148,7 @@ pub(crate) fn scope(matches: &ArgMatches<'_>) -> Result<Option<u32>, ValueFault>
 pub(crate) fn group(matches: &ArgMatches<'_>) -> Result<u32, ValueFault>
     ensures { Says (λ g. g) result (group_of (rows_of (found_of matches.now))) }
 {
-    let number = number_at(matches, 0, 4_294_967_295, "scope")?;
+    let number = number_at(matches, 0, 4_294_967_295, Argument::Scope)?;
     Ok(number as u32)
 }
 
@@ -155,13 +157,13 @@ pub(crate) fn group(matches: &ArgMatches<'_>) -> Result<u32, ValueFault>
 pub(crate) fn path_at(
     alloc: Global,
     matches: &ArgMatches<'_>,
-    id: &str,
+    argument: Argument,
 ) -> Result<FilePath, ValueFault>
     ensures { GivesUnless Memory (λ p. p) result
-        (path_at id.now (rows_of (found_of matches.now))) }
+        (path_at argument (rows_of (found_of matches.now))) }
 {
-    let text = word(matches, id)?;
-    FilePath::new(alloc, text)?.ok_or(ValueFault::Invalid)
+    let text = word(matches, argument)?;
+    FilePath::new(alloc, text)?.ok_or(ValueFault::Invalid(argument))
 }
 
 /// The path of the database.
@@ -169,7 +171,7 @@ pub(crate) fn database(alloc: Global, matches: &ArgMatches<'_>) -> Result<FilePa
     ensures { GivesUnless Memory (λ p. p) result
         (database_of (rows_of (found_of matches.now))) }
 {
-    path_at(alloc, matches, "DB")
+    path_at(alloc, matches, Argument::Database)
 }
 
 /// The account's number.
@@ -178,8 +180,8 @@ pub(crate) fn account(alloc: Global, matches: &ArgMatches<'_>) -> Result<Account
     ensures { GivesUnless Memory (λ a. a) result
         (account_of (rows_of (found_of matches.now))) }
 {
-    let text = word(matches, "ACCOUNT")?;
-    AccountNumber::new(alloc, text)?.ok_or(ValueFault::Invalid)
+    let text = word(matches, Argument::Account)?;
+    AccountNumber::new(alloc, text)?.ok_or(ValueFault::Invalid(Argument::Account))
 }
 
 /// The reference of a credit or an allowance.
@@ -188,8 +190,8 @@ pub(crate) fn reference(alloc: Global, matches: &ArgMatches<'_>) -> Result<Refer
     ensures { GivesUnless Memory (λ r. r) result
         (reference_of (rows_of (found_of matches.now))) }
 {
-    let text = word(matches, "REFERENCE")?;
-    Reference::new(alloc, text)?.ok_or(ValueFault::Invalid)
+    let text = word(matches, Argument::Reference)?;
+    Reference::new(alloc, text)?.ok_or(ValueFault::Invalid(Argument::Reference))
 }
 
 /// The month.
@@ -197,8 +199,8 @@ pub(crate) fn reference(alloc: Global, matches: &ArgMatches<'_>) -> Result<Refer
 pub(crate) fn month(matches: &ArgMatches<'_>) -> Result<Month, ValueFault>
     ensures { Says (λ m. m) result (month_at (rows_of (found_of matches.now))) }
 {
-    let text = word(matches, "YYYYMM")?;
-    Month::from_word(text).ok_or(ValueFault::Invalid)
+    let text = word(matches, Argument::Month)?;
+    Month::from_word(text).ok_or(ValueFault::Invalid(Argument::Month))
 }
 
 /// Whether a flag is there.

@@ -138,7 +138,7 @@ fn unread(rt: &impl Abort, alloc: Global, fault: &WordsFault) -> String {
             let code = error.exit_code();
             format!(in alloc; "unread {code}").expect(rt, "memory")
         }
-        WordsFault::Invalid => word(rt, alloc, "invalid"),
+        WordsFault::Invalid(argument) => word(rt, alloc, argument.line()),
         WordsFault::Memory => word(rt, alloc, "memory"),
     }
 }
@@ -161,42 +161,42 @@ pub(crate) fn told(rt: &impl Abort, alloc: Global, line: &str) -> String {
 /// and at and past its bounds.
 const LINES: &str = "ocs once --credit 1000000 --price 0 --block 60 -> once 1000000 0 60
 ocs once --block=60 --price=1000000000 --credit=1 -> once 1 1000000000 60
-ocs once --credit 0 --price 0 --block 60 -> invalid
+ocs once --credit 0 --price 0 --block 60 -> ocs: --credit takes 1 to 1000000000000000
 ocs once --credit 1 --price 0 -> unread 2
 ocs init db book -> init db book
 ocs init db -> unread 2
 ocs init db book more -> unread 2
-ocs init  book -> invalid
+ocs init  book -> ocs: DB takes a path of 1 byte or more
 ocs migrate db -> migrate db
 ocs migrate -> unread 2
 ocs migrate db --at 1 -> unread 2
-ocs migrate  -> invalid
+ocs migrate  -> ocs: DB takes a path of 1 byte or more
 ocs book db file --from 1767657600 -> book db file 1767657600
 ocs book --from=4102444799 db file -> book db file 4102444799
 ocs book db file --from 0 -> book db file 0
-ocs book db file --from 4102444800 -> invalid
+ocs book db file --from 4102444800 -> ocs: --from takes 0 to 4102444799
 ocs book db file -> unread 2
 ocs book db --from 1 -> unread 2
 ocs book db file --from 1 --at 1 -> unread 2
 ocs serve db --port 65535 --connections 1000000 --at 0 -> serve db 65535 1000000 Some(0)
 ocs serve --port 1 --connections 1 db -> serve db 1 1 None
-ocs serve db --port 65536 --connections 1 -> invalid
-ocs serve db --port 0 --connections 1 -> invalid
-ocs serve db --port 1 --connections 1000001 -> invalid
+ocs serve db --port 65536 --connections 1 -> ocs: --port takes 1 to 65535
+ocs serve db --port 0 --connections 1 -> ocs: --port takes 1 to 65535
+ocs serve db --port 1 --connections 1000001 -> ocs: --connections takes 1 to 1000000
 ocs serve db --port 1 -> unread 2
 ocs import db file --at 4102444799 -> import db file Some(4102444799)
-ocs import db file --at 4102444800 -> invalid
+ocs import db file --at 4102444800 -> ocs: --at takes 0 to 4102444799
 ocs open db 49151 --at 1 -> open 49151 in db Some(1)
 ocs --at 1 open db 49151 -> unread 2
 ocs open --at 1 db 49151 -> open 49151 in db Some(1)
 ocs open db 49151 --at 1 --at 2 -> unread 2
 ocs open db 49151 --at -> unread 2
-ocs open db 1234567890123456 -> invalid
+ocs open db 1234567890123456 -> ocs: ACCOUNT takes 1 to 15 digits
 ocs bar db 0 -> bar 0 in db None
 ocs unbar db 0 -> unbar 0 in db None
 ocs sweep db --at 0000000000000001 -> sweep in db Some(1)
-ocs sweep db --at 00000000000000001 -> invalid
-ocs sweep db --at +1 -> invalid
+ocs sweep db --at 00000000000000001 -> ocs: --at takes 0 to 4102444799
+ocs sweep db --at +1 -> ocs: --at takes 0 to 4102444799
 ocs credit db 0 1000000000000000 r1 -> credit 0 1000000000000000 r1 4102444800 None in db None
 ocs credit db 0 1 r1 --until 1 --scope 4294967295 -> credit 0 1 r1 1 Some(4294967295) in db None
 ocs credit --scope 10 db 0 1 r1 -> credit 0 1 r1 4102444800 Some(10) in db None
@@ -204,22 +204,22 @@ ocs credit db 0 1 -x -> unread 2
 ocs credit db 0 1 -- -x -> credit 0 1 -x 4102444800 None in db None
 ocs credit --scope 10 db 0 1 -- --at -> credit 0 1 --at 4102444800 Some(10) in db None
 ocs init -- -db -book -> init -db -book
-ocs credit db 0 0 r1 -> invalid
-ocs credit db 0 1 r1 --until 0 -> invalid
-ocs credit db 0 1 r1 --scope 4294967296 -> invalid
+ocs credit db 0 0 r1 -> ocs: AMOUNT takes 1 to 1000000000000000
+ocs credit db 0 1 r1 --until 0 -> ocs: --until takes 1 to 4102444800
+ocs credit db 0 1 r1 --scope 4294967296 -> ocs: --scope takes 0 to 4294967295
 ocs allow db 0 1000000000 a1 --scope 4294967295 -> allow 0 1000000000 a1 4102444800 4294967295 in db None
 ocs allow db 0 1 a1 --until 1 --scope 0 --at 5 -> allow 0 1 a1 1 0 in db Some(5)
 ocs allow --scope=10 db 0 1 a1 --until 4102444800 -> allow 0 1 a1 4102444800 10 in db None
 ocs allow db 0 1 a1 -> unread 2
 ocs allow db 0 1 --scope 10 -> unread 2
-ocs allow db 0 0 a1 --scope 10 -> invalid
-ocs allow db 0 1000000001 a1 --scope 10 -> invalid
-ocs allow db 0 1 a1 --scope 4294967296 -> invalid
-ocs allow db 0 1 a1 --scope 10 --until 0 -> invalid
+ocs allow db 0 0 a1 --scope 10 -> ocs: BLOCKS takes 1 to 1000000000
+ocs allow db 0 1000000001 a1 --scope 10 -> ocs: BLOCKS takes 1 to 1000000000
+ocs allow db 0 1 a1 --scope 4294967296 -> ocs: --scope takes 0 to 4294967295
+ocs allow db 0 1 a1 --scope 10 --until 0 -> ocs: --until takes 1 to 4102444800
 ocs statement db 49151 202601 -> statement db 49151 202601 false None
 ocs statement --csv db 49151 202612 --at 5 -> statement db 49151 202612 true Some(5)
-ocs statement db 49151 202613 -> invalid
-ocs statement db 49151 196912 -> invalid
+ocs statement db 49151 202613 -> ocs: YYYYMM takes 197001 to 209912
+ocs statement db 49151 196912 -> ocs: YYYYMM takes 197001 to 209912
 ocs replay db file -> replay db file
 ocs replay db file --at 1 -> unread 2
 ocs -> unread 2
