@@ -139,21 +139,21 @@ fn reservation_of(
     books: &TariffShelf,
     buckets: &[Bucket],
     row: &OpenGroup,
-    open: &OpenRows,
+    read: &OpenRows,
 ) -> Result<Option<Reservation>, ReadFault>
-    requires { DoOpenRowsRise open.now }
+    requires { DoOpenRowsRise read.now }
     ensures { IfOk result (λ o. IsReservationOf (shelf_names books.now) buckets.now
-        (held_for row.now.session open.now.holds.items)
-        (book_of row.now.session row.now.columns.group open.now.books.items)
+        (held_for row.now.session read.now.holds.items)
+        (book_of row.now.session row.now.columns.group read.now.books.items)
         row.now.columns.group (option_map names_of row.now.columns.periods) o) }
 {
     let Some(names) = &row.columns.periods else {
         return Ok(None);
     };
     let group = row.columns.group;
-    let number = number_of(&open.books, &row.session, group);
+    let number = number_of(&read.books, &row.session, group);
     let terms = terms_of(books, number, names)?;
-    let own = held_for(alloc, &row.session, &open.holds)?;
+    let own = held_for(alloc, &row.session, &read.holds)?;
     let holds = holds_of(alloc, buckets, group, &own)?;
     Ok(Some(Reservation { terms, holds }))
 }
@@ -163,13 +163,13 @@ fn group_of(
     books: &TariffShelf,
     buckets: &[Bucket],
     row: &OpenGroup,
-    open: &OpenRows,
+    read: &OpenRows,
 ) -> Result<SessionGroup, ReadFault>
-    requires { DoOpenRowsRise open.now }
-    ensures { IfOk result (λ x. IsGroupOf (shelf_names books.now) buckets.now open.now.holds.items
-        open.now.books.items (open_group_at row.now) x) }
+    requires { DoOpenRowsRise read.now }
+    ensures { IfOk result (λ x. IsGroupOf (shelf_names books.now) buckets.now read.now.holds.items
+        read.now.books.items (open_group_at row.now) x) }
 {
-    let reservation = reservation_of(alloc, books, buckets, row, open)?;
+    let reservation = reservation_of(alloc, books, buckets, row, read)?;
     let session = row.session.clone()?;
     Ok(SessionGroup {
         session,
@@ -185,16 +185,16 @@ pub(crate) fn groups_of(
     alloc: Global,
     books: &TariffShelf,
     buckets: &[Bucket],
-    open: &OpenRows,
+    read: &OpenRows,
 ) -> Result<Vec<SessionGroup>, ReadFault>
-    requires { DoOpenRowsRise open.now }
+    requires { DoOpenRowsRise read.now }
     ensures { IfOk result (λ xs. AreGroupsOf (shelf_names books.now) buckets.now
-        open.now.holds.items open.now.books.items (map open_group_at open.now.groups.items)
+        read.now.holds.items read.now.books.items (map open_group_at read.now.groups.items)
         xs.items) }
 {
     let mut groups = Vec::new(alloc);
-    'rows: for row in &open.groups {
-        let group = group_of(alloc, books, buckets, row, open)?;
+    'rows: for row in &read.groups {
+        let group = group_of(alloc, books, buckets, row, read)?;
         groups.push(group)?;
     }
     Ok(groups)

@@ -7,10 +7,10 @@ use Rattle.sql_keeper.proofs.rebuilding_groups.groups_of.Goals as goal
 
 pub rows-preserved : goal.rows-preserved
 rows-preserved c =
-    let rows = c.args.open.now.groups.items in
+    let rows = c.args.read.now.groups.items in
     row_made
-    (IsGroupOf (shelf_names c.args.books.now) c.args.buckets.now c.args.open.now.holds.items
-    c.args.open.now.books.items)
+    (IsGroupOf (shelf_names c.args.books.now) c.args.buckets.now c.args.read.now.holds.items
+    c.args.read.now.books.items)
     rows c.rows.row-index c.row-item.result c.rows.groups.items c.push.new.self.items
     c.in_ok-group.group (omega (arith, ap length c.deref-row-items.ensures.value))
     (subst (λ (l : List OpenGroup). c.row-item.result ≡ get_or l c.rows.row-index c.row-item.result)

@@ -6,5 +6,5 @@ use Rattle.sql_keeper.proofs.rebuilding_groups.groups_of.Given as goal
 
 abbrev pub invariant-rows : goal.invariant-rows
 invariant-rows l =
-    AreGroupsOf (shelf_names l.books) l.buckets l.open.holds.items l.open.books.items
-    (map open_group_at (take l.row-index l.open.groups.items)) l.groups.items
+    AreGroupsOf (shelf_names l.books) l.buckets l.read.holds.items l.read.books.items
+    (map open_group_at (take l.row-index l.read.groups.items)) l.groups.items
