@@ -14,6 +14,8 @@ INITIAL, UPDATE, TERMINATION, EVENT = 1, 2, 3, 4
 DEBIT, REFUND, CHECK, ENQUIRY = 0, 1, 2, 3
 UNITS = {"time": "CC-Time", "octets": "CC-Total-Octets", "events": "CC-Service-Specific-Units"}
 NO_END = 4_102_444_800
+# The version of the tables.
+LATEST = 3
 MOST_BLOCKS = 10**9
 MINUTE, DAY = 60, 86_400
 # The order in which the parts of a report are rated.
@@ -167,10 +169,11 @@ class Shelf:
     """Tariff books, each from a moment on."""
 
     def __init__(self, text):
-        self.books = [(0, Book(text))]
+        self.books, self.texts = [(0, Book(text))], [text]
 
     def add(self, moment, text):
         self.books.append((moment, Book(text)))
+        self.texts.append(text)
 
     def number(self, moment):
         return max(at for at, (begins, _) in enumerate(self.books, 1) if begins <= moment)
@@ -706,7 +709,7 @@ class Office:
     # ---- rows
 
     def tables(self):
-        """The rows of each table but the books', with all columns in their order."""
+        """The rows of each table, with all columns in their order."""
         tables = {it: [] for it in ("accounts", "buckets", "counters", "sessions", "session_groups", "holds",
                                     "answers", "charges", "grant_books", "allowance_buckets", "covered")}
         for name, account in self.accounts.items():
@@ -727,5 +730,8 @@ class Office:
                                           *amounts_of(it)))
                 if it["covered"]:
                     tables["covered"].append((name, number, it["covered"]))
+        later = zip(self.shelf.books[1:], self.shelf.texts[1:])
+        tables["books"] = [(number, begins, text) for number, ((begins, _), text) in enumerate(later, 2)]
+        tables["meta"] = [(1, LATEST, self.shelf.texts[0], self.last)]
         tables["vouchers"] = [(code, *terms, spent) for code, (terms, spent) in self.vouchers.items()]
         return tables
