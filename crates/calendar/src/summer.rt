@@ -13,6 +13,9 @@ use crate::zone::ZoneChange;
 use jiff_core::civil::Date;
 use std::alloc::{AllocError, Global};
 
+/// The days from the first `Date` that there is, of the year -9999, to 1968-12-31.
+const DAYS_BEFORE_1968: u32 = 4_371_221;
+
 /// When a clock is changed each year: `Mm.w.d/time` (POSIX, Base Definitions 8.3, TZ).
 #[derive(Clone, Copy)]
 pub struct YearlyChange {
@@ -56,7 +59,7 @@ fn since_1968(date: Date) -> u32
     requires { pos 0 ≤ℤ (epoch_day date +ℤ pos 366) }
     ensures { pos result ≡ epoch_day date +ℤ pos 366 }
 {
-    date.days_since_min() - 4_371_221
+    date.days_since_min() - DAYS_BEFORE_1968
 }
 
 /// The weekday, from 0 for Sunday.

@@ -23,6 +23,15 @@ use units::Moment;
 /// The seconds from 1968-12-31 00:00 UTC to 1970-01-01 00:00 UTC.
 const BEFORE_1970: u64 = 31_622_400;
 
+/// The moment of a change that doesn't come: it is past all moments.
+const NO_CHANGE: u64 = 60_000_000_000;
+
+/// No clock shows so late a time, in seconds since 1968-12-31 00:00, at a moment of a command.
+const LATEST_SHOWN: u64 = 4_102_600_000;
+
+/// How far a clock may be from UTC, in minutes: fourteen hours.
+const WIDEST_OFFSET: i16 = 840;
+
 /// A change of a zone's offset (a transition, RFC 9636 section 3.2).
 #[derive(Clone, Copy)]
 pub struct ZoneChange {
@@ -103,7 +112,7 @@ fn next_after(changes: &[ZoneChange], at: u64, place: usize) -> u64
     if place < changes.len() {
         changes[place].at
     } else {
-        60_000_000_000
+        NO_CHANGE
     }
 }
 
@@ -127,7 +136,7 @@ impl Zone {
         ensures in_range { IsSome result ↔ IsWithin widest_offset minutes }
         ensures value { IfSome result (λ z. z ≡ minutes_ahead minutes) }
     {
-        if minutes < -840 || 840 < minutes {
+        if minutes < -WIDEST_OFFSET || WIDEST_OFFSET < minutes {
             return None;
         }
         Some(Zone {
@@ -240,7 +249,7 @@ impl Zone {
         ensures { result ≡ day_end self.now moment days }
     {
         let shown = (u64::from(self.day_at(moment)) + u64::from(days) + 1) * 86_400;
-        if shown > 4_102_600_000 {
+        if shown > LATEST_SHOWN {
             return None;
         }
         Moment::of_command(self.read_clock(shown))

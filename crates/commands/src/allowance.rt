@@ -6,7 +6,7 @@ ghost use Rattle.units.specs.Words.{no_end, most_blocks};
 use crate::command::{CreditEnd, CreditStart};
 use identifiers::{AccountNumber, Reference};
 use std::marker::Model;
-use units::{Blocks, Moment};
+use units::{Blocks, MOST_BLOCKS, Moment};
 
 /// How many blocks an allowance has: 1 to 1,000,000,000.
 ///
@@ -36,7 +36,7 @@ impl AllowanceBlocks {
         ensures value { IfSome result (λ b. b ≡ blocks.0) }
     {
         let number = blocks.0;
-        if 1 <= number && number <= 1_000_000_000 {
+        if 1 <= number && number <= MOST_BLOCKS {
             Some(AllowanceBlocks { number })
         } else {
             None

@@ -10,7 +10,7 @@ use crate::fault::WireFault;
 use crate::reading::whole_in;
 use crate::scratch::Tree;
 use crate::value::get;
-use units::UnitKind;
+use units::{MOST_SECONDS, MOST_USED, UnitKind};
 
 /// The name of the member that counts units of this kind.
 pub fn unit_name(kind: UnitKind) -> &'static str
@@ -49,8 +49,8 @@ fn most_units(kind: UnitKind) -> u64
     ensures { result ≡ most_units kind }
 {
     match kind {
-        UnitKind::Time => 4_294_967_295,
-        UnitKind::TotalOctets | UnitKind::ServiceSpecific => 1_000_000_000_000_000_000,
+        UnitKind::Time => MOST_SECONDS,
+        UnitKind::TotalOctets | UnitKind::ServiceSpecific => MOST_USED,
     }
 }
 

@@ -107,7 +107,7 @@ impl<K: Keeper> Keeper for Failing<K> {
     fn failures(&self) -> u64 {
         let inner = self.inner.failures();
         if self.failed {
-            inner.saturating_add(1).min(1_000_000_000_000_000_000)
+            inner.saturating_add(1).min(MOST_FAILURES)
         } else {
             inner
         }

@@ -3,6 +3,9 @@
 use std::alloc::AllocError;
 use thiserror::Error;
 
+/// The count of failed calls stays here.
+pub const MOST_FAILURES: u64 = 1_000_000_000_000_000_000;
+
 /// Why a keeper didn't do what it was asked.
 #[derive(Clone, Copy, Debug, Drop, Error, PartialEq, Eq)]
 pub enum StoreFault {

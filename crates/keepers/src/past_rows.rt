@@ -12,9 +12,7 @@ use crate::places::has_group;
 use reserving::{GivenRows, Session, SessionGroup, StoredAccount};
 use std::alloc::Global;
 use std::mem;
-
-/// The most units that a row may have used.
-const MOST_USED: u64 = 1_000_000_000_000_000_000;
+use units::MOST_USED;
 
 /// Whether a group's row can be left at once: it holds nothing, its use is in its range, and the
 /// live rows have neither its session nor this group of it.

@@ -21,6 +21,7 @@ use crate::values::{
 };
 use clap::ArgMatches;
 use std::alloc::Global;
+use units::{GREATEST_PRICE, MOST_GRANTED};
 
 /// The words of `once`.
 #[tactic(auto, unfolding(crate::specs::Said::once_said))]
@@ -29,8 +30,8 @@ pub(crate) fn once_said(matches: &ArgMatches<'_>) -> Result<OnceWords, ValueFaul
     ensures in_range { IfOk result IsOnceInRange }
 {
     let credit = amount_at(matches, Argument::Credit)?;
-    let price = number_at(matches, 0, 1_000_000_000, Argument::Price)?;
-    let block = number_at(matches, 1, 1_000_000_000_000_000, Argument::Block)?;
+    let price = number_at(matches, 0, GREATEST_PRICE, Argument::Price)?;
+    let block = number_at(matches, 1, MOST_GRANTED, Argument::Block)?;
     Ok(OnceWords {
         credit,
         price,

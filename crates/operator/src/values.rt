@@ -18,7 +18,9 @@ use commands::{AllowanceBlocks, CreditEnd};
 use identifiers::{AccountNumber, Reference};
 use std::alloc::Global;
 use texts::{Month, number};
-use units::{Blocks, Moment, Money};
+use units::{
+    Blocks, GREATEST_NUMBER, LATEST_COMMAND, MOST_BLOCKS, MOST_MONEY, Moment, Money, NO_END,
+};
 
 /// The first word of an operand or an option, where it is there.
 fn found<'a>(matches: &ArgMatches<'a>, id: &str) -> Option<&'a str>
@@ -87,7 +89,7 @@ pub(crate) fn amount_at(matches: &ArgMatches<'_>, argument: Argument) -> Result<
         (number_at 1 most_money argument (rows_of (found_of matches.now))) }
     ensures in_range { IfOk result (λ m. (1 ≤ m) × (m ≤ most_money)) }
 {
-    let micros = number_at(matches, 1, 1_000_000_000_000_000, argument)?;
+    let micros = number_at(matches, 1, MOST_MONEY, argument)?;
     Money::new(micros).ok_or(ValueFault::Invalid(argument))
 }
 
@@ -97,7 +99,7 @@ pub(crate) fn blocks(matches: &ArgMatches<'_>) -> Result<AllowanceBlocks, ValueF
         (number_at 1 most_blocks argument.Blocks (rows_of (found_of matches.now))) }
     ensures in_range { IfOk result (λ b. (1 ≤ b) × (b ≤ most_blocks)) }
 {
-    let number = number_at(matches, 1, 1_000_000_000, Argument::Blocks)?;
+    let number = number_at(matches, 1, MOST_BLOCKS, Argument::Blocks)?;
     AllowanceBlocks::new(Blocks(number)).ok_or(ValueFault::Invalid(Argument::Blocks))
 }
 
@@ -106,7 +108,7 @@ pub(crate) fn first_moment(matches: &ArgMatches<'_>) -> Result<Moment, ValueFaul
     ensures value { Says (λ t. t) result (from_of (rows_of (found_of matches.now))) }
     ensures in_range { IfOk result (λ t. t ≤ latest_command) }
 {
-    let seconds = number_at(matches, 0, 4_102_444_799, Argument::From)?;
+    let seconds = number_at(matches, 0, LATEST_COMMAND, Argument::From)?;
     Moment::of_command(seconds).ok_or(ValueFault::Invalid(Argument::From))
 }
 
@@ -115,7 +117,7 @@ pub(crate) fn at(matches: &ArgMatches<'_>) -> Result<Option<Moment>, ValueFault>
     ensures value { Says (λ t. t) result (at_of (rows_of (found_of matches.now))) }
     ensures in_range { IfOk result (λ o. IfSome o (λ t. t ≤ latest_command)) }
 {
-    match optional_at(matches, 0, 4_102_444_799, Argument::At)? {
+    match optional_at(matches, 0, LATEST_COMMAND, Argument::At)? {
         None => Ok(None),
         Some(seconds) => Ok(Moment::of_command(seconds)),
     }
@@ -125,7 +127,7 @@ pub(crate) fn at(matches: &ArgMatches<'_>) -> Result<Option<Moment>, ValueFault>
 pub(crate) fn until(matches: &ArgMatches<'_>) -> Result<Option<CreditEnd>, ValueFault>
     ensures { Says (λ e. e) result (until_of (rows_of (found_of matches.now))) }
 {
-    match optional_at(matches, 1, 4_102_444_800, Argument::Until)? {
+    match optional_at(matches, 1, NO_END, Argument::Until)? {
         None => Ok(None),
         Some(seconds) => match Moment::new(seconds) {
             Some(moment) => Ok(CreditEnd::new(moment)),
@@ -138,7 +140,7 @@ pub(crate) fn until(matches: &ArgMatches<'_>) -> Result<Option<CreditEnd>, Value
 pub(crate) fn scope(matches: &ArgMatches<'_>) -> Result<Option<u32>, ValueFault>
     ensures { Says (λ g. g) result (scope_of (rows_of (found_of matches.now))) }
 {
-    match optional_at(matches, 0, 4_294_967_295, Argument::Scope)? {
+    match optional_at(matches, 0, GREATEST_NUMBER, Argument::Scope)? {
         None => Ok(None),
         Some(group) => Ok(Some(group as u32)),
     }
@@ -148,7 +150,7 @@ pub(crate) fn scope(matches: &ArgMatches<'_>) -> Result<Option<u32>, ValueFault>
 pub(crate) fn group(matches: &ArgMatches<'_>) -> Result<u32, ValueFault>
     ensures { Says (λ g. g) result (group_of (rows_of (found_of matches.now))) }
 {
-    let number = number_at(matches, 0, 4_294_967_295, Argument::Scope)?;
+    let number = number_at(matches, 0, GREATEST_NUMBER, Argument::Scope)?;
     Ok(number as u32)
 }
 

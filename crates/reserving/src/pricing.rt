@@ -19,10 +19,7 @@ use ledger::Terms;
 use rating::{Part, Periods, Rated, rate_report};
 use shelves::TariffShelf;
 use tariffs::{Prices, Side, Tariff, TariffBook};
-use units::{Blocks, Moment, TariffChangeUsage, Units, UsedPart};
-
-/// The last moment that there is, 43,200 seconds past the last one of commands.
-const LAST_MOMENT: u64 = 4_102_488_000;
+use units::{Blocks, LATEST_MOMENT, Moment, TariffChangeUsage, Units, UsedPart};
 
 /// For how long, and by which periods, a grant of a moment is valid.
 #[derive(Clone, Copy)]
@@ -81,7 +78,7 @@ fn reach(book: &TariffBook, moment: Moment) -> u32
     ensures value { result ≡ reach book.now moment }
     ensures within { moment + result ≤ latest_moment }
 {
-    let left = LAST_MOMENT - moment.seconds();
+    let left = LATEST_MOMENT - moment.seconds();
     let validity = book.validity();
     if u64::from(validity) < left {
         validity

@@ -11,7 +11,7 @@ use buckets::{BucketKind, Charged};
 use identifiers::SessionId;
 use ledger::Terms;
 use rating::Rated;
-use units::{Amount, Blocks, Moment, Units, UsedPart};
+use units::{Amount, Blocks, GREATEST_NUMBER, Moment, Units, UsedPart};
 
 /// What became of a report of used units or of a debit. The type keeps that what is collected and
 /// what isn't sum to the rated amount.
@@ -35,9 +35,6 @@ const MOST_USED: u128 = 1_000_000_000_000_000_000;
 
 /// The most blocks that a counter counts.
 const MOST_COUNTED: u128 = 4_000_000_000_000_000_000;
-
-/// The greatest number of a charge.
-const LAST_CHARGE: u64 = 4_294_967_295;
 
 /// A use as it is rated: its units, the blocks that they start, those of them that are covered, and
 /// what the others cost.
@@ -144,7 +141,7 @@ impl<'b> Account<'b> {
         let Some(_) = self.rate(session, group, parts, moment) else {
             return true;
         };
-        (LAST_CHARGE as u128) < self.next_charge() as u128 + charges as u128
+        (GREATEST_NUMBER as u128) < self.next_charge() as u128 + charges as u128
     }
 
     /// Makes the rows that a settlement writes to. At a fault, which is lack of memory, nothing has
@@ -245,7 +242,7 @@ impl<'b> Account<'b> {
         let used = grouping::used_of(&self.rows.groups, session, group) as u128 + units.0 as u128;
         let place = self.place_at(group, moment);
         let counted = rated.blocks <= MOST_COUNTED && place as u128 + rated.blocks <= MOST_COUNTED;
-        if MOST_USED < used || !counted || LAST_CHARGE < self.rows.next_charge {
+        if MOST_USED < used || !counted || GREATEST_NUMBER < self.rows.next_charge {
             return None;
         }
         Some(RatedUse {

@@ -24,12 +24,11 @@ use crate::still_open::still_open;
 use keepers::StoreFault;
 use shelves::{ShelfFault, TariffShelf};
 use sql_rows::put_book;
-use sql_rules::NO_END;
 use sql_tables::ReadFault;
 use sqlite::{Alter, Connection, Error};
 use std::alloc::Global;
 use tariffs::TariffBook;
-use units::Moment;
+use units::{Moment, NO_END};
 
 /// Writes a book's row in one transaction.
 fn write_book<S: Alter>(

@@ -4,12 +4,9 @@ ghost use Rattle.std.specs.Prelude.{◌≡◌, ◌≤◌, ◌+◌, min};
 ghost use Rattle.keepers.specs.Faults.{HasCause, max_failures};
 ghost use Rattle.sql_keeper.specs.Asks.{IsCounted, IsHanded, counted_once, is_memory, told_fault};
 
-use keepers::StoreFault;
+use keepers::{MOST_FAILURES, StoreFault};
 use sql_tables::ReadFault;
 use sqlite::{Error, ErrorCode};
-
-/// The count of failures stays at it.
-const MOST_FAILURES: u64 = 1_000_000_000_000_000_000;
 
 /// Counts a failure, up to `MOST_FAILURES`.
 fn raise(failures: &mut u64)

@@ -25,10 +25,9 @@ use keepers::{Change, KeptAnswer, NamedRows, Redeemed};
 use ledger::ChargeRow;
 use reserving::{Counter, Reservation, Session, SessionGroup, SessionState};
 use shelves::TariffShelf;
-use sql_rules::{
-    END_OF_NUMBERS, GREATEST_NUMBER, MOST_COUNTED, MOST_DAYS, MOST_MONEY, MOST_USED, NO_END,
+use units::{
+    END_OF_NUMBERS, GREATEST_NUMBER, MOST_COUNTED, MOST_DAYS, MOST_MONEY, MOST_USED, Moment, NO_END,
 };
-use units::Moment;
 use voucher_rules::VoucherTerms;
 
 // ---- values

@@ -4,7 +4,6 @@
 mod columns;
 mod kept;
 mod laws;
-mod limits;
 mod names;
 mod periods;
 mod rows;
@@ -14,8 +13,5 @@ mod walking;
 pub use crate::laws::{
     content_in_rules_is_of_ruled_rows, puts_keep_the_rules, ruled_rows_are_ruled_under_their_keys,
     ruled_rows_are_told_ruled,
-};
-pub use crate::limits::{
-    END_OF_NUMBERS, GREATEST_NUMBER, MOST_COUNTED, MOST_DAYS, MOST_MONEY, MOST_USED, NO_END,
 };
 pub use crate::ruling::rules_of;

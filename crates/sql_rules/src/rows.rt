@@ -13,15 +13,15 @@ ghost use Rattle.sql_rules.specs.Rules.{is_ruled_voucher, rule_at};
 
 use crate::columns::{is_null_at, is_optional_within, is_within, number_at, text_at};
 use crate::kept::are_kept_texts;
-use crate::limits::{
-    END_OF_NUMBERS, GREATEST_NUMBER, LATEST_COMMAND, MOST_COUNTED, MOST_DAYS, MOST_MONEY,
-    MOST_USED, NO_END,
-};
 use crate::names::{is_account_number, is_reference, is_session_id, is_voucher_code};
 use crate::periods::is_period_name;
 use shelves::TariffShelf;
 use sqlite::Row;
 use std::alloc::{AllocError, Global};
+use units::{
+    END_OF_NUMBERS, GREATEST_NUMBER, LATEST_COMMAND, MOST_COUNTED, MOST_DAYS, MOST_MONEY,
+    MOST_USED, NO_END,
+};
 
 /// How many tables there are, those of all versions.
 pub(crate) const TABLES: usize = 14;

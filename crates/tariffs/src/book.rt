@@ -24,7 +24,7 @@ use calendar::{Calendar, Cycle, Period, Window};
 use std::alloc::Global;
 use std::marker::Model;
 use toml::Table;
-use units::{Moment, Steps};
+use units::{GREATEST_CURRENCY, LONGEST_VALIDITY, Moment, Steps};
 
 /// The tariff book of an operator: what rating groups cost in which period of the week.
 pub struct TariffBook {
@@ -67,8 +67,8 @@ fn book(alloc: Global, table: &Table) -> Result<TariffBook, BookFault>
 {
     let zone = week_fields::zone(alloc, table)?;
     let zone_text = week_fields::zone_text(alloc, table)?;
-    let currency = book_fields::number(table, "currency", 1, 999)? as u16;
-    let validity = book_fields::number(table, "validity", 60, 43_200)? as u32;
+    let currency = book_fields::number(table, "currency", 1, GREATEST_CURRENCY)? as u16;
+    let validity = book_fields::number(table, "validity", 60, LONGEST_VALIDITY)? as u32;
     let periods = PeriodNames::read(alloc, table)?;
     let entries = week_fields::entries(alloc, &periods, table)?;
     let Some(calendar) = Calendar::new(zone, entries) else {

@@ -19,7 +19,7 @@ use calendar::Cycle;
 use identifiers::RedirectAddress;
 use std::alloc::Global;
 use toml::{Table, Value};
-use units::UnitKind;
+use units::{GREATEST_NUMBER, MOST_GRANTED, MOST_SECONDS, UnitKind};
 
 fn has_group(before: &[Tariff], id: u32) -> bool
     ensures { result ≡ list_any (λ other. other.group == id) before.now }
@@ -37,7 +37,7 @@ fn id(before: &[Tariff], table: &Table) -> Result<u32, BookFault>
     ensures value { Gives (λ n. n) result (id_of before.now (table_view table.now)) }
     ensures new { IfOk result (λ n. list_any (λ other. other.group == n) before.now ≡ false) }
 {
-    let id = book_fields::number(table, "id", 0, 4_294_967_295)? as u32;
+    let id = book_fields::number(table, "id", 0, GREATEST_NUMBER)? as u32;
     if has_group(before, id) {
         return Err(BookFault::OutOfRange);
     }
@@ -70,8 +70,8 @@ fn most_units(unit: UnitKind) -> u64
     ensures { result ≡ most_units unit }
 {
     match unit {
-        UnitKind::Time => 4_294_967_295,
-        UnitKind::TotalOctets | UnitKind::ServiceSpecific => 1_000_000_000_000_000,
+        UnitKind::Time => MOST_SECONDS,
+        UnitKind::TotalOctets | UnitKind::ServiceSpecific => MOST_GRANTED,
     }
 }
 
@@ -83,7 +83,7 @@ fn max_grant(unit: UnitKind, block: u64, slice: u64, table: &Table) -> Result<u6
     ensures slice { IfOk result (λ n. slice ≤ n) }
     ensures few_blocks { IfOk result (λ n. n / block ≤ 999_999_999) }
 {
-    let most = book_fields::number(table, "max_grant", 1, 1_000_000_000_000_000)?;
+    let most = book_fields::number(table, "max_grant", 1, MOST_GRANTED)?;
     if most <= most_units(unit) && slice <= most && most / block <= 999_999_999 {
         Ok(most)
     } else {
@@ -153,8 +153,8 @@ fn group(
     let table = book_fields::entry_table(value)?;
     let group = id(before, table)?;
     let unit = unit(table)?;
-    let block = book_fields::number(table, "block", 1, 1_000_000_000_000_000)?;
-    let slice = book_fields::number(table, "slice", 1, 1_000_000_000_000_000)?;
+    let block = book_fields::number(table, "block", 1, MOST_GRANTED)?;
+    let slice = book_fields::number(table, "slice", 1, MOST_GRANTED)?;
     let max_grant = max_grant(unit, block, slice, table)?;
     let cycle = cycle(table)?;
     let final_action = final_action(alloc, table)?;

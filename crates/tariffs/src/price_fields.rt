@@ -19,6 +19,7 @@ use crate::tiers::Tier;
 use calendar::Period;
 use std::alloc::{AllocError, Global};
 use toml::{Table, Value};
+use units::{GREATEST_PRICE, MOST_COUNTED};
 
 fn last_bound(tiers: &[Tier]) -> u64
     ensures { result ≡ last_bound tiers.now }
@@ -37,7 +38,7 @@ fn bound(last: bool, above: u64, table: &Table) -> Result<Option<u64>, BookFault
     if last {
         return Ok(None);
     }
-    let upto = book_fields::number(table, "upto", 1, 4_000_000_000_000_000_000)?;
+    let upto = book_fields::number(table, "upto", 1, MOST_COUNTED)?;
     if above < upto {
         Ok(Some(upto))
     } else {
@@ -53,7 +54,7 @@ fn tier(last: bool, above: u64, value: &Value) -> Result<Tier, BookFault>
 {
     let table = book_fields::entry_table(value)?;
     let upto = bound(last, above, table)?;
-    let price = book_fields::number(table, "price", 0, 1_000_000_000)?;
+    let price = book_fields::number(table, "price", 0, GREATEST_PRICE)?;
     Ok(Tier { upto, price })
 }
 

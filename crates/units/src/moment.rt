@@ -3,6 +3,7 @@
 ghost use Rattle.std.specs.Prelude.{◌≡◌, ℕ, ◌≤◌, ◌<◌, ◌↔◌, IsSome, IfSome};
 ghost use Rattle.units.specs.Words.{no_end, latest_moment};
 
+use crate::limits::{LATEST_MOMENT, NO_END};
 use std::marker::Model;
 
 /// A moment: whole seconds since 1970.
@@ -30,7 +31,7 @@ impl Moment {
         ensures in_range { IsSome result ↔ (seconds ≤ latest_moment) }
         ensures value { IfSome result (λ m. m ≡ seconds) }
     {
-        if seconds <= 4_102_488_000 {
+        if seconds <= LATEST_MOMENT {
             Some(Moment { seconds })
         } else {
             None
@@ -42,7 +43,7 @@ impl Moment {
         ensures in_range { IsSome result ↔ (seconds < no_end) }
         ensures value { IfSome result (λ m. m ≡ seconds) }
     {
-        if seconds < 4_102_444_800 {
+        if seconds < NO_END {
             Some(Moment { seconds })
         } else {
             None
@@ -60,9 +61,7 @@ impl Moment {
     pub fn no_end() -> Moment
         ensures { result ≡ no_end }
     {
-        Moment {
-            seconds: 4_102_444_800,
-        }
+        Moment { seconds: NO_END }
     }
 
     /// Its seconds since 1970.

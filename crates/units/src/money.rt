@@ -4,6 +4,7 @@ ghost use Rattle.std.specs.Prelude.{◌≡◌, ℕ, ◌≤◌, ◌↔◌, IsSome
 ghost use Rattle.units.specs.Words.{most_money};
 ghost use Rattle.units.specs.Amounts.{ReadsMoney};
 
+use crate::limits::MOST_MONEY;
 use std::marker::Model;
 use thiserror::Error;
 
@@ -45,7 +46,7 @@ impl Money {
         ensures in_range { IsSome result ↔ (micros ≤ most_money) }
         ensures value { IfSome result (λ m. m ≡ micros) }
     {
-        if micros <= 1_000_000_000_000_000 {
+        if micros <= MOST_MONEY {
             Some(Money { micros })
         } else {
             None

@@ -7,7 +7,7 @@ ghost use Rattle.voucher_rules.specs.Redeeming.{bucket_end, moment_in_time};
 
 use crate::civil_days::CivilDays;
 use std::marker::Model;
-use units::{Moment, Money};
+use units::{MOST_DAYS, Moment, Money};
 
 /// What a voucher says beside its code: who redeems it gets a bucket of this amount, 1 to 10^15
 /// micro-units, that lasts 1 to 3,650 days or has no end, for one rating group or for all.
@@ -38,7 +38,7 @@ fn are_days(days: Option<u32>) -> bool
 {
     match days {
         None => true,
-        Some(days) => 1 <= days && days <= 3650,
+        Some(days) => 1 <= days && days <= MOST_DAYS,
     }
 }
 

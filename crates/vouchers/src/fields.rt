@@ -17,7 +17,7 @@ use csv::ByteRecord;
 use identifiers::VoucherCode;
 use std::alloc::Global;
 use std::str;
-use units::Money;
+use units::{GREATEST_NUMBER, MOST_DAYS, MOST_MONEY, Money};
 use voucher_rules::VoucherTerms;
 
 /// The field at a place, empty past the last.
@@ -100,7 +100,7 @@ fn amount(field: &[u8]) -> Result<Money, FaultKind>
     ensures value { Says (λ m. m) result (number_in Amount 1 most_money field.now) }
     ensures in_range { IfOk result (λ m. (1 ≤ m) × (m ≤ most_money)) }
 {
-    let micros = number_in(FaultKind::Amount, 1, 1_000_000_000_000_000, field)?;
+    let micros = number_in(FaultKind::Amount, 1, MOST_MONEY, field)?;
     Money::new(micros).ok_or(FaultKind::Amount)
 }
 
@@ -108,7 +108,7 @@ fn days(field: &[u8]) -> Result<Option<u32>, FaultKind>
     ensures value { Says (λ d. d) result (optional_in Days 1 most_days field.now) }
     ensures in_range { IfOk result (λ o. IfSome o (λ n. (1 ≤ n) × (n ≤ most_days))) }
 {
-    match optional_in(FaultKind::Days, 1, 3650, field)? {
+    match optional_in(FaultKind::Days, 1, MOST_DAYS, field)? {
         None => Ok(None),
         Some(days) => Ok(Some(days as u32)),
     }
@@ -117,7 +117,7 @@ fn days(field: &[u8]) -> Result<Option<u32>, FaultKind>
 fn scope(field: &[u8]) -> Result<Option<u32>, FaultKind>
     ensures { Says (λ g. g) result (optional_in Scope 0 greatest_number field.now) }
 {
-    match optional_in(FaultKind::Scope, 0, 4_294_967_295, field)? {
+    match optional_in(FaultKind::Scope, 0, GREATEST_NUMBER, field)? {
         None => Ok(None),
         Some(group) => Ok(Some(group as u32)),
     }

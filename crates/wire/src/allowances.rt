@@ -17,12 +17,12 @@ use json_fields::{
     Scratch, Tree, WireFault, document, number, put_moment, put_number, put_text, text_of,
 };
 use std::alloc::{AllocError, Global};
-use units::Blocks;
+use units::{Blocks, GREATEST_NUMBER, MOST_BLOCKS};
 
 fn blocks(parent: &Tree<'_>) -> Result<AllowanceBlocks, WireFault>
     ensures { Says (λ b. b) result (number_at Avp.Blocks 1 most_blocks (view parent.now)) }
 {
-    let number = number(parent, Avp::Blocks, 1, 1_000_000_000)?;
+    let number = number(parent, Avp::Blocks, 1, MOST_BLOCKS)?;
     AllowanceBlocks::new(Blocks(number)).ok_or(WireFault::Invalid(Avp::Blocks))
 }
 
@@ -38,7 +38,7 @@ pub(crate) fn allowance_in(
     let blocks = blocks(parent)?;
     let from = start(parent)?;
     let until = end(parent)?;
-    let scope = number(parent, Avp::Scope, 0, 4_294_967_295)? as u32;
+    let scope = number(parent, Avp::Scope, 0, GREATEST_NUMBER)? as u32;
     let reference = reference(alloc, parent)?;
     Ok(Allowance {
         account,

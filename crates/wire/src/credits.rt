@@ -18,7 +18,7 @@ use json_fields::{
     put_number, put_perhaps, put_text, text, text_of,
 };
 use std::alloc::{AllocError, Global};
-use units::{Moment, Money};
+use units::{GREATEST_NUMBER, LATEST_COMMAND, MOST_MONEY, Moment, Money, NO_END};
 
 #[tactic(auto, unfolding(crate::specs::Credits::reference_at))]
 pub(crate) fn reference(alloc: Global, parent: &Tree<'_>) -> Result<Reference, WireFault>
@@ -43,7 +43,7 @@ fn amount(parent: &Tree<'_>) -> Result<Money, WireFault>
     ensures { Says (λ m. m) result
         (number_at Avp.Amount 1 most_money (view parent.now)) }
 {
-    let micros = number(parent, Avp::Amount, 1, 1_000_000_000_000_000)?;
+    let micros = number(parent, Avp::Amount, 1, MOST_MONEY)?;
     Money::new(micros).ok_or(WireFault::Invalid(Avp::Amount))
 }
 
@@ -78,14 +78,14 @@ fn end_of(moment: Option<Moment>) -> Option<CreditEnd>
 pub(crate) fn start(parent: &Tree<'_>) -> Result<Option<CreditStart>, WireFault>
     ensures { Says (λ s. s) result (optional_at Avp.From 0 latest_command (view parent.now)) }
 {
-    let moment = moment_at(parent, Avp::From, 0, 4_102_444_799)?;
+    let moment = moment_at(parent, Avp::From, 0, LATEST_COMMAND)?;
     Ok(start_of(moment))
 }
 
 pub(crate) fn end(parent: &Tree<'_>) -> Result<Option<CreditEnd>, WireFault>
     ensures { Says (λ e. e) result (optional_at Avp.Until 1 no_end (view parent.now)) }
 {
-    let moment = moment_at(parent, Avp::Until, 1, 4_102_444_800)?;
+    let moment = moment_at(parent, Avp::Until, 1, NO_END)?;
     Ok(end_of(moment))
 }
 
@@ -101,7 +101,7 @@ pub(crate) fn credit_in(
     let amount = amount(parent)?;
     let from = start(parent)?;
     let until = end(parent)?;
-    let scope = scope(optional_number(parent, Avp::Scope, 0, 4_294_967_295)?);
+    let scope = scope(optional_number(parent, Avp::Scope, 0, GREATEST_NUMBER)?);
     let reference = reference(alloc, parent)?;
     Ok(Credit {
         account,

@@ -26,6 +26,7 @@ use commands::{
 };
 use json_fields::{Scratch, Tree, WireFault, document, get, is_text, number, object};
 use std::alloc::Global;
+use units::GREATEST_NUMBER;
 use wire_requests::{request_kind, session_id};
 
 #[tactic(auto, unfolding(crate::specs::ReadingAnswers::failed_at))]
@@ -119,7 +120,7 @@ fn request_answer(alloc: Global, parent: &Tree<'_>) -> Result<RequestAnswer, Wir
 {
     let session = session_id(alloc, parent)?;
     let kind = request_kind(parent)?;
-    let number_told = number(parent, Avp::RequestNumber, 0, 4_294_967_295)? as u32;
+    let number_told = number(parent, Avp::RequestNumber, 0, GREATEST_NUMBER)? as u32;
     let code = members::number(parent, RESULT_CODE, 0, 9999)?;
     let outcome = outcome(alloc, code, parent)?;
     Ok(RequestAnswer {
@@ -144,7 +145,7 @@ fn done(parent: &Tree<'_>) -> Result<Answer, WireFault>
     ensures { Says (λ a. a) result (done_at (view parent.now)) }
 {
     members::number(parent, RESULT_CODE, 2001, 2001)?;
-    if let Some(bucket) = members::optional(parent, BUCKET, 0, 4_294_967_295)? {
+    if let Some(bucket) = members::optional(parent, BUCKET, 0, GREATEST_NUMBER)? {
         return Ok(Answer::Bucket(bucket as u32));
     }
     match members::optional(parent, ACCOUNTS, 0, u64::MAX)? {

@@ -18,7 +18,7 @@ use commands::{AccountBalance, Avp, BucketBalance, BucketBalances, BucketUnit};
 use identifiers::AccountNumber;
 use json_fields::{Items, Tree, WireFault, as_array, as_bool, get, read_each};
 use std::alloc::Global;
-use units::Moment;
+use units::{GREATEST_NUMBER, LATEST_MOMENT, Moment};
 
 /// What became of a bucket's amount.
 #[derive(Drop)]
@@ -39,7 +39,7 @@ fn amount(parent: &Tree<'_>, name: &str) -> Result<u64, WireFault>
 fn moment(parent: &Tree<'_>, name: &str) -> Result<Moment, WireFault>
     ensures { Says (λ m. m) result (moment_in name.now (view parent.now)) }
 {
-    let seconds = members::number(parent, name, 0, 4_102_488_000)?;
+    let seconds = members::number(parent, name, 0, LATEST_MOMENT)?;
     Moment::new(seconds).ok_or(WireFault::NotRequest)
 }
 
@@ -71,7 +71,7 @@ fn read_amounts(parent: &Tree<'_>) -> Result<Amounts, WireFault>
 fn scope(parent: &Tree<'_>) -> Result<Option<u32>, WireFault>
     ensures { Says (λ o. o) result (scope_in (view parent.now)) }
 {
-    match members::optional(parent, Avp::Scope.name(), 0, 4_294_967_295)? {
+    match members::optional(parent, Avp::Scope.name(), 0, GREATEST_NUMBER)? {
         None => Ok(None),
         Some(group) => Ok(Some(group as u32)),
     }
@@ -92,7 +92,7 @@ fn bucket_with(amounts: &Amounts, parent: &Tree<'_>) -> Result<BucketBalance, Wi
     ensures { Says (λ b. b) result (bucket_with amounts.now (view parent.now)) }
 {
     let from = moment(parent, Avp::From.name())?;
-    let number = members::number(parent, NUMBER, 0, 4_294_967_295)? as u32;
+    let number = members::number(parent, NUMBER, 0, GREATEST_NUMBER)? as u32;
     let scope = scope(parent)?;
     let until = moment(parent, Avp::Until.name())?;
     Ok(BucketBalance {

@@ -23,7 +23,7 @@ use json_fields::{
     Items, Tree, WireFault, array, get, number, optional_moment, read_each, unit_told, units_in,
 };
 use std::alloc::Global;
-use units::Moment;
+use units::{GREATEST_NUMBER, LATEST_MOMENT, MOST_SECONDS, Moment};
 
 #[tactic(auto, unfolding(crate::specs::ReadingAnswers::redirect_at))]
 fn redirect(alloc: Global, parent: &Tree<'_>) -> Result<RedirectAddress, WireFault>
@@ -84,7 +84,7 @@ fn switch(value: &Tree<'_>) -> Result<Option<Moment>, WireFault>
         TARIFF_TIME_CHANGE,
         WireFault::NotRequest,
         0,
-        4_102_488_000,
+        LATEST_MOMENT,
     )
 }
 
@@ -118,7 +118,7 @@ fn granted_in(
     ensures { Gives (λ o. o) result (granted_in (view parent.now) (view value.now)) }
 {
     let quantity = quantity(value)?;
-    let Some(validity) = members::optional(parent, VALIDITY_TIME, 0, 4_294_967_295)? else {
+    let Some(validity) = members::optional(parent, VALIDITY_TIME, 0, MOST_SECONDS)? else {
         return Ok(ServiceOutcome::Debited(quantity));
     };
     session_grant(alloc, quantity, validity as u32, parent, value)
@@ -150,7 +150,7 @@ fn service_told(alloc: Global, code: u64, parent: &Tree<'_>) -> Result<ServiceOu
 fn service_answer(alloc: Global, value: &Tree<'_>) -> Result<ServiceAnswer, WireFault>
     ensures { Gives (λ s. s) result (service_answer_at (view value.now)) }
 {
-    let group = number(value, Avp::RatingGroup, 0, 4_294_967_295)? as u32;
+    let group = number(value, Avp::RatingGroup, 0, GREATEST_NUMBER)? as u32;
     let code = members::number(value, RESULT_CODE, 0, 9999)?;
     let outcome = service_told(alloc, code, value)?;
     Ok(ServiceAnswer { group, outcome })

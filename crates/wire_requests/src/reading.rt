@@ -21,6 +21,7 @@ use json_fields::{
     Items, Scratch, Tree, WireFault, array, document, get, is_object, member, number, object, text,
 };
 use std::alloc::Global;
+use units::GREATEST_NUMBER;
 
 /// The Requested-Action that is no event's (RFC 8506 section 8.41).
 const REFUND_ACCOUNT: u64 = 1;
@@ -88,7 +89,7 @@ fn event_of(action: EventAction, value: &Tree<'_>) -> Result<Event, WireFault>
     if !is_object(service) {
         return Err(WireFault::Invalid(Avp::Services));
     }
-    let group = number(service, Avp::RatingGroup, 0, 4_294_967_295)? as u32;
+    let group = number(service, Avp::RatingGroup, 0, GREATEST_NUMBER)? as u32;
     let requested = required(service)?;
     if get(service, Avp::UsedUnit.name()).is_some() {
         return Err(WireFault::Invalid(Avp::UsedUnit));
@@ -153,7 +154,7 @@ pub fn request(alloc: Global, parent: &Tree<'_>) -> Result<Request, WireFault>
 {
     let session = session_id(alloc, parent)?;
     let kind = request_kind(parent)?;
-    let number = number(parent, Avp::RequestNumber, 0, 4_294_967_295)? as u32;
+    let number = number(parent, Avp::RequestNumber, 0, GREATEST_NUMBER)? as u32;
     let account = account_number(alloc, parent)?;
     let ask = ask(alloc, kind, parent)?;
     Ok(Request {

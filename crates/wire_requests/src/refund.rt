@@ -7,7 +7,7 @@ ghost use Rattle.wire_requests.specs.Refunds.{exponent_at, money_at, refund_at};
 
 use commands::{Avp, Refund};
 use json_fields::{Tree, WireFault, as_i64, get, number, object};
-use units::Money;
+use units::{GREATEST_CURRENCY, Money};
 
 #[tactic(auto, unfolding(crate::specs::Refunds::exponent_at))]
 fn exponent(parent: &Tree<'_>) -> Result<i32, WireFault>
@@ -48,6 +48,6 @@ pub(crate) fn refund(parent: &Tree<'_>) -> Result<Refund, WireFault>
     let money_told = object(requested, Avp::Money)?;
     let value = object(money_told, Avp::UnitValue)?;
     let money = money(value)?;
-    let currency = number(money_told, Avp::CurrencyCode, 0, 999)? as u16;
+    let currency = number(money_told, Avp::CurrencyCode, 0, GREATEST_CURRENCY)? as u16;
     Ok(Refund::new(money, currency))
 }

@@ -14,6 +14,7 @@ use crate::reports::{requested_in, required, used_in};
 use commands::{Avp, Requested, Service, UsedParts};
 use json_fields::{Items, Tree, WireFault, array, get, is_object, number, read_each};
 use std::alloc::Global;
+use units::GREATEST_NUMBER;
 
 /// The most services that a request has.
 const MOST_SERVICES: usize = 16;
@@ -60,7 +61,7 @@ fn service(
 ) -> Result<Service, WireFault>
     ensures { Gives (λ s. s) result (service_at phase done.now (view value.now)) }
 {
-    let group = number(value, Avp::RatingGroup, 0, 4_294_967_295)? as u32;
+    let group = number(value, Avp::RatingGroup, 0, GREATEST_NUMBER)? as u32;
     if is_taken(done, group) {
         return Err(WireFault::Invalid(Avp::RatingGroup));
     }
