@@ -10,7 +10,7 @@ store_fault_number Store = 2
 
 -- the count of failed calls stays here
 abbrev pub max_failures : ℕ
-max_failures = 1000000000000000000
+max_failures = 1_000_000_000_000_000_000
 
 -- a call doesn't lower the count, and a store fault comes only where the call raised it or it
 -- is at the highest
