@@ -3,7 +3,7 @@
 ghost use Rattle.std.specs.Prelude.{◌≡◌, ◌==◌, ◌-◌, ◌&&◌, not, true, false, IfErr, OnOk};
 ghost use Rattle.keepers.specs.declared.fault.StoreFault.TheVariants.{Store};
 
-use crate::fault::StoreFault;
+use crate::fault::{MOST_FAILURES, StoreFault};
 use crate::keeper::Keeper;
 use crate::kept_answer::KeptAnswer;
 use crate::loaded::{Change, Loaded};

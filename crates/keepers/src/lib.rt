@@ -31,7 +31,7 @@ mod whole;
 
 pub use crate::copies::copy_voucher;
 pub use crate::failing::Failing;
-pub use crate::fault::StoreFault;
+pub use crate::fault::{MOST_FAILURES, StoreFault};
 pub use crate::keeper::Keeper;
 pub use crate::kept_answer::KeptAnswer;
 pub use crate::laws::{only_what_differs, taken_and_left};

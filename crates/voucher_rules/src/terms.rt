@@ -38,7 +38,7 @@ fn are_days(days: Option<u32>) -> bool
 {
     match days {
         None => true,
-        Some(days) => 1 <= days && days <= MOST_DAYS,
+        Some(days) => 1 <= days && (days as u64) <= MOST_DAYS,
     }
 }
 
