@@ -143,7 +143,7 @@ struct FirstRows {
 }
 
 /// The head, and of the counters of the three cycles those of the groups that count by each.
-fn first_of(book: &TariffBook, read: HeadCycles) -> Result<FirstRows, ReadFault>
+fn first_rows(book: &TariffBook, read: HeadCycles) -> Result<FirstRows, ReadFault>
     ensures { IfOk result (IsFirstOf book.now read) }
 {
     let HeadCycles {
@@ -179,7 +179,7 @@ fn read_cycles<S: Alter>(
         month: book.cycle_of(Cycle::Month, moment),
     };
     let read = read_head_cycles(conn, alloc, account, cycles)?;
-    first_of(book, read)
+    first_rows(book, read)
 }
 
 /// The same where no group of the book counts by the day or by the month: one selection of two

@@ -16,7 +16,7 @@ use std::alloc::Global;
 use std::cmp::Ordering;
 
 /// Where what is held for a session begins among what is held for all, by halves.
-fn first_of(held: &[SessionHold], session: &SessionId) -> usize
+fn first_held(held: &[SessionHold], session: &SessionId) -> usize
     requires { DoHoldsRise held.now }
     ensures within { result ≤ length held.now }
     ensures parted { IsPartitionPoint (λ x. precedes session.now x ≡ true)
@@ -57,7 +57,7 @@ pub(crate) fn held_for(
     requires { DoHoldsRise held.now }
     ensures { IfOk result (λ xs. xs.items ≡ held_for session.now held.now) }
 {
-    let first = first_of(held, session);
+    let first = first_held(held, session);
     run_of(alloc, session, &held[first..])
 }
 

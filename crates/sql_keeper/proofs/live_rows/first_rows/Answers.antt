@@ -1,5 +1,5 @@
 use Rattle.std.proofs.Common.{◌++◌, ◌∙◌, refl}
-use Rattle.sql_keeper.proofs.live_rows.first_of.Goals as goal
+use Rattle.sql_keeper.proofs.live_rows.first_rows.Goals as goal
 
 pub returns : goal.returns
 returns c = record {
