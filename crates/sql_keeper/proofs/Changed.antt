@@ -50,7 +50,7 @@ use Rattle.sql_keeper.specs.Writes.{with_kept, with_redeemed, AreTexts, with_cha
 use Rattle.sql_keeper.specs.Tests.{IsPeriodNamed, MayStand, AreNumbered, AreWritable}
 use Rattle.sql_keeper.specs.Tests.{first_number, is_open_over, IsSettled, AreSettled, MayBeMade}
 use Rattle.sql_keeper.specs.Laws.{AreChangesRead}
-use Rattle.sql_keeper.proofs.CountedPuts.{AreScoped, scoped, over_counted, counted_over}
+use Rattle.sql_keeper.proofs.CountedPuts.{AreScoped, over_counted, counted_over}
 use Rattle.sql_keeper.proofs.CountedPuts.{counted_told, over_paid, paid_over, paid_told}
 use Rattle.sql_keeper.proofs.Overlays.{name_from, not_both, with_opened, opened, over_counters}
 use Rattle.sql_keeper.proofs.Overlays.{over_sessions, counters_over, sessions_over}

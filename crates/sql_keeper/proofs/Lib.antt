@@ -58,6 +58,7 @@ pub mod Standing
 pub mod StillOpen
 pub mod Stopped
 pub mod Swept
+pub mod SweptInTurn
 pub mod SweptNamed
 pub mod SweptReads
 pub mod Tested

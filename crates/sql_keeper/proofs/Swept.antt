@@ -143,7 +143,7 @@ pub record MayBePut (names : Names) (x : SweptAccount) : Type 0 where
   pub may : AreWritable names among x.rows.groups
 
 -- the account is there
-abbrev IsThere : TablesContent → SweptAccount → Type 0
+abbrev pub IsThere : TablesContent → SweptAccount → Type 0
 IsThere c x = is_some (c.rows x.number).head ≡ true
 
 module _ (names : Names) where
@@ -194,7 +194,7 @@ module _ (names : Names) where
       at true e = refl
       at false e = e
 
-  count_after : (xs : List SweptAccount) (c : TablesContent) → EachIn (MayBePut names) xs
+  pub count_after : (xs : List SweptAccount) (c : TablesContent) → EachIn (MayBePut names) xs
       → EachIn (IsThere c) xs → (with_accounts names xs c).count ≡ c.count
   count_after [] c may there = refl
   count_after (x ∷ xs) c may there =

@@ -1,16 +1,14 @@
 -- The accounts of a sweep, read, brought to a moment and written one after another, and what is
 -- written of them.
-use Rattle.std.proofs.Common.{◌≡◌, ◌<◌, ◌≤◌, ◌+◌, ◌∙◌, ap, refl, sym, subst, ℕ, List, [], ◌∷◌}
-use Rattle.std.proofs.Common.{◌++◌, length, map, take, get_or, cond, Option, Some, None, Result, Ok}
-use Rattle.std.proofs.Common.{Err, IfOk, IsTrue, arith, Bool, true, false, true≢false}
+use Rattle.std.proofs.Common.{◌≡◌, ◌≤◌, ◌∙◌, ap, refl, sym, subst, ℕ, List, [], ◌∷◌}
+use Rattle.std.proofs.Common.{◌++◌, map, cond, Option, Some, None, Result, Ok}
+use Rattle.std.proofs.Common.{Err, IfOk, IsTrue, OnOk, arith, Bool, true, false, true≢false}
 use Rattle.std.specs.List.{list_all}
 use Rattle.std.specs.Result.{IsErr}
 use Rattle.std.proofs.lemmas.Bool.{and_from, and_parts}
-use Rattle.std.proofs.lemmas.List.{take_more, take_all}
 use Rattle.sqlite_trees.specs.Tree.{Trees}
-use Rattle.sqlite.specs.Effect.{Database}
-use Rattle.sqlite.specs.State.{State, HasCleanDisk, Survives}
-use Rattle.sqlite.proofs.StateLemmas.{survives_then}
+use Rattle.sqlite.specs.State.{State, HasCleanDisk, Shows, Survives}
+use Rattle.sqlite.proofs.StateLemmas.{survives_then, survives_weaker}
 use Rattle.identifiers.specs.Texts.{same_name}
 use Rattle.shelves.specs.Shelves.{Shelf, IsShelf}
 use Rattle.reserving.specs.Stored.{StoredRows}
@@ -19,7 +17,7 @@ use Rattle.reserving.specs.Rows.{AreApart}
 use Rattle.ledger.proofs.Holds.{same_itself as name_itself}
 use Rattle.reserving.proofs.LeftTests.{each_append}
 use Rattle.keepers.specs.Change.{IsSwept}
-use Rattle.sql_tables.specs.Statements.{Attempts, HasBook, HasRules, IsInside, OnlyReads}
+use Rattle.sql_tables.specs.Statements.{Attempts, HasBook, HasRules, IsBook, IsInside}
 use Rattle.sql_rows.specs.Content.{TablesContent, TableRows, tables_content, rows_in, with_meta}
 use Rattle.sql_rows.specs.Each.{with_each}
 use Rattle.sql_rows.specs.Lists.{AreAccounts}
@@ -33,8 +31,9 @@ use Rattle.sql_keeper.specs.Commits.{CommitsWhole}
 use Rattle.sql_keeper.specs.Content.{tables_of, Names}
 use Rattle.sql_keeper.specs.LiveRows.{IsLiveUncounted}
 use Rattle.sql_keeper.specs.Sweeps.{AreSweptRows, IsSweptOf, IsSweptAs, IsSweptFrom, AreSweptOf}
-use Rattle.sql_keeper.specs.Sweeps.{AreAllSwept, BecomesSwept, MakesSweep, SweepsEach, SweepsOne}
-use Rattle.sql_keeper.specs.Sweeps.{TransactsSweep, with_sweep, with_swept}
+use Rattle.sql_keeper.specs.Sweeps.{AreAllSwept, BecomesSwept, CommitsSweep, MakesSweep}
+use Rattle.sql_keeper.specs.Sweeps.{SweepsAccounts, SweepsEach, SweepsOne, TransactsSweep, with_sweep}
+use Rattle.sql_keeper.specs.Sweeps.{with_swept}
 use Rattle.sql_keeper.specs.Writes.{meta_at}
 use Rattle.sql_keeper.specs.declared.swept_rows.SweptAccount.{SweptAccount}
 use Rattle.sql_keeper.specs.Tidy.{IsTidy}
@@ -43,7 +42,6 @@ use Rattle.sql_keeper.proofs.Puts.{made_since, made_then}
 use Rattle.sql_keeper.proofs.Swept.{MayBePut, apart_of, may, may_each, row_after, rows_after}
 use Rattle.sql_keeper.proofs.Swept.{sweeps_read, swept_at, swept_books, swept_meta}
 use Rattle.sql_keeper.proofs.TidySweeps.{tidy_sweep}
-use Rattle.sql_keeper.proofs.Whole.{not_shut}
 
 -- ---- one account
 
@@ -123,7 +121,7 @@ apart_first same [] ys h = tt
 apart_first same (x ∷ xs) ys h =
     (each_first (λ y. same x y ≡ false) xs ys h.0, apart_first same xs ys h.1)
 
-other_way : (a b : List ℕ) → same_name a b ≡ false → same_name b a ≡ false
+pub other_way : (a b : List ℕ) → same_name a b ≡ false → same_name b a ≡ false
 other_way a b e = at (same_name b a) refl
   where
     at : (t : Bool) → same_name b a ≡ t → same_name b a ≡ false
@@ -155,10 +153,16 @@ each_more change [] x c = refl
 each_more change (y ∷ ys) x c = each_more change ys x (change y c)
 
 module _ (names : Names) (text : List ℕ) (shelf : Shelf) (t : ℕ) where
+  -- the accounts of these numbers, within a transaction
+  pub record MakesSweepOf (numbers : List (List ℕ)) (old new : State) : Type 0 where
+    pub turns : SweepsEach names text shelf t numbers old.now.trees new.now.trees
+    pub book : IsBook new
+    pub shows : Shows old new new.now old.committed true
+
   -- the accounts so far
   pub record HasSweptEach (numbers : List (List ℕ)) (old now : State) : Type 0 where
     pub survives : Survives old now (λ _. ⊥)
-    pub made : HasCleanDisk now → MakesSweep names text shelf t numbers old now
+    pub made : HasCleanDisk now → MakesSweepOf numbers old now
     pub rules : HasRules now
 
   -- none yet
@@ -208,7 +212,7 @@ module _ (names : Names) (text : List ℕ) (shelf : Shelf) (t : ℕ) where
       rows : d.rows x.number ≡ c.rows x.number
       rows = ap d.rows one.number_is ∙ at_a ∙ ap c.rows (sym one.number_is)
 
-  more_each : {A E : Type 0} (numbers : List (List ℕ)) (a : List ℕ) (u : A) (old mid new : State)
+  pub more_each : {A E : Type 0} (numbers : List (List ℕ)) (a : List ℕ) (u : A) (old mid new : State)
       → HasSweptEach numbers old mid
       → Attempts {A = A} {E = E} (SweepsOne names shelf t a) mid new (Ok u) → HasRules new
       → HasSweptEach (numbers ++ a ∷ []) old new
@@ -246,34 +250,13 @@ module _ (names : Names) (text : List ℕ) (shelf : Shelf) (t : ℕ) where
     rules = rules;
   }
 
-  -- the next of the accounts
-  pub next_swept : {A E : Type 0} (numbers : List (List ℕ)) (i : ℕ) (a : List ℕ) (u : A)
-      (old mid new : State) → i < length numbers → a ≡ get_or numbers i a
-      → HasSweptEach (take i numbers) old mid
-      → Attempts {A = A} {E = E} (SweepsOne names shelf t a) mid new (Ok u) → HasRules new
-      → HasSweptEach (take (i + 1) numbers) old new
-  next_swept {A} {E} numbers i a u old mid new less is h one rules =
-      subst (λ ns. HasSweptEach ns old new)
-      (ap (λ b. take i numbers ++ b ∷ []) is ∙ sym (take_more numbers i a less))
-      (more_each {A = A} {E = E} (take i numbers) a u old mid new h one rules)
-
-  pub all_swept : {A E : Type 0} (numbers : List (List ℕ)) (i : ℕ) (u : A) (old new : State)
-      → length numbers ≤ i → HasSweptEach (take i numbers) old new
-      → Attempts {A = A} {E = E} (MakesSweep names text shelf t numbers) old new (Ok u)
-  all_swept numbers i u old new end h = record {
-    done = λ clean. subst (λ ns. MakesSweep names text shelf t ns old new)
-        (take_all i numbers end) (h.made clean);
-    kept = λ clean. tt;
-    survives = h.survives;
-  }
-
-  -- an account that isn't brought on
-  pub not_swept : {A B E F : Type 0} (does : State → State → Type 0) (numbers all : List (List ℕ))
+  -- an account that isn't found, or isn't brought on
+  pub not_swept : {A B E F : Type 0} (does : State → State → Type 0) (numbers : List (List ℕ))
       (old mid new : State) (r : Result A E) (e : F) → IsErr r → HasSweptEach numbers old mid
       → Attempts {A = B} {E = F} does mid new (Err e)
-      → Attempts {A = A} {E = E} (MakesSweep names text shelf t all) old new r
-  not_swept does numbers all old mid new (Ok u) e failed h one = absurd (true≢false (sym failed))
-  not_swept does numbers all old mid new (Err f) e failed h one = record {
+      → Attempts {A = A} {E = E} (MakesSweep names text shelf t) old new r
+  not_swept does numbers old mid new (Ok u) e failed h one = absurd (true≢false (sym failed))
+  not_swept does numbers old mid new (Err f) e failed h one = record {
     done = λ clean. tt;
     kept = λ clean.
         let m = h.made (omega (arith, one.survives.clean, clean)) in
@@ -284,6 +267,18 @@ module _ (names : Names) (text : List ℕ) (shelf : Shelf) (t : ℕ) where
         };
     survives = survives_then old mid new (λ _. ⊥) (λ _. ⊥) (λ _. ⊥) (λ clean db no. no)
         (λ clean db no. no) h.survives one.survives;
+  }
+
+  -- no more of them
+  pub left_off : {A E : Type 0} (numbers : List (List ℕ)) (old now : State) (e : E)
+      → HasSweptEach numbers old now
+      → Attempts {A = A} {E = E} (MakesSweep names text shelf t) old now (Err e)
+  left_off numbers old now e h = record {
+    done = λ clean. tt;
+    kept = λ clean.
+        let m = h.made clean in
+        record { was_open = λ on. m.shows.was_open; committed = λ on. m.shows.committed_is };
+    survives = h.survives;
   }
 
   -- what stays of the connection
@@ -325,72 +320,41 @@ become names text shelf t xs ranges last old new all ruled turns = record {
 }
 
 -- the accounts of all numbers, one after another
-swept_whole : (names : Names) (text : List ℕ) (shelf : Shelf) (t : ℕ) (numbers : List (List ℕ))
-    → IsShelf shelf → t ≤ 4_102_488_000 → is_moment t ≡ true → (old db : Trees)
-    → AreAccounts (tables_content old) numbers → SweepsEach names text shelf t numbers old db
-    → BecomesSwept names text shelf t old db
-swept_whole names text shelf t numbers ranges last ruled old db accounts each =
-    let s = each.swept accounts.apart in
-    become names text shelf t each.accounts ranges last old db (record {
-      all = subst (AreAccounts (tables_content old)) (sym s.numbers_are) accounts;
+swept_whole : (names : Names) (text : List ℕ) (shelf : Shelf) (t : ℕ) → IsShelf shelf
+    → t ≤ 4_102_488_000 → is_moment t ≡ true → (old db : Trees)
+    → SweepsAccounts names text shelf t old db → BecomesSwept names text shelf t old db
+swept_whole names text shelf t ranges last ruled old db all =
+    let s = all.each.swept all.all.apart in
+    let xs = all.each.accounts in
+    become names text shelf t xs ranges last old db (record {
+      all = subst (AreAccounts (tables_content old)) (sym s.numbers_are) all.all;
       each = s.each;
-    }) (and_from (is_moment t) (list_all (is_ruled_swept names) each.accounts) ruled each.ruled)
-    each.turns
+    }) (and_from (is_moment t) (list_all (is_ruled_swept names) xs) ruled all.each.ruled)
+    all.each.turns
 
-module _ (names : Names) (text : List ℕ) (shelf : Shelf) (t : ℕ) (numbers : List (List ℕ))
-    (ranges : IsShelf shelf) (last : t ≤ 4_102_488_000) (ruled : is_moment t ≡ true)
-    (old mid new : State) (only : OnlyReads old mid)
-    (stops : Survives old mid (λ _. old.is_open ≡ false))
-    (accounts : HasCleanDisk mid → AreAccounts (tables_content old.now.trees) numbers) where
-  become_swept : HasCleanDisk mid → IsTrue mid.is_open → (db : Trees)
-      → SweepsEach names text shelf t numbers mid.now.trees db
-      → BecomesSwept names text shelf t old.now.trees db
-  become_swept clean on db each =
-      swept_whole names text shelf t numbers ranges last ruled old.now.trees db (accounts clean)
-      (subst (λ (d : Database). SweepsEach names text shelf t numbers d.trees db)
-      (only.still clean on).now_is each)
-
-  survives_both : Survives mid new
-      (λ db. IsTrue mid.is_open × SweepsEach names text shelf t numbers mid.now.trees db)
-      → Survives old new
+pub sweep_written : {A E : Type 0} (names : Names) (text : List ℕ) (shelf : Shelf) (t : ℕ)
+    → IsShelf shelf → t ≤ 4_102_488_000 → is_moment t ≡ true → (old new : State) (r : Result A E)
+    → TransactsSweep names text shelf t old new r
+    → CommitsWhole (BecomesSwept names text shelf t) old new r
+sweep_written {A} {E} names text shelf t ranges last ruled old new r w = record {
+  done = λ clean. done r (w.done clean);
+  err = w.kept;
+  idle = w.idle;
+  survives = survives_weaker old new
+      (λ db. IsTrue old.is_open × SweepsAccounts names text shelf t old.now.trees db)
       (λ db. IsTrue old.is_open → BecomesSwept names text shelf t old.now.trees db)
-  survives_both s =
-      survives_then old mid new (λ _. old.is_open ≡ false)
-      (λ db. IsTrue mid.is_open × SweepsEach names text shelf t numbers mid.now.trees db)
-      (λ db. IsTrue old.is_open → BecomesSwept names text shelf t old.now.trees db)
-      (λ clean db shut on. absurd (not_shut old.is_open on shut))
-      (λ clean db e on. become_swept (omega (arith, s.clean, clean)) e.0 db e.1) stops s
-
-  pub sweep_written : {A B E F : Type 0} (u : A) (v : B)
-      → TransactsSweep {A = A} {E = E} names text shelf t numbers mid new (Ok u)
-      → CommitsWhole {A = B} {E = F} (BecomesSwept names text shelf t) old new (Ok v)
-  sweep_written u v w = record {
-    done = λ clean.
-        let d = w.done clean in
-        let mid_clean : HasCleanDisk mid = omega (arith, w.survives.clean, clean) in (
-          (only.still mid_clean d.0).was_open,
-          d.1,
-          become_swept mid_clean d.0 new.now.trees d.2.turns,
-        );
-    err = λ clean on. tt;
-    idle = w.idle;
-    survives = survives_both w.survives;
-  }
-
-  pub sweep_not_written : {A B E F : Type 0} (r : Result B F) (e : E) → IsErr r
-      → TransactsSweep {A = A} {E = E} names text shelf t numbers mid new (Err e)
-      → CommitsWhole {A = B} {E = F} (BecomesSwept names text shelf t) old new r
-  sweep_not_written (Ok v) e failed w = absurd (true≢false (sym failed))
-  sweep_not_written (Err f) e failed w = record {
-    done = λ clean. tt;
-    err = λ clean on.
-        let k = w.kept clean on in
-        let s = only.still (omega (arith, w.survives.clean, clean)) k.was_open in
-        record {
-          was_open = s.was_open;
-          now_is = k.now_is ∙ s.now_is;
-          committed_is = k.committed_is ∙ s.committed_is;
-        };
-    idle = w.idle;
-    survives = survives_both w.survives;
-  }
+      (λ clean db e on. swept_whole names text shelf t ranges last ruled old.now.trees db e.1)
+      w.survives;
+}
+  where
+    done : (r : Result A E)
+        → OnOk r
+        (IsTrue old.is_open × IsTrue new.is_open × CommitsSweep names text shelf t old new)
+        → OnOk r (IsTrue old.is_open × IsTrue new.is_open
+        × BecomesSwept names text shelf t old.now.trees new.now.trees)
+    done (Ok v) d = (
+      d.0,
+      d.1,
+      swept_whole names text shelf t ranges last ruled old.now.trees new.now.trees d.2.sweeps,
+    )
+    done (Err e) d = tt

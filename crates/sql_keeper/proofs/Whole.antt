@@ -37,6 +37,16 @@ survives_self s P = record {
   crash = λ clean db may. inl may;
 }
 
+-- nothing is done where it is refused at once
+pub untouched : {A E : Type 0} (Become : Trees → Trees → Type 0) (s : State) (e : E)
+    → HasIdleBook s → CommitsWhole {A = A} {E = E} Become s s (Err e)
+untouched Become s e idle = record {
+  done = λ clean. tt;
+  err = λ clean on. record { was_open = on; now_is = refl; committed_is = refl };
+  idle = idle;
+  survives = survives_self s (λ db. IsTrue s.is_open → Become s.now.trees db);
+}
+
 -- ---- after what was only read, what is written
 
 module _ (change : TablesContent → TablesContent) (Become : Trees → Trees → Type 0)

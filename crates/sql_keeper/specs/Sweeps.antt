@@ -129,29 +129,35 @@ pub record SweepsEach (names : Names) (text : BookText) (shelf : Shelf) (t : Mom
   pub ruled : IsTrue (list_all (is_ruled_swept names) accounts)
   pub turns : Turns (with_sweep names text t accounts) old new
 
+-- each account is, and no other
+pub record SweepsAccounts (names : Names) (text : BookText) (shelf : Shelf) (t : Moment)
+    (old new : Trees) : Type 0 where
+  pub numbers : List AccountName
+  pub all : AreAccounts (tables_content old) numbers
+  pub each : SweepsEach names text shelf t numbers old new
+
 pub record MakesSweep (names : Names) (text : BookText) (shelf : Shelf) (t : Moment)
-    (numbers : List AccountName) (old new : State) : Type 0 where
-  pub turns : SweepsEach names text shelf t numbers old.now.trees new.now.trees
+    (old new : State) : Type 0 where
+  pub sweeps : SweepsAccounts names text shelf t old.now.trees new.now.trees
   pub book : IsBook new
   pub shows : Shows old new new.now old.committed true
 
 pub record CommitsSweep (names : Names) (text : BookText) (shelf : Shelf) (t : Moment)
-    (numbers : List AccountName) (old new : State) : Type 0 where
-  pub turns : SweepsEach names text shelf t numbers old.now.trees new.now.trees
+    (old new : State) : Type 0 where
+  pub sweeps : SweepsAccounts names text shelf t old.now.trees new.now.trees
   pub idle : IsIdle new
 
 -- outside a transaction: the sweep is committed, or nothing is changed, and a stop leaves what was
 -- left before or the sweep
 pub record TransactsSweep {A E : Type 0} (names : Names) (text : BookText) (shelf : Shelf)
-    (t : Moment) (numbers : List AccountName) (old new : State) (result : Result A E) : Type 0
+    (t : Moment) (old new : State) (result : Result A E) : Type 0
   where
     pub done : HasCleanDisk new → OnOk result
-        (IsTrue old.is_open × IsTrue new.is_open
-        × CommitsSweep names text shelf t numbers old new)
+        (IsTrue old.is_open × IsTrue new.is_open × CommitsSweep names text shelf t old new)
     pub kept : HasCleanDisk new → IsTrue new.is_open → OnErr result (IsStill old new)
     pub idle : HasIdleBook new
     pub survives : Survives old new
-        (λ db. IsTrue old.is_open × SweepsEach names text shelf t numbers old.now.trees db)
+        (λ db. IsTrue old.is_open × SweepsAccounts names text shelf t old.now.trees db)
 
 -- ---- what becomes of the tables
 

@@ -26,7 +26,7 @@ use crate::swept_rows::{SweptAccount, swept_of};
 use identifiers::AccountNumber;
 use keepers::StoreFault;
 use shelves::TariffShelf;
-use sql_rows::{put_account, put_counters, put_meta, put_sessions, read_accounts};
+use sql_rows::{put_account, put_counters, put_meta, put_sessions, read_next_account};
 use sql_tables::{LATEST, ReadFault};
 use sqlite::{Alter, Connection, Error, Transaction};
 use std::alloc::Global;
@@ -81,54 +81,61 @@ fn sweep_account<S: Alter>(
     Ok(())
 }
 
-/// Puts the moment, and brings one account after another to it.
+/// Puts the moment, and brings one account after another to it, in the order of their numbers; how
+/// many they are. What is in memory of all of them is the number of one.
 fn sweep_each<S: Alter>(
     tx: &mut Transaction<'_, S>,
     alloc: Global,
-    accounts: &[AccountNumber],
     names: &TariffShelf,
     text: &str,
     shelf: &TariffShelf,
     moment: Moment,
-) -> Result<(), ReadFault>
+) -> Result<u64, ReadFault>
     requires book { HasBook (state S.Store tx.old.conn.now) }
     ensures same_reference { tx.new.conn.ghost_name ≡ tx.old.conn.ghost_name }
-    ensures makes { Attempts
-        (MakesSweep (shelf_names names.now) text.now shelf.now moment accounts.now)
+    ensures makes { Attempts (MakesSweep (shelf_names names.now) text.now shelf.now moment)
         (state S.Store tx.old.conn.now) (state S.Store tx.new.conn.now) result }
+    ensures count { HasCleanDisk (state S.Store tx.new.conn.now) →
+        IfOk result (λ n. n ≡ (tables_content (state S.Store tx.old.conn.now).now.trees).count) }
 {
     put_meta(tx, LATEST, text, moment)?;
-    'accounts: for account in accounts {
-        sweep_account(tx, alloc, account, names, shelf, moment)?;
+    let mut last = None;
+    'accounts: for count in 0..u64::MAX {
+        let Some(account) = read_next_account(tx, alloc, last.as_ref())? else {
+            return Ok(count);
+        };
+        sweep_account(tx, alloc, &account, names, shelf, moment)?;
+        last = Some(account);
     }
-    Ok(())
+    Err(ReadFault::Rules)
 }
 
-/// Makes a sweep of these accounts in one transaction.
+/// Makes a sweep in one transaction; of how many accounts.
 fn write_sweep<S: Alter>(
     conn: &mut Connection<S>,
     alloc: Global,
-    accounts: &[AccountNumber],
     names: &TariffShelf,
     text: &str,
     shelf: &TariffShelf,
     moment: Moment,
-) -> Result<(), ReadFault>
+) -> Result<u64, ReadFault>
     requires plain { conn.old.in_transaction ≡ false }
     requires idle { HasIdleBook (state S.Store conn.old) }
     ensures plain { conn.new.in_transaction ≡ false }
     ensures transacts { TransactsSweep (shelf_names names.now) text.now shelf.now moment
-        accounts.now (state S.Store conn.old) (state S.Store conn.new) result }
+        (state S.Store conn.old) (state S.Store conn.new) result }
+    ensures count { HasCleanDisk (state S.Store conn.new) →
+        IfOk result (λ n. n ≡ (tables_content (state S.Store conn.old).now.trees).count) }
 {
     let mut tx = conn.transaction();
-    sweep_each(&mut tx, alloc, accounts, names, text, shelf, moment)?;
+    let count = sweep_each(&mut tx, alloc, names, text, shelf, moment)?;
     tx.commit()?;
-    Ok(())
+    Ok(count)
 }
 
-/// Reads the accounts' numbers, and brings one account after another to the moment in one
-/// transaction; how many there are. The tables become those of the sweep, or at a fault they are as
-/// before, and whatever a stop leaves is one of the two.
+/// Brings one account after another to the moment in one transaction; how many there are. The
+/// tables become those of the sweep, or at a fault they are as before, and whatever a stop leaves
+/// is one of the two.
 fn make_sweep<S: Alter>(
     conn: &mut Connection<S>,
     alloc: Global,
@@ -148,12 +155,10 @@ fn make_sweep<S: Alter>(
     // For the prover alone: looking at the value makes known here what its type keeps.
     let _ranges = shelf.first();
     let _moment = moment.seconds();
-    let accounts = read_accounts(conn, alloc)?;
     if !is_moment(moment) {
         return Err(ReadFault::Rules);
     }
-    write_sweep(conn, alloc, &accounts, names, text, shelf, moment)?;
-    Ok(accounts.len() as u64)
+    write_sweep(conn, alloc, names, text, shelf, moment)
 }
 
 /// Makes a sweep as `make_sweep` does, if the connection can still be asked.
@@ -186,8 +191,8 @@ impl<S: Alter> SqlKeeper<S> {
     /// fault nothing has changed, and whatever a stop leaves is the rows before the sweep or with
     /// all of it.
     ///
-    /// One account after another is read and written within the transaction, so that what is in
-    /// memory of all of them are their numbers alone.
+    /// One account after another is found, read and written within the transaction, so that what is
+    /// in memory doesn't grow with the accounts.
     ///
     /// # Errors
     /// Lack of memory; a fault of the store, which is counted, as are rows that are no account's or

@@ -3,6 +3,7 @@ pub mod AddCharge
 pub mod AddGroup
 pub mod AddSession
 pub mod Adds
+pub mod AllAccounts
 pub mod Beside
 pub mod BookRules
 pub mod BucketRules
@@ -10,6 +11,7 @@ pub mod ChargeBlocks
 pub mod Coupled
 pub mod Dead
 pub mod Each
+pub mod FirstRow
 pub mod Inserts
 pub mod Keyed
 pub mod MetaRules
@@ -36,7 +38,6 @@ pub mod PutSession
 pub mod PutVoucher
 pub mod Ranges
 pub mod ReadAccount
-pub mod ReadAccounts
 pub mod ReadAllGrantBooks
 pub mod ReadAllHolds
 pub mod ReadAllowances
@@ -54,6 +55,7 @@ pub mod ReadHeadCycles
 pub mod ReadHolds
 pub mod ReadLive
 pub mod ReadMeta
+pub mod ReadNextAccount
 pub mod ReadOpen
 pub mod ReadOpenGroups
 pub mod ReadOpenRows

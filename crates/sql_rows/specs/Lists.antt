@@ -2,7 +2,7 @@
 -- none.
 -- Source: profile.
 use Rattle.std.specs.Prelude.{◌≡◌, ℕ, ◌&&◌, ◌||◌, nat_eq, nat_lt, nat_le, ◌<◌, Bool, not, List, []}
-use Rattle.std.specs.Prelude.{◌∷◌, ◌++◌, length, Option, Some, None, option_map, is_some, false}
+use Rattle.std.specs.Prelude.{◌∷◌, ◌++◌, length, Option, Some, None, option_map, is_some, true, false}
 use Rattle.std.specs.Prelude.{if◌then◌else◌, IsTrue, filter, map}
 use Rattle.std.specs.Ordering.{nat_cmp, is_lt, ordering_then}
 use Rattle.std.specs.Cmp.Lexicographic.{slice_cmp}
@@ -66,6 +66,25 @@ pub record AreAccounts (content : TablesContent) (xs : List AccountName) : Type 
       is_some (find (λ x. same_name x a) xs) ≡ is_some (content.rows a).head
   pub count : length xs ≡ content.count
   pub apart : AreApart (λ x y. same_name y x) xs
+
+-- whether a name comes after another; after none each does
+abbrev pub comes_after : Option AccountName → AccountName → Bool
+comes_after None a = true
+comes_after (Some x) a = name_before x a
+
+-- this account follows in the order of the names, with none between
+pub record IsFollowing (content : TablesContent) (after : Option AccountName) (x : AccountName) :
+    Type 0 where
+  pub there : IsTrue (is_some (content.rows x).head)
+  pub follows : IsTrue (comes_after after x)
+  pub none_between : (a : AccountName) → comes_after after a ≡ true → name_before a x ≡ true →
+      is_some (content.rows a).head ≡ false
+
+-- the account that follows; none where none does
+abbrev pub IsNextAccount : TablesContent → Option AccountName → Option AccountName → Type 0
+IsNextAccount content after None =
+    (a : AccountName) → comes_after after a ≡ true → is_some (content.rows a).head ≡ false
+IsNextAccount content after (Some x) = IsFollowing content after x
 
 -- the buckets that pass the test: each by its number, and no other
 abbrev pub AreBuckets : (BucketRow → Bool) → TableRows → List BucketRow → Type 0

@@ -1,9 +1,9 @@
 //! Rows of accounts.
 
-ghost use Rattle.std.specs.Prelude.{◌≡◌, map, IfOk, OnOk};
+ghost use Rattle.std.specs.Prelude.{◌≡◌, map, IfOk, None, OnOk, Some, option_copied};
 ghost use Rattle.sql_rows.specs.Content.{has_account, tables_content, rows_in, with_account};
 ghost use Rattle.sql_rows.specs.Values.{head_cells, head_key, head_values};
-ghost use Rattle.sql_rows.specs.Lists.{AreAccounts, Ascends, name_before};
+ghost use Rattle.sql_rows.specs.Lists.{IsNextAccount};
 ghost use Rattle.sql_rows.specs.Makes.{Makes, ReplacesIfSome};
 ghost use Rattle.sql_tables.specs.Statements.{Attempts, HasBook, HasIdleBook, HasRules, Reads};
 ghost use Rattle.sql_tables.specs.Statements.{AttemptsOver, ReadsWithin};
@@ -11,7 +11,6 @@ ghost use Rattle.sql_tables.specs.Selects.{one_or_none};
 ghost use Rattle.sqlite.specs.Held.{state};
 ghost use Rattle.sqlite.specs.State.{ExecutesInside};
 
-use crate::ascending::{InOrder, do_ascend};
 use crate::decoding::{account_at, flag_at, moment_at};
 use crate::head::HeadColumns;
 use identifiers::AccountNumber;
@@ -196,45 +195,87 @@ fn head_from(row: &Row) -> Result<HeadColumns, ReadFault>
     })
 }
 
-impl InOrder for AccountNumber {
-    ghost before = { name_before };
-
-    fn is_before(&self, other: &AccountNumber) -> bool {
-        self.as_str().cmp(other.as_str()).is_lt()
-    }
-}
-
-/// The numbers of all accounts, in order, each once.
+/// The number of the first account in the order of their numbers, within a transaction; none where
+/// none is opened.
 ///
 /// # Errors
-/// `Store` where the store failed, `Rules` where a row is out of its rules or the numbers don't
-/// rise, `Memory` where a growth was refused. Nothing is changed then either.
-pub fn read_accounts<S: Alter>(
-    conn: &mut Connection<S>,
+/// As of `read_next_account`.
+fn read_first_account<S: Alter>(
+    tx: &mut Transaction<'_, S>,
     alloc: Global,
-) -> Result<Vec<AccountNumber>, ReadFault>
-    requires idle { HasIdleBook (state S.Store conn.old) }
-    ensures reads { Reads (λ trees xs. AreAccounts (tables_content trees) xs.items)
-        (state S.Store conn.old) (state S.Store conn.new) result }
-    ensures order { IfOk result (λ xs. Ascends name_before xs.items) }
+) -> Result<Option<AccountNumber>, ReadFault>
+    requires book { HasBook (state S.Store tx.old.conn.now) }
+    requires rules { HasRules (state S.Store tx.old.conn.now) }
+    ensures same_reference { tx.new.conn.ghost_name ≡ tx.old.conn.ghost_name }
+    ensures reads { ReadsWithin (λ trees o. IsNextAccount (tables_content trees) None o)
+        (state S.Store tx.old.conn.now) (state S.Store tx.new.conn.now) result }
 {
-    let rows = read(conn, "SELECT account FROM accounts ORDER BY account", &[])?;
-    accounts_from(alloc, &rows)
+    let rows = read_within(
+        tx,
+        "SELECT account FROM accounts ORDER BY account LIMIT 1",
+        &[],
+    )?;
+    account_among(alloc, &rows)
 }
 
-fn accounts_from(alloc: Global, rows: &[Row]) -> Result<Vec<AccountNumber>, ReadFault>
-    ensures cells { IfOk result (λ xs. map head_key xs.items ≡ rows.now) }
-    ensures order { IfOk result (λ xs. Ascends name_before xs.items) }
+/// The number of the account that follows this one in the order of their numbers, whether this one
+/// is opened or not; none where none follows.
+///
+/// # Errors
+/// As of `read_next_account`.
+fn read_account_after<S: Alter>(
+    tx: &mut Transaction<'_, S>,
+    alloc: Global,
+    account: &AccountNumber,
+) -> Result<Option<AccountNumber>, ReadFault>
+    requires book { HasBook (state S.Store tx.old.conn.now) }
+    requires rules { HasRules (state S.Store tx.old.conn.now) }
+    ensures same_reference { tx.new.conn.ghost_name ≡ tx.old.conn.ghost_name }
+    ensures reads { ReadsWithin
+        (λ trees o. IsNextAccount (tables_content trees) (Some account.now) o)
+        (state S.Store tx.old.conn.now) (state S.Store tx.new.conn.now) result }
 {
-    let mut accounts = Vec::new(alloc);
-    'rows: for row in rows {
-        let account = account_from(alloc, row)?;
-        accounts.push(account)?;
+    let of_account = text(account.as_str());
+    let rows = read_within(
+        tx,
+        "SELECT account FROM accounts WHERE account > ?1 ORDER BY account LIMIT 1",
+        &[of_account],
+    )?;
+    account_among(alloc, &rows)
+}
+
+/// The number of the account that follows this one in the order of their numbers, of the first one
+/// where none is given, within a transaction; none where none follows. So a walk from one to the
+/// next meets each account once, and holds the number of one.
+///
+/// # Errors
+/// As of `read_account`. Then nothing is committed.
+pub fn read_next_account<S: Alter>(
+    tx: &mut Transaction<'_, S>,
+    alloc: Global,
+    after: Option<&AccountNumber>,
+) -> Result<Option<AccountNumber>, ReadFault>
+    requires book { HasBook (state S.Store tx.old.conn.now) }
+    requires rules { HasRules (state S.Store tx.old.conn.now) }
+    ensures same_reference { tx.new.conn.ghost_name ≡ tx.old.conn.ghost_name }
+    ensures reads { ReadsWithin
+        (λ trees o. IsNextAccount (tables_content trees) (option_copied after.entry) o)
+        (state S.Store tx.old.conn.now) (state S.Store tx.new.conn.now) result }
+{
+    match after {
+        None => read_first_account(tx, alloc),
+        Some(account) => read_account_after(tx, alloc, account),
     }
-    if !do_ascend(&accounts) {
-        return Err(ReadFault::Rules);
+}
+
+fn account_among(alloc: Global, rows: &[Row]) -> Result<Option<AccountNumber>, ReadFault>
+    ensures { IfOk result (λ o. rows.now ≡ map head_key (one_or_none o)) }
+{
+    let row = one_of(rows)?;
+    match row {
+        None => Ok(None),
+        Some(row) => Ok(Some(account_from(alloc, row)?)),
     }
-    Ok(accounts)
 }
 
 fn account_from(alloc: Global, row: &Row) -> Result<AccountNumber, ReadFault>

@@ -28,7 +28,7 @@ mod session_hold_rows;
 mod session_rows;
 mod voucher_rows;
 
-pub use crate::account_rows::{put_account, read_account, read_account_within, read_accounts};
+pub use crate::account_rows::{put_account, read_account, read_account_within, read_next_account};
 pub use crate::allowance_rows::{put_allowance, read_allowances, remove_allowance};
 pub use crate::answer_rows::{KeptTexts, put_answer, read_answer};
 pub use crate::book_rows::{BookColumns, put_book, read_books, read_books_within};

@@ -47,23 +47,23 @@ fn try_heads<S: Alter>(
     tell_meta(rt, conn, text);
     keep_meta(rt, conn, 4_294_967_295, "", Moment::no_end());
     tell_meta(rt, conn, text);
-    tell_accounts(rt, alloc, conn, numbers, text);
+    tell_accounts(rt, conn, numbers, text);
     keep_account(rt, conn, numbers.0, &first);
-    tell_accounts(rt, alloc, conn, numbers, text);
+    tell_accounts(rt, conn, numbers, text);
     keep_account(rt, conn, numbers.0, &again);
-    tell_accounts(rt, alloc, conn, numbers, text);
+    tell_accounts(rt, conn, numbers, text);
     keep_account(rt, conn, numbers.1, &first);
-    tell_accounts(rt, alloc, conn, numbers, text);
+    tell_accounts(rt, conn, numbers, text);
 }
 
-/// The first account, the second, and the numbers of all.
+/// The first account and the second.
 const HEADS: &str = "no meta
 meta 1 a book 0
 meta 4294967295  4102444800
-none, none, 
-false 100 3 1, none, 49151;
-true 200 4 7, none, 49151;
-true 200 4 7, false 100 3 1, 49151;49152;
+none, none
+false 100 3 1, none
+true 200 4 7, none
+true 200 4 7, false 100 3 1
 ";
 
 /// The second bucket ends before the first, and the third before both. The third and the fourth

@@ -5,9 +5,8 @@ ghost use Rattle.sqlite.specs.Held.{state};
 
 use crate::tests::row_writers::push;
 use identifiers::AccountNumber;
-use sql_rows::{HeadColumns, put_account, put_meta, read_account, read_accounts, read_meta};
+use sql_rows::{HeadColumns, put_account, put_meta, read_account, read_meta};
 use sqlite::{Alter, Connection};
-use std::alloc::Global;
 use std::process::Abort;
 use units::Moment;
 
@@ -54,26 +53,17 @@ pub(crate) fn keep_account<S: Alter>(
 
 fn push_head(rt: &impl Abort, text: &mut String, head: &Option<HeadColumns>) {
     let Some(head) = head else {
-        return push(rt, text, "none, ");
+        return push(rt, text, "none");
     };
     let (barred, at) = (head.barred, head.as_of.seconds());
     write!(text, "{barred} {at}").expect(rt, "room");
     let (bucket, charge) = (head.next_bucket, head.next_charge);
-    write!(text, " {bucket} {charge}, ").expect(rt, "room");
+    write!(text, " {bucket} {charge}").expect(rt, "room");
 }
 
-fn push_numbers(rt: &impl Abort, text: &mut String, numbers: &[AccountNumber]) {
-    for number in numbers {
-        push(rt, text, number.as_str());
-        push(rt, text, ";");
-    }
-    push(rt, text, "\n");
-}
-
-/// Both accounts, and the numbers of all.
+/// Both accounts.
 pub(crate) fn tell_accounts<S: Alter>(
     rt: &impl Abort,
-    alloc: Global,
     conn: &mut Connection<S>,
     numbers: (&AccountNumber, &AccountNumber),
     text: &mut String,
@@ -83,11 +73,8 @@ pub(crate) fn tell_accounts<S: Alter>(
 {
     let first = read_account(conn, numbers.0).expect(rt, "a reading");
     push_head(rt, text, &first);
+    push(rt, text, ", ");
     let second = read_account(conn, numbers.1).expect(rt, "a reading");
     push_head(rt, text, &second);
-    push_numbers(
-        rt,
-        text,
-        &read_accounts(conn, alloc).expect(rt, "a reading"),
-    );
+    push(rt, text, "\n");
 }

@@ -1,55 +1,74 @@
-use Rattle.std.proofs.Common.{◌∙◌, arith}
+use Rattle.std.proofs.Common.{◌∙◌}
 use Rattle.sqlite.specs.Held.{state}
-use Rattle.sql_rows.proofs.Within.{gave_up}
+use Rattle.sqlite.specs.State.{IsUnchanged}
+use Rattle.sql_rows.proofs.Within.{have_within}
 use Rattle.sql_keeper.specs.Content.{shelf_names}
-use Rattle.sql_keeper.proofs.SweptReads.{all_swept, book_swept, inside_swept, next_swept}
+use Rattle.sql_keeper.proofs.SweptInTurn.{next_of, not_brought, so_many, swept_all}
+use Rattle.sql_keeper.proofs.SweptInTurn.{up_to_next, up_to_none}
 use Rattle.sql_keeper.proofs.SweptReads.{none_swept, not_swept}
 use Rattle.sql_keeper.proofs.sweeping.sweep_each.Goals as goal
-
-pub returns-in_err-put_meta-clause-makes : goal.returns-in_err-put_meta-clause-makes
-returns-in_err-put_meta-clause-makes g c =
-    gave_up _ _ _ _ c.from_residual.result _ c.from_residual.ensures.0
-    c.in_err-put_meta.ensures.makes
 
 pub accounts-init : goal.accounts-init
 accounts-init g c = record {
   same = c.in_ok-put_meta.ensures.same_reference;
-  swept = none_swept (shelf_names c.args.names.now) c.args.text.now c.args.shelf.now
-      c.args.moment c.in_ok-put_meta.field-0 (state g.S.Store c.args.tx.now.conn.now)
+  swept = up_to_none (shelf_names c.args.names.now) c.args.text.now c.args.shelf.now
+      c.args.moment (state g.S.Store c.args.tx.now.conn.now)
+      (state g.S.Store c.put_meta.new.tx.conn.now)
+      (none_swept (shelf_names c.args.names.now) c.args.text.now c.args.shelf.now c.args.moment
+      c.in_ok-put_meta.field-0 (state g.S.Store c.args.tx.now.conn.now)
       (state g.S.Store c.put_meta.new.tx.conn.now) c.in_ok-put_meta.ensures.makes
-      c.in_ok-put_meta.ensures.rules;
+      c.in_ok-put_meta.ensures.rules);
 }
 
-pub sweep_account-requires-clause-open : goal.sweep_account-requires-clause-open
-sweep_account-requires-clause-open g c = inside_swept _ _ _ _ _ _ _ c.accounts.invariant.swept
+pub returns-in_err-account-clause-makes : goal.returns-in_err-account-clause-makes
+returns-in_err-account-clause-makes g c =
+    let h = c.accounts.invariant.swept in
+    not_swept (shelf_names c.args.names.now) c.args.text.now c.args.shelf.now c.args.moment
+    IsUnchanged h.numbers (state g.S.Store c.args.tx.now.conn.now)
+    (state g.S.Store c.accounts.tx.conn.now) (state g.S.Store c.read_next_account.new.tx.conn.now)
+    c.from_residual-in_err-account.result _ c.from_residual-in_err-account.ensures.0 h.swept
+    c.in_err-account.ensures.reads.still
 
-pub sweep_account-requires-clause-book : goal.sweep_account-requires-clause-book
-sweep_account-requires-clause-book g c = book_swept _ _ _ _ _ _ _ c.accounts.invariant.swept
+pub returns-in_default-clause-makes : goal.returns-in_default-clause-makes
+returns-in_default-clause-makes g c =
+    swept_all (shelf_names c.args.names.now) c.args.text.now c.args.shelf.now c.args.moment
+    c.accounts.last c.accounts.count (state g.S.Store c.args.tx.now.conn.now)
+    (state g.S.Store c.accounts.tx.conn.now) (state g.S.Store c.read_next_account.new.tx.conn.now)
+    c.accounts.invariant.swept (have_within _ _ _ _ c.in_ok-account.ensures.reads)
+    (λ clean. next_of _ _ _ _ _ c.as_ref.ensures.value c.in_default.is
+    (c.in_ok-account.ensures.reads.found clean)) c.accounts.count
 
-pub sweep_account-requires-clause-rules : goal.sweep_account-requires-clause-rules
-sweep_account-requires-clause-rules g c = c.accounts.invariant.swept.rules
+pub returns-in_default-clause-count : goal.returns-in_default-clause-count
+returns-in_default-clause-count g c =
+    so_many (shelf_names c.args.names.now) c.args.text.now c.args.shelf.now c.args.moment
+    c.accounts.last c.accounts.count (state g.S.Store c.args.tx.now.conn.now)
+    (state g.S.Store c.accounts.tx.conn.now) (state g.S.Store c.read_next_account.new.tx.conn.now)
+    c.accounts.invariant.swept (have_within _ _ _ _ c.in_ok-account.ensures.reads)
+    (λ clean. next_of _ _ _ _ _ c.as_ref.ensures.value c.in_default.is
+    (c.in_ok-account.ensures.reads.found clean))
 
-pub returns-in_err-sweep_account-clause-makes : goal.returns-in_err-sweep_account-clause-makes
+pub returns-in_err-sweep_account-clause-makes :
+    goal.returns-in_err-sweep_account-clause-makes
 returns-in_err-sweep_account-clause-makes g c =
-    not_swept (shelf_names c.args.names.now) c.args.text.now c.args.shelf.now c.args.moment _ _
-    c.args.accounts.now (state g.S.Store c.args.tx.now.conn.now)
-    (state g.S.Store c.accounts.tx.conn.now) (state g.S.Store c.sweep_account.new.tx.conn.now)
-    c.from_residual-in_err-sweep_account.result _ c.from_residual-in_err-sweep_account.ensures.0
-    c.accounts.invariant.swept c.in_err-sweep_account.ensures.sweeps
+    not_brought (shelf_names c.args.names.now) c.args.text.now c.args.shelf.now c.args.moment
+    c.accounts.last c.accounts.count (state g.S.Store c.args.tx.now.conn.now)
+    (state g.S.Store c.accounts.tx.conn.now) (state g.S.Store c.read_next_account.new.tx.conn.now)
+    c.accounts.invariant.swept (have_within _ _ _ _ c.in_ok-account.ensures.reads)
+    c.in-Some.account (state g.S.Store c.sweep_account.new.tx.conn.now)
+    c.from_residual-in_err-sweep_account.result _
+    c.from_residual-in_err-sweep_account.ensures.0 c.in_err-sweep_account.ensures.sweeps
 
 pub accounts-preserved : goal.accounts-preserved
 accounts-preserved g c = record {
-  same = c.in_ok-sweep_account.ensures.same_reference ∙ c.accounts.invariant.same;
-  swept = next_swept (shelf_names c.args.names.now) c.args.text.now c.args.shelf.now
-      c.args.moment c.args.accounts.now c.accounts.account-index c.account-item.result
-      c.in_ok-sweep_account.field-0 (state g.S.Store c.args.tx.now.conn.now)
-      (state g.S.Store c.accounts.tx.conn.now) (state g.S.Store c.sweep_account.new.tx.conn.now)
-      (omega arith) c.account-item.is c.accounts.invariant.swept
-      c.in_ok-sweep_account.ensures.sweeps c.in_ok-sweep_account.ensures.rules;
+  same = c.in_ok-sweep_account.ensures.same_reference ∙ c.in_ok-account.ensures.same_reference
+      ∙ c.accounts.invariant.same;
+  swept = up_to_next (shelf_names c.args.names.now) c.args.text.now c.args.shelf.now
+      c.args.moment c.accounts.last c.accounts.count (state g.S.Store c.args.tx.now.conn.now)
+      (state g.S.Store c.accounts.tx.conn.now)
+      (state g.S.Store c.read_next_account.new.tx.conn.now) c.accounts.invariant.swept
+      (have_within _ _ _ _ c.in_ok-account.ensures.reads) c.in-Some.account
+      (state g.S.Store c.sweep_account.new.tx.conn.now) c.in_ok-sweep_account.field-0
+      (λ clean. next_of _ _ _ _ _ c.as_ref.ensures.value c.in-Some.is
+      (c.in_ok-account.ensures.reads.found clean)) c.in_ok-sweep_account.ensures.sweeps
+      c.in_ok-sweep_account.ensures.rules;
 }
-
-pub returns-clause-makes : goal.returns-clause-makes
-returns-clause-makes g c =
-    all_swept (shelf_names c.args.names.now) c.args.text.now c.args.shelf.now c.args.moment
-    c.args.accounts.now c.accounts.account-index _ (state g.S.Store c.args.tx.now.conn.now)
-    (state g.S.Store c.accounts.tx.conn.now) (omega arith) c.accounts.invariant.swept

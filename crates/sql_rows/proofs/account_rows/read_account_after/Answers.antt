@@ -1,0 +1,16 @@
+use Rattle.std.proofs.Common.{[], ◌∷◌, map, ap, ◌∙◌}
+use Rattle.sqlite.specs.Values.{bound_value}
+use Rattle.sqlite_value.specs.declared.value.Value.TheVariants.{Text}
+use Rattle.sql_tables.proofs.Telling.{reads_within_as}
+use Rattle.sql_rows.proofs.ReadNextAccount.{read_after_text, read_after_plain, after_read}
+use Rattle.sql_rows.proofs.account_rows.read_account_after.Goals as goal
+
+pub read_within-requires-clause-plain : goal.read_within-requires-clause-plain
+read_within-requires-clause-plain g c = read_after_plain
+
+pub returns-clause-reads : goal.returns-clause-reads
+returns-clause-reads g c =
+    reads_within_as _ read_after_text _ _ _ _ _ _ _ c.account_among.result
+    c.in_ok-rows.ensures.still c.in_ok-rows.ensures.answers
+    (λ i. map bound_value ((c.text-of_account.ensures ∙ ap Text c.as_str.ensures.value) i ∷ []))
+    c.deref.ensures.value c.account_among.ensures (after_read c.args.account.now _ _ _)

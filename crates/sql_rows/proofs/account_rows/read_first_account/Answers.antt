@@ -1,0 +1,14 @@
+use Rattle.std.proofs.Common.{refl}
+use Rattle.sql_tables.proofs.Telling.{reads_within_as}
+use Rattle.sql_rows.proofs.ReadNextAccount.{read_first_text, read_first_plain, first_read}
+use Rattle.sql_rows.proofs.account_rows.read_first_account.Goals as goal
+
+pub read_within-requires-clause-plain : goal.read_within-requires-clause-plain
+read_within-requires-clause-plain g c = read_first_plain
+
+pub returns-clause-reads : goal.returns-clause-reads
+returns-clause-reads g c =
+    reads_within_as _ read_first_text _ _ _ _ _ _ _ c.account_among.result
+    c.in_ok-rows.ensures.still c.in_ok-rows.ensures.answers
+    refl
+    c.deref.ensures.value c.account_among.ensures (first_read _ _ _)
