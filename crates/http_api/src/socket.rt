@@ -18,8 +18,8 @@ pub const SOCKET_SECONDS: u64 = 30;
 
 /// Serves the requests of a socket, as `serve`. Answers leave it without delay, and a read or a
 /// write that takes more than 30 seconds is a fault. So is a read 60 seconds after the first bytes
-/// of a request, so that a peer that sends byte by byte keeps the next one waiting for no more than
-/// 90 seconds, or 120 where these bytes came together with the request before.
+/// of a request, so that one request that is sent byte by byte keeps the next peer waiting for no
+/// more than 90 seconds, or 120 where its first bytes came together with the request before.
 ///
 /// An answer leaves at once where no more bytes have come. Where more requests have come already
 /// (RFC 9112 section 9.3.2) their answers are written together: such an answer waits until the
