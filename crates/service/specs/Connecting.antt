@@ -10,16 +10,19 @@ use Rattle.sqlite.specs.Files.{file_state, IsOpened}
 use Rattle.sqlite.specs.Opening.{is_open_error}
 use Rattle.sqlite.specs.Start.{FindsIn}
 use Rattle.sqlite.specs.State.{HasCleanDisk}
+use Rattle.wal_check.specs.Sound.{IsSound}
 use Rattle.sqlite.specs.declared.error.Error.{Error}
 use Rattle.sqlite.specs.declared.error.Error.TheVariants.{SqliteFailure}
 use Rattle.sqlite.specs.declared.error.ErrorCode.TheVariants.{CannotOpen}
 
--- what the files held is found; a path that SQLite takes for a database in memory isn't opened
+-- What the files held is found, and is what a stop of the machine can have left. A path that SQLite
+-- takes for a database in memory isn't opened.
 pub record ConnectsTo {D : Type 0} {g : disk.Ghosts D} (image : Image) (path : Bytes)
     (result : Result (Held (FileStore D g)) Error) : Type 0 where
   pub memory : path ≡ codes ":memory:" → result ≡ Err (SqliteFailure CannotOpen)
   pub named : IfErr result (λ e. IsTrue (is_open_error e))
   pub opened : IfOk result (λ c. HasCleanDisk (file_state c) → IsOpened c)
   pub found : IfOk result (λ c. HasCleanDisk (file_state c) → FindsIn image (file_state c))
+  pub sound : IfOk result (λ c. HasCleanDisk (file_state c) → IsSound image)
   pub fresh : IfOk result IsNew
   pub guarded : IfOk result (λ c. HasCleanDisk (file_state c) → (file_state c).IsShielded)

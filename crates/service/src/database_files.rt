@@ -1,18 +1,24 @@
 //! A connection to the files at a path, with the office's choice of options.
 
-ghost use Rattle.std.specs.Prelude.{codes, ◌≡◌, true, false, IsTrue, IfOk, IfErr};
-ghost use Rattle.sqlite_wal.specs.Files.{image_at};
+ghost use Rattle.std.specs.Prelude.{codes, ◌≡◌, true, false, IsTrue, IfOk, IfErr, OnOk};
+ghost use Rattle.sqlite_wal.specs.Files.{image_at, seen_image};
+ghost use Rattle.sqlite_wal.specs.Reads.{AreClean, OnlyReads};
 ghost use Rattle.sqlite_std_file.specs.File.{file_is_usable, IsFresh};
 ghost use Rattle.sqlite.specs.Opening.{is_open_error};
+ghost use Rattle.wal_check.specs.Sound.{IsSound};
 ghost use Rattle.service.specs.Connecting.{ConnectsTo};
 
+use crate::file_header::is_other_file;
 use sqlite::{Connection, Error, ErrorCode};
-use sqlite_disk::{Files, Start};
+use sqlite_disk::{Disk, Files, Start};
 use sqlite_pager::Options;
 use sqlite_std_file::{FileFrom, OpenError};
 use sqlite_store::FileStore;
+use sqlite_wal::Error as LogError;
+use std::alloc::Global;
 use std::hash::{BuildHasher, RandomState};
 use std::io::ErrorKind;
+use wal_check::is_sound;
 
 /// The file and the log of a database, which held what `S` says.
 pub type DatabaseFiles<S> = FileStore<FileFrom<S>>;
@@ -31,7 +37,8 @@ const NO_MEMORY: Error = Error::SqliteFailure(ErrorCode::OutOfMemory);
 const CANNOT_OPEN: Error = Error::SqliteFailure(ErrorCode::CannotOpen);
 
 /// The file at the path and its log, each made where it isn't there. A name that SQLite takes for
-/// something else than a file, `:memory:` or one that begins with `file:`, can't be opened.
+/// something else than a file, `:memory:` or one that begins with `file:`, can't be opened, and
+/// beside a file that is no database's no log is made.
 fn files_at<S: Start>(rt: &HostRuntime, path: &str, start: S) -> Result<Files<FileFrom<S>>, Error>
     ensures memory { path.now ≡ codes ":memory:" →
         result ≡ Err (Error.SqliteFailure ErrorCode.CannotOpen) }
@@ -43,6 +50,20 @@ fn files_at<S: Start>(rt: &HostRuntime, path: &str, start: S) -> Result<Files<Fi
     if path == ":memory:" || path.starts_with("file:") {
         return Err(CANNOT_OPEN);
     }
+    match is_other_file(rt, path) {
+        Ok(false) => open_pair(rt, path, start),
+        Ok(true) => Err(CANNOT_OPEN),
+        Err(_) => Err(NO_MEMORY),
+    }
+}
+
+/// The same, of a path that may be a database's.
+fn open_pair<S: Start>(rt: &HostRuntime, path: &str, start: S) -> Result<Files<FileFrom<S>>, Error>
+    ensures named { IfErr result (λ e. IsTrue (is_open_error e)) }
+    ensures usable { IfOk result (λ files. IsTrue (file_is_usable S.Start files.log)
+        × IsTrue (file_is_usable S.Start files.db)) }
+    ensures fresh { IfOk result (λ files. IsFresh true files.log × IsFresh false files.db) }
+{
     match sqlite_std_file::open(rt, path, start) {
         Ok(files) => Ok(files),
         Err(OpenError::OutOfMemory) => Err(NO_MEMORY),
@@ -68,13 +89,34 @@ fn options(rt: &HostRuntime) -> Result<Options, Error>
     })
 }
 
+/// Nothing, if a stop of the machine can have left the two files so. Nothing is written.
+///
+/// # Errors
+/// `CannotOpen`, their log is damaged or can't be read; `OutOfMemory`.
+fn check_log<D: Disk>(alloc: Global, files: &mut Files<D>) -> Result<(), Error>
+    requires log_usable { IsTrue (D.Disk.is_usable files.old.log) }
+    requires db_usable { IsTrue (D.Disk.is_usable files.old.db) }
+    ensures sound { OnOk result (AreClean D.Disk files.new.log files.new.db → IsSound (seen_image D.Disk files.old.log files.old.db)) }
+    ensures named { IfErr result (λ e. IsTrue (is_open_error e)) }
+    ensures log { OnlyReads D.Disk files.old.log files.new.log }
+    ensures db { OnlyReads D.Disk files.old.db files.new.db }
+{
+    match is_sound(alloc, files) {
+        Ok(true) => Ok(()),
+        Ok(false) => Err(CANNOT_OPEN),
+        Err(LogError::OutOfMemory) => Err(NO_MEMORY),
+        Err(_) => Err(CANNOT_OPEN),
+    }
+}
+
 /// Opens the database at the path, which is made where there is none. What it holds is what an
 /// earlier process committed, whole, whatever stopped it. `start` says what may have become of a
 /// write that was torn: `Wary` supposes nothing.
 ///
 /// # Errors
-/// `CannotOpen` where the path is `:memory:`. Else the file or its log can't be opened or made,
-/// another process has it, it isn't a database, or memory is refused.
+/// `CannotOpen` where the path is `:memory:`, or the log is one that no stop can have left: then
+/// nothing is written. Else the file or its log can't be opened or made, another process has it, it
+/// isn't a database, or memory is refused.
 pub fn open_database<S: Start>(
     rt: &HostRuntime,
     path: &str,
@@ -82,7 +124,8 @@ pub fn open_database<S: Start>(
 ) -> Result<Connection<DatabaseFiles<S>>, Error>
     ensures { ConnectsTo (image_at S.Start) path.now result }
 {
-    let files = files_at(rt, path, start)?;
+    let mut files = files_at(rt, path, start)?;
+    check_log(rt.alloc(), &mut files)?;
     let options = options(rt)?;
     match Connection::open_files(rt.alloc(), files, options) {
         Ok(connection) => Ok(connection),

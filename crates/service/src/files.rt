@@ -51,7 +51,8 @@ pub(crate) fn connect<S: Start>(
     open_database(rt, path, start).map_err(opening_fault)
 }
 
-/// Whether there is something at a path that isn't an empty file.
+/// Whether there is something at a path that isn't an empty file, nor one of a single byte, which is
+/// what a stop may leave of a file that is being made.
 ///
 /// # Errors
 /// `File`, also where its folder isn't there; `Memory`.
@@ -59,7 +60,7 @@ fn is_filled(rt: &HostRuntime, path: &str) -> Result<bool, DatabaseFault>
     ensures { IfErr result IsUnopened }
 {
     match fs::metadata(rt, path) {
-        Ok(found) => Ok(!found.is_file() || found.len() > 0),
+        Ok(found) => Ok(!found.is_file() || found.len() > 1),
         Err(error) if error.kind() == ErrorKind::NotFound && has_folder(rt, path) => Ok(false),
         Err(error) => Err(file_fault(error)),
     }
@@ -71,11 +72,11 @@ fn has_folder(rt: &HostRuntime, path: &str) -> bool {
     folder.is_none_or(|folder| folder.as_str().is_empty() || folder.exists(rt))
 }
 
-/// A connection to the database at a path, where there is a file that isn't empty: none is made,
-/// and an empty one is left empty.
+/// A connection to the database at a path, where there is a file of more than one byte: none is
+/// made, and one that is shorter is left as it is.
 ///
 /// # Errors
-/// `Open`, there is none or it is empty (`Foreign`, as of a database without tables); else as
+/// `Open`, there is none or it is shorter (`Foreign`, as of a database without tables); else as
 /// `connect`.
 pub(crate) fn connect_there<S: Start>(
     rt: &HostRuntime,

@@ -9,6 +9,7 @@ mod clock;
 mod commanding;
 mod database_files;
 mod fault;
+mod file_header;
 mod files;
 mod importing;
 mod laws;

@@ -1,0 +1,4 @@
+pub mod Reading
+pub mod Hiding
+pub mod Pages
+pub mod Ends
