@@ -5,8 +5,10 @@ use Rattle.std.specs.Prelude.{if◌then◌else◌, ◌==◌, nat_lt, option_map}
 use Rattle.std.proofs.lemmas.Bool.{or_parts, cond-false}
 use Rattle.buckets.specs.Row.{BucketRow, new_row}
 use Rattle.buckets.specs.Spend.{inserted}
-use Rattle.ledger.specs.Ledger.{Fact, Dated, Ledger, or_else, newest, any, any_dated, recording_in}
-use Rattle.ledger.specs.Ledger.{last_recording, has_group, names_group, has_counter, counts_group}
+use Rattle.ledger.specs.Ledger.{Fact, Dated, Ledger, or_else, newest}
+use Rattle.ledger.specs.Parts.{any, any_dated, recording_in}
+use Rattle.ledger.specs.Ledger.{last_recording, has_group, has_counter}
+use Rattle.ledger.specs.Parts.{names_group, counts_group}
 use Rattle.ledger.specs.Ledger.{CreditOf, counts}
 use Rattle.ledger.specs.Balance.{credits, with_credit, bucket_at, buckets_at}
 use Rattle.reserving.specs.Sessions.{session_row, session_at, state_at, group_at, counter_at}

@@ -30,7 +30,7 @@ fn purse_of(alloc: Global, buckets: Vec<Bucket>) -> Result<Purse, AllocError>
 {
     let mut buckets = buckets;
     sort_by_use(&mut buckets);
-    Purse::from_buckets(alloc, buckets).ok_or(AllocError)
+    Purse::from_buckets(alloc, buckets)?.ok_or(AllocError)
 }
 
 /// The account of these rows, which are refused as if there were no room for them where they are

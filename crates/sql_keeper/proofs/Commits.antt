@@ -31,6 +31,7 @@ use Rattle.sql_rules.specs.Ruled.{IsInRules}
 use Rattle.sql_keeper.specs.Content.{tables_of, Names}
 use Rattle.sql_keeper.specs.Commits.{Becomes}
 use Rattle.sql_keeper.specs.KeptRows.{AreGrantsOver, AreKept, BecomesOver, Keeps}
+use Rattle.sql_keeper.specs.Numbers.{AreNumbersFree, LacksThen}
 use Rattle.sql_keeper.specs.RuledRows.{are_ruled_texts, is_ruled_change}
 use Rattle.sql_keeper.specs.Seen.{AreSeen, IsKeptOnce, Sees, Stands}
 use Rattle.sql_keeper.specs.Tests.{AreWritable, IsTested, MayBeMade}
@@ -45,7 +46,7 @@ use Rattle.sql_keeper.specs.declared.putting.Known.{Known}
 use Rattle.sql_keeper.proofs.KeptGroups.{sees_kept}
 use Rattle.sql_keeper.proofs.KeptKinds.{keeps_counted}
 use Rattle.sql_keeper.proofs.GrantsWritten.{grants_written}
-use Rattle.sql_keeper.proofs.NewGroups.{put_over}
+use Rattle.sql_keeper.proofs.NewGroups.{lacked_before, put_over}
 use Rattle.sql_keeper.proofs.RuledRows.{change_kept}
 
 -- ---- what is kept once, and the later books
@@ -125,7 +126,7 @@ change_meta names m change texts c =
 
 module _ (names : Names) (text : List ℕ) (change : Change) (texts : Option Kept)
     (named : IsNamed change.rows) (told : AreTexts change.number change.kept texts)
-    (texts_ruled : are_ruled_texts change.number texts ≡ true)
+    (texts_ruled : are_ruled_texts change.number change.kept texts ≡ true)
     (last : change.moment ≤ 4_102_488_000) where
   become : (old new : Trees) → MayBeMade names change (rows_in old change.number)
       → Turns (with_change names (meta_with text change) change texts) old new
@@ -203,3 +204,32 @@ module _ (names : Names) (text : List ℕ) (change : Change) (texts : Option Kep
       (there disk was)
       (subst (λ (d : Database). Turns (with_change_put names known change texts) d.trees db)
       (only.still clean on).now_is turns))
+
+-- ---- the numbers that it takes
+
+-- of what was tested, and of what was put where no charge was
+pub free_at : (names : Names) (text : List ℕ) (change : Change) → IsNamed change.rows
+    → (known : Known) (old mid : State) → OnlyReads old mid
+    → (HasCleanDisk mid → IsTrue mid.is_open
+    → IsTested names change (rows_in old.now.trees change.number) known.are_new)
+    → AreSeen known.seen.now old → AreKept names known.kept.now old
+    → Stands known.is_there (meta_with text change) old
+    → HasCleanDisk mid → IsTrue mid.is_open
+    → LacksThen names known change (tables_content mid.now.trees)
+    → AreNumbersFree change (rows_in old.now.trees change.number)
+free_at names text change named known old mid only may sees keeps there clean on lacks =
+    let was : IsTrue old.is_open = (only.still clean on).was_open in
+    let disk = only.cleanness clean in
+    let found = may clean on in
+    record {
+      charges = lacked_before names known text change (tables_content old.now.trees) named found
+          (record {
+            groups = λ x e. sees_kept known.seen.now old.now.trees change.number x
+                (sees disk was) e;
+            buckets = λ b e. keeps_counted names known.kept.now old.now.trees change.number b
+                (keeps disk was) e;
+          }) (there disk was)
+          (subst (λ (d : Database). LacksThen names known change (tables_content d.trees))
+          (only.still clean on).now_is lacks);
+      buckets = found.free;
+    }

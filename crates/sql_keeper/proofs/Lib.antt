@@ -5,6 +5,7 @@ pub mod Asked
 pub mod BookPlaces
 pub mod BookTexts
 pub mod Brought
+pub mod BucketNumbers
 pub mod Causes
 pub mod Changed
 pub mod ChargePages
@@ -69,3 +70,4 @@ pub mod Told
 pub mod Transacted
 pub mod Whole
 pub mod Writable
+mod SortedNumbers

@@ -10,6 +10,7 @@ use Rattle.reserving.specs.declared.session.Reservation.{Reservation}
 use Rattle.reserving.specs.Sessions.{is_of, group_in, holds_in}
 use Rattle.reserving.specs.Stored.{StoredRows}
 use Rattle.ledger.specs.Lists.{EachIn}
+use Rattle.ledger.specs.declared.charge.ChargeRow.{ChargeRow}
 use Rattle.reserving.specs.Rows.{AreApart}
 use Rattle.reserving.specs.Left.{first_of}
 use Rattle.reserving.proofs.KeysFound.{found_session}
@@ -25,6 +26,7 @@ use Rattle.sql_rows.specs.Values.{Kept, Meta}
 use Rattle.sql_rows.specs.Content.{TableRows, TablesContent, with_group_row, with_meta, with_rows}
 use Rattle.sql_rows.specs.Lists.{AreCoveredBeside, HasNoGroups}
 use Rattle.sql_keeper.specs.Content.{Names}
+use Rattle.sql_keeper.specs.Numbers.{LacksCharge, LacksCharges, LacksThen}
 use Rattle.sql_keeper.specs.Seen.{IsKeptOnce}
 use Rattle.sql_keeper.specs.Tests.{AreNewGroups, AreWritable, IsTested}
 use Rattle.sql_keeper.specs.Writes.{columns_of, with_all_charged, with_change, with_change_put}
@@ -313,3 +315,38 @@ put_over names known text change texts c named t stand is =
     texts (with_changed_rows names known change d)))
     (moment_put known.is_there (meta_with text change) c is)
     ∙ put_is names known (meta_with text change) change texts c named t stand
+
+-- the charges that an account lacks once its rows are put, it lacked before
+opened_lacks : (a : List ℕ) (f : TableRows → TableRows) (c : TablesContent) (xs : List ChargeRow)
+    → ((r : TableRows) → (f r).charges ≡ r.charges) → LacksCharges a (opened a f c) xs
+    → LacksCharges a c xs
+opened_lacks a f c xs same =
+    EachIn-weaker (LacksCharge a (opened a f c)) (LacksCharge a c) xs
+    (λ x. at x (same_name a a))
+  where
+    at : (x : ChargeRow) (t : Bool)
+        → (if t then f (c.rows a) else c.rows a).charges x.number ≡ None
+        → (c.rows a).charges x.number ≡ None
+    at x true e = sym (ap (λ (charges : ℕ → Option ChargeRow). charges x.number)
+        (same (c.rows a))) ∙ e
+    at x false e = e
+
+pub lacked_before : (names : Names) (known : Known) (text : List ℕ) (change : Change)
+    (c : TablesContent) → IsNamed change.rows
+    → IsTested names change (c.rows change.number) known.are_new →
+    IsKnownIn change.number known (c.rows change.number)
+    → IsKeptOnce known.is_there (meta_with text change) c.meta
+    → LacksThen names known change c
+    → LacksCharges change.number c change.charges.items
+lacked_before names known text change c named t stand is lacks =
+    let a = change.number in
+    let m = meta_with text change in
+    opened_lacks a (over_stored names change.rows) (with_meta m c) change.charges.items
+    (λ r. refl)
+    (subst (λ (d : TablesContent). LacksCharges a d change.charges.items)
+    (stored_over a names change.rows.sessions change.rows (with_meta m c)
+    (keyed_named change.rows named) t.made.reservations)
+    (subst (λ (d : TablesContent). LacksCharges a d change.charges.items)
+    (named_is names known m change c named t stand)
+    (subst (λ (d : TablesContent). LacksCharges a (with_named a names known change.rows d)
+    change.charges.items) (moment_put known.is_there m c is) lacks)))

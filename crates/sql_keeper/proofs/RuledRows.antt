@@ -2,7 +2,7 @@
 use Rattle.std.proofs.Common.{◌≡◌, ℕ, zero, suc, List, [], ◌∷◌, Bool, true, false, ◌&&◌, ◌||◌, Some}
 use Rattle.std.proofs.Common.{None, Option, refl, subst, sym, ap, length, map, arith, ◌+◌, ◌++◌}
 use Rattle.std.proofs.Common.{◌≤◌, ◌∙◌}
-use Rattle.std.specs.Prelude.{is_some, option_map, slice_get, unwrap_or, nat_le, nat_lt, ◌==◌}
+use Rattle.std.specs.Prelude.{is_some, option_map, slice_get, unwrap_or, nat_le, ◌==◌}
 use Rattle.std.specs.Prelude.{if◌then◌else◌}
 use Rattle.std.specs.List.{list_all, list_any}
 use Rattle.std.proofs.lemmas.Bool.{and_from, and_parts}
@@ -43,7 +43,8 @@ use Rattle.sql_rows.specs.Values.{Group, Kept, Meta, PeriodNames, plain_bucket, 
 use Rattle.sql_rows.specs.Values.{flag_number, reference_kind, request_kind}
 use Rattle.sqlite.specs.Values.{or_null}
 use Rattle.sqlite_value.specs.declared.value.Value.TheVariants.{Text}
-use Rattle.sql_rules.specs.Columns.{is_moment, is_numbering, is_small, is_in_bounds}
+use Rattle.sql_rules.specs.Columns.{are_some_blocks, is_moment, is_numbering, is_small}
+use Rattle.sql_rules.specs.Columns.{is_in_bounds}
 use Rattle.sql_rules.specs.Rules.{are_kept_texts, are_periods, has_period, is_answer_key}
 use Rattle.sql_rules.specs.Rules.{is_period_name}
 use Rattle.sql_rules.specs.Ruled.{AreInRules, IsInRules, is_book, is_bucket, is_charge, is_counter}
@@ -56,7 +57,8 @@ use Rattle.sql_rules.proofs.KeptRules.{covered_kept, grant_book_gone, grant_book
 use Rattle.sql_rules.proofs.KeptRules.{hold_kept, holds_gone, meta_kept, rows_kept, session_kept}
 use Rattle.sql_rules.proofs.KeptRules.{voucher_kept}
 use Rattle.sql_keeper.specs.Content.{names_numbered, shelf_names}
-use Rattle.sql_keeper.specs.RuledRows.{are_ruled_rows, are_ruled_texts, is_ruled_addition}
+use Rattle.sql_keeper.specs.RuledRows.{are_ruled_rows, are_ruled_texts, are_texts_under}
+use Rattle.sql_keeper.specs.RuledRows.{is_ruled_addition, is_ruled_charge}
 use Rattle.sql_keeper.specs.RuledRows.{is_ruled_change, is_ruled_sweep, is_ruled_swept}
 use Rattle.sql_keeper.specs.RuledRows.{is_ruled_group, is_ruled_hold, is_ruled_key}
 use Rattle.sql_keeper.specs.RuledRows.{is_ruled_kept, is_ruled_redeemed, is_ruled_reservation}
@@ -260,12 +262,16 @@ module _ (shelf : Shelf) where
 
     -- ---- charges, texts, vouchers
 
-    some_blocks : (m : ℕ) → (m == 0) ≡ false → nat_lt 0 m ≡ true
-    some_blocks m e = grind (arith, nat_tests, e)
+    some_blocks : (m : ℕ) → (m == 0) ≡ false → nat_le m 1_000_000_000 ≡ true →
+        are_some_blocks m ≡ true
+    some_blocks m e most = and_from (nat_le 1 m) (nat_le m 1_000_000_000) least most
+      where
+        least : nat_le 1 m ≡ true
+        least = grind (arith, nat_tests, e)
 
-    blocks_kept : (n m : ℕ) (c : TablesContent) → IsInRules shelf c →
-        IsInRules shelf (with_rows a (with_blocks n m) c)
-    blocks_kept n m c in' = at (m == 0) refl
+    blocks_kept : (n m : ℕ) (c : TablesContent) → nat_le m 1_000_000_000 ≡ true
+        → IsInRules shelf c → IsInRules shelf (with_rows a (with_blocks n m) c)
+    blocks_kept n m c most in' = at (m == 0) refl
       where
         at : (t : Bool) → (m == 0) ≡ t → IsInRules shelf (with_rows a (λ r. if t
             then without_covered n r
@@ -274,35 +280,36 @@ module _ (shelf : Shelf) where
             (covered_gone shelf a (c.rows a) (in'.rows a) n)
         at false e = rows_kept shelf c in' a (with_covered (record { number = n; blocks = m }))
             (covered_kept shelf a (c.rows a) (in'.rows a) (record { number = n; blocks = m })
-            (some_blocks m e))
+            (some_blocks m e most))
 
-    paid_kept : (x : ChargeRow) (c : TablesContent) → is_charge x ≡ true → IsInRules shelf c
-        → IsInRules shelf (with_paid a x c)
+    paid_kept : (x : ChargeRow) (c : TablesContent) → is_ruled_charge x ≡ true
+        → IsInRules shelf c → IsInRules shelf (with_paid a x c)
     paid_kept x c rule in' =
-        blocks_kept x.number x.covered.0 (with_rows a (with_charge_row (plain_charge x)) c)
+        let parts = and_parts (is_charge x) (nat_le x.covered.0 1_000_000_000) rule in
+        blocks_kept x.number x.covered.0 (with_rows a (with_charge_row (plain_charge x)) c) parts.1
         (rows_kept shelf c in' a (with_charge_row (plain_charge x))
-        (charge_kept shelf a (c.rows a) (in'.rows a) (plain_charge x) rule))
+        (charge_kept shelf a (c.rows a) (in'.rows a) (plain_charge x) parts.0))
 
-    all_paid_kept : (xs : List ChargeRow) (c : TablesContent) → list_all is_charge xs ≡ true
+    all_paid_kept : (xs : List ChargeRow) (c : TablesContent) → list_all is_ruled_charge xs ≡ true
         → IsInRules shelf c → IsInRules shelf (with_all_paid a xs c)
-    all_paid_kept = all_kept (with_paid a) is_charge paid_kept
+    all_paid_kept = all_kept (with_paid a) is_ruled_charge paid_kept
 
     texts_kept : (key : Key) (t : Kept) (c : TablesContent) → is_ruled_key key ≡ true
-        → are_kept_texts a t.content t.answer ≡ true → IsInRules shelf c
+        → are_texts_under key a t ≡ true → IsInRules shelf c
         → IsInRules shelf (with_texts a key t c)
     texts_kept (Request s n) t c key texts in' =
         rows_kept shelf c in' a (with_answer request_kind s n t)
         (answer_kept shelf a (c.rows a) (in'.rows a) request_kind s n t
-        (and_from (is_answer_key request_kind s n) (are_kept_texts a t.content t.answer) key
-        texts))
+        (and_from (is_answer_key request_kind s n)
+        (are_kept_texts request_kind s n a t.content t.answer) key texts))
     texts_kept (Reference x) t c key texts in' =
         rows_kept shelf c in' a (with_answer reference_kind x 0 t)
         (answer_kept shelf a (c.rows a) (in'.rows a) reference_kind x 0 t
-        (and_from (is_answer_key reference_kind x 0) (are_kept_texts a t.content t.answer) key
-        texts))
+        (and_from (is_answer_key reference_kind x 0)
+        (are_kept_texts reference_kind x 0 a t.content t.answer) key texts))
 
     kept_kept : (kept : Option KeptAnswer) (texts : Option Kept) (c : TablesContent)
-        → is_ruled_kept kept ≡ true → are_ruled_texts a texts ≡ true → IsInRules shelf c
+        → is_ruled_kept kept ≡ true → are_ruled_texts a kept texts ≡ true → IsInRules shelf c
         → IsInRules shelf (with_kept a kept texts c)
     kept_kept None texts c key rule in' = in'
     kept_kept (Some k) None c key rule in' = in'
@@ -322,14 +329,14 @@ module _ (shelf : Shelf) where
 
   pub change_kept : (m : Meta) (change : Change) (texts : Option Kept) (c : TablesContent)
       → m.last ≡ change.moment → is_ruled_change (shelf_names shelf) change ≡ true
-      → are_ruled_texts change.number texts ≡ true
+      → are_ruled_texts change.number change.kept texts ≡ true
       → AreWritable (shelf_names shelf) change.rows.sessions change.rows.groups
       → is_some c.meta ≡ true → IsInRules shelf c
       → IsInRules shelf (with_change (shelf_names shelf) m change texts c)
   change_kept m change texts c last rule told may there in' =
       let kept = and_parts _ (is_ruled_kept change.kept) rule in
       let redeemed = and_parts _ (is_ruled_redeemed change.redeemed) kept.0 in
-      let charges = and_parts _ (list_all is_charge change.charges.items) redeemed.0 in
+      let charges = and_parts _ (list_all is_ruled_charge change.charges.items) redeemed.0 in
       let rows = and_parts (is_moment change.moment)
       (are_ruled_rows (shelf_names shelf) change.number change.rows) charges.0 in
       redeemed_kept change.redeemed _ redeemed.1

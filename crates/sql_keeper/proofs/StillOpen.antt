@@ -2,6 +2,7 @@
 use Rattle.std.proofs.Common.{◌≡◌, inl, inr, ℕ, List, Ok, Err, Result, IsTrue, OnOk, false, []}
 use Rattle.std.proofs.Common.{sym, subst, arith, true≢false, IfOk}
 use Rattle.std.specs.Result.{IfErr, IsErr}
+use Rattle.std.proofs.lemmas.Result.{on_ok_weaker}
 use Rattle.sqlite_value.specs.Order.{Row}
 use Rattle.sqlite_trees.specs.Tree.{Trees}
 use Rattle.sqlite.specs.declared.error.Error.{Error}
@@ -13,6 +14,7 @@ use Rattle.sql_tables.proofs.Keeps.{idle_still, only_reads_then, spares_still}
 use Rattle.sql_keeper.specs.Asks.{Asks, IsStillOpen}
 use Rattle.sql_keeper.specs.Commits.{CommitsStanding, CommitsWhole}
 use Rattle.sql_keeper.specs.LiveGroups.{Gathers}
+use Rattle.sql_keeper.specs.Numbers.{WasSo}
 use Rattle.sql_keeper.proofs.Whole.{commits_after, not_shut, refused}
 
 -- nothing is run, so nothing is changed
@@ -189,3 +191,12 @@ told_standing {A} {B} {E} {F} P old mid new u (Ok x) tested back tells clean =
     subst (λ (d : Database). P x d.trees)
     (still_tested {A = B} {E = F} old mid u tested (back clean)).now_is (tells clean)
 told_standing P old mid new u (Err e) tested back tells clean = tt
+
+-- what was so of the tables where it is committed, was so before
+pub was_standing : {A B E F : Type 0} (so : Trees → Type 0) (Become : Trees → Trees → Type 0)
+    (old mid new : State) (u : B) (r : Result A E) → IsStillOpen {A = B} {E = F} old mid (Ok u)
+    → CommitsWhole Become mid new r → WasSo so mid new r → WasSo so old new r
+was_standing {A} {B} {E} {F} so Become old mid new u r tested commits was = λ clean.
+    on_ok_weaker r (subst (λ (d : Database). so d.trees)
+    (still_tested {A = B} {E = F} old mid u tested
+    (omega (arith, commits.survives.clean, clean))).now_is) (was clean)

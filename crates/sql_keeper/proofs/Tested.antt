@@ -2,13 +2,14 @@
 use Rattle.std.proofs.Common.{◌≡◌, ◌<◌, ◌≤◌, ◌+◌, take, get_or, length, ℕ, Bool, true, false}
 use Rattle.std.proofs.Common.{List, [], ◌∷◌, ◌++◌, cond, Option, Some, None, Result, Ok, Err, IfOk}
 use Rattle.std.proofs.Common.{IsTrue, inl, inr, refl, sym, ap, subst, ◌∙◌}
-use Rattle.std.specs.Prelude.{◌||◌, ◌&&◌, if◌then◌else◌, map, not, nat_eq, is_some, option_map}
+use Rattle.std.specs.Prelude.{◌||◌, ◌&&◌, if◌then◌else◌, map, not, nat_eq, is_some, option_map, ⊤}
 use Rattle.std.specs.List.{find, list_all}
 use Rattle.std.proofs.lemmas.Bool.{and_parts, not-true}
 use Rattle.std.proofs.lemmas.List.{take_more, take_all}
 use Rattle.sqlite.specs.State.{State, HasCleanDisk, IsLive}
 use Rattle.sqlite_catalog.specs.Listing.{IsSound}
 use Rattle.sqlite_schema.specs.declared.schema.Constraint.TheVariants.{ForeignKey}
+use Rattle.buckets.specs.Row.{BucketRow}
 use Rattle.reserving.specs.declared.session.Session.{Session}
 use Rattle.reserving.specs.declared.session.SessionGroup.{SessionGroup}
 use Rattle.ledger.specs.Lists.{EachIn}
@@ -24,6 +25,7 @@ use Rattle.sql_rows.specs.Content.{TableRows, rows_in}
 use Rattle.sql_rows.specs.Lists.{AreCoveredBeside, AreGroups, GroupAt, HasNoGroups}
 use Rattle.sql_rows.specs.Values.{Group}
 use Rattle.sql_rows.proofs.ChargeBlocks.{covered_beside}
+use Rattle.sql_keeper.specs.Numbers.{AreFree, first_bucket}
 use Rattle.sql_keeper.specs.RuledRows.{is_ruled_change}
 use Rattle.sql_keeper.specs.Content.{Names}
 use Rattle.sql_keeper.specs.LiveGroups.{Gathers}
@@ -353,30 +355,47 @@ beside_at s idle live a clean on =
     ((subst (λ c. IsSound c s.now.trees) (idle clean on).book.schema (live on).0).obeys.rules
     ForeignKey) a
 
--- of a change that passed
-pub tested : {E : Type 0} (names : Names) (change : Change) (y : NamedSessions) (r : Result Bool E)
-    (old new : State) → IfOk r (λ b. IsTrue y.are_settled × (b ≡ y.are_new)) →
+-- of a change that passed, whose new buckets have free numbers
+pub tested : {E : Type 0} (names : Names) (change : Change) (xs : List BucketRow)
+    (y : NamedSessions) (u : ⊤) (r : Result Bool E) (old mid new : State)
+    → xs ≡ change.rows.buckets → IfOk r (λ b. IsTrue y.are_settled × (b ≡ y.are_new)) →
     HasIdleBook old → IsLive old →
+    Gathers {A = ⊤} {E = E} (λ trees done. AreFree
+    (first_bucket (rows_in trees change.number).head) (rows_in trees change.number) xs) old mid
+    (Ok u) →
     Gathers {A = NamedSessions} {E = E}
-    (λ trees w. IsChangeFound names change (rows_in trees change.number) w) old new (Ok y) →
+    (λ trees w. IsChangeFound names change (rows_in trees change.number) w) mid new (Ok y) →
     Gathers {A = Bool} {E = E}
     (λ trees b. IsTested names change (rows_in trees change.number) b) old new r
-tested {E} names change y r old new passes idle live h =
+tested {E} names change xs y u r old mid new same passes idle live one two =
     gathers_from {A = Bool} {E = E}
     (λ trees b. IsTested names change (rows_in trees change.number) b) old new r
+    (have_read_then old mid new
+    (have_gathered {A = ⊤} {E = E} (λ trees done. AreFree
+    (first_bucket (rows_in trees change.number).head) (rows_in trees change.number) xs) old mid u
+    one)
     (have_gathered {A = NamedSessions} {E = E}
-    (λ trees w. IsChangeFound names change (rows_in trees change.number) w) old new y h)
-    (λ clean on. so r passes (rows_in old.now.trees change.number) (h.found clean on)
-    (beside_at old idle live change.number (h.only.cleanness clean)
-    (h.only.still clean on).was_open))
+    (λ trees w. IsChangeFound names change (rows_in trees change.number) w) mid new y two))
+    (λ clean on.
+    let after = two.only.still clean on in
+    let was : HasCleanDisk mid = two.only.cleanness clean in
+    so r passes (rows_in old.now.trees change.number)
+    (told_before (λ trees. IsChangeFound names change (rows_in trees change.number) y) old mid new
+    one.only two.only clean on (two.found clean on))
+    (beside_at old idle live change.number (one.only.cleanness was)
+    (one.only.still was after.was_open).was_open)
+    (subst (AreFree (first_bucket (rows_in old.now.trees change.number).head)
+    (rows_in old.now.trees change.number)) same (one.found was after.was_open)))
   where
     so : (q : Result Bool E) → IfOk q (λ b. IsTrue y.are_settled × (b ≡ y.are_new)) →
         (s : TableRows) → IsChangeFound names change s y → AreCoveredBeside s →
+        AreFree (first_bucket s.head) s change.rows.buckets →
         IfOk q (λ b. IsTested names change s b)
-    so (Ok b) t s found beside = record {
+    so (Ok b) t s found beside free = record {
       made = found.made t.0;
       new = λ u. found.new (sym t.1 ∙ u);
       unknown = λ u. found.unknown (sym t.1 ∙ u);
       covered = beside;
+      free = free;
     }
-    so (Err e) t s found beside = tt
+    so (Err e) t s found beside free = tt

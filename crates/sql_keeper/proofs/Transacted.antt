@@ -1,6 +1,7 @@
 -- What is put in a transaction is committed, or nothing is.
 use Rattle.std.proofs.Common.{◌≡◌, inl, inr, IsTrue, true, false, ◌∙◌, sym, ap, subst, arith, []}
 use Rattle.std.specs.Prelude.{Result, Ok, Err, IfErr, OnOk}
+use Rattle.sqlite_trees.specs.Tree.{Trees}
 use Rattle.sqlite_trees.specs.declared.store.Store.{Ghosts}
 use Rattle.sqlite.specs.Effect.{Database}
 use Rattle.sqlite.specs.Held.{Held, state}
@@ -11,7 +12,9 @@ use Rattle.sqlite.proofs.StateLemmas.{survives_then}
 use Rattle.sql_tables.specs.Statements.{AreStored, Attempts, HasIdleBook, IsIdle, IsStill}
 use Rattle.sql_rows.specs.Content.{TablesContent}
 use Rattle.sql_rows.specs.Makes.{Commits, Makes, Turns}
+use Rattle.sql_tables.proofs.Keeps.{on_ok}
 use Rattle.sql_keeper.specs.Commits.{Transacts}
+use Rattle.sql_keeper.specs.Numbers.{WasSo}
 
 module _ {S : Type 0} (g : Ghosts S) (change : TablesContent → TablesContent) (old begun : Held S)
     (mid new : State) (begins : begun ≡ record old { in_transaction = true })
@@ -94,6 +97,13 @@ module _ {S : Type 0} (g : Ghosts S) (change : TablesContent → TablesContent) 
     };
     settled = s.now_is ∙ (idle clean).settled ∙ sym s.committed_is;
   }
+
+  -- what was so of the tables where it was put, was so before the transaction
+  pub was_so : {B : Type 0} (so : Trees → Type 0) (r : Result B Error)
+      → WasSo {A = A} {E = Error} so (state g begun) mid (Ok u) → WasSo so first new r
+  was_so so r was = λ clean.
+      on_ok r (subst (λ h. WasSo {A = A} {E = Error} so (state g h) mid (Ok u)) begins was
+      (mid_clean clean))
 
   pub transacted : {B : Type 0} (r : Result B Error)
       → (HasCleanDisk new → OnOk r (IsTrue mid.in_transaction

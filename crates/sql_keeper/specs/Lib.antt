@@ -23,6 +23,7 @@ pub mod Left
 pub mod LiveGroups
 pub mod LiveRows
 pub mod Migrates
+pub mod Numbers
 pub mod OlderVersions
 pub mod Opened
 pub mod Repeating

@@ -1,10 +1,11 @@
 -- Rows of a change that are in the rules of their tables.
 -- Source: profile.
-use Rattle.std.specs.Prelude.{◌&&◌, Bool, true, List, Option, Some, None, length}
+use Rattle.std.specs.Prelude.{◌&&◌, Bool, true, List, Option, Some, None, length, nat_le}
 use Rattle.std.specs.List.{list_all}
-use Rattle.units.specs.Words.{Moment}
+use Rattle.units.specs.Words.{Moment, most_blocks}
 use Rattle.identifiers.specs.Words.{AccountName, VoucherCode}
 use Rattle.buckets.specs.declared.holds.HeldAmount.{HeldAmount}
+use Rattle.ledger.specs.declared.charge.ChargeRow.{ChargeRow}
 use Rattle.reserving.specs.Stored.{StoredRows}
 use Rattle.reserving.specs.declared.session.Reservation.{Reservation}
 use Rattle.reserving.specs.declared.session.SessionGroup.{SessionGroup}
@@ -58,16 +59,27 @@ abbrev pub is_ruled_kept : Option KeptAnswer → Bool
 is_ruled_kept None = true
 is_ruled_kept (Some k) = is_ruled_key (key_of k.content)
 
--- the texts that are kept, if any are, are those of a command of the account and of its answer
-abbrev pub are_ruled_texts : AccountName → Option Kept → Bool
-are_ruled_texts a None = true
-are_ruled_texts a (Some t) = are_kept_texts a t.content t.answer
+-- texts are those of a command of the account with this key, and of an answer
+abbrev pub are_texts_under : Key → AccountName → Kept → Bool
+are_texts_under (Request s n) a t = are_kept_texts request_kind s n a t.content t.answer
+are_texts_under (Reference x) a t = are_kept_texts reference_kind x 0 a t.content t.answer
+
+-- the texts that are kept, if any are, are those of a command of the account under its own key, and
+-- of an answer
+abbrev pub are_ruled_texts : AccountName → Option KeptAnswer → Option Kept → Bool
+are_ruled_texts a kept None = true
+are_ruled_texts a None (Some t) = true
+are_ruled_texts a (Some k) (Some t) = are_texts_under (key_of k.content) a t
+
+-- a charge, and which of its blocks are covered
+abbrev pub is_ruled_charge : ChargeRow → Bool
+is_ruled_charge x = is_charge x && nat_le x.covered.0 most_blocks
 
 -- all of a change but its texts
 abbrev pub is_ruled_change : Names → Change → Bool
 is_ruled_change names change =
     is_moment change.moment && are_ruled_rows names change.number change.rows
-    && list_all is_charge change.charges.items && is_ruled_redeemed change.redeemed
+    && list_all is_ruled_charge change.charges.items && is_ruled_redeemed change.redeemed
     && is_ruled_kept change.kept
 
 -- a voucher that is added, at a moment

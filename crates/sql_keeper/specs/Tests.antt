@@ -23,6 +23,7 @@ use Rattle.sql_rows.specs.Values.{Group}
 use Rattle.sql_rows.specs.Lists.{AreCoveredBeside, GroupAt, HasNoGroups}
 use Rattle.sql_rows.specs.Content.{TableRows}
 use Rattle.sql_keeper.specs.Content.{Names, names_numbered}
+use Rattle.sql_keeper.specs.Numbers.{AreFree, first_bucket}
 use Rattle.sql_keeper.specs.RuledRows.{is_ruled_change}
 use Rattle.sql_keeper.specs.Seen.{IsUnknown}
 use Rattle.sql_keeper.specs.Writes.{name_at}
@@ -132,10 +133,12 @@ pub record IsChangeFound (names : Names) (change : Change) (r : TableRows) (y : 
     pub new : IsTrue y.are_new → AreNewGroups r change.rows.groups
     pub unknown : IsTrue y.are_new → AreUnknown r change.rows.sessions
 
--- it may be made, and whether its sessions and groups are new; covered blocks are beside a charge
+-- it may be made, and whether its sessions and groups are new; covered blocks are beside a charge,
+-- and the numbers of new buckets are free
 pub record IsTested (names : Names) (change : Change) (r : TableRows) (are_new : Bool)
     : Type 0 where
   pub made : MayBeMade names change r
   pub new : IsTrue are_new → AreNewGroups r change.rows.groups
   pub unknown : IsTrue are_new → AreUnknown r change.rows.sessions
   pub covered : AreCoveredBeside r
+  pub free : AreFree (first_bucket r.head) r change.rows.buckets

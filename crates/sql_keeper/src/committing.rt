@@ -1,18 +1,19 @@
 //! A change in one transaction: all of it or nothing, also over a stop.
 
 ghost use Rattle.std.specs.Prelude.{◌≡◌, false, option_map};
-ghost use Rattle.keepers.specs.Change.{changed};
+ghost use Rattle.sql_rows.specs.Content.{rows_in, tables_content};
 ghost use Rattle.sql_rows.specs.Texts.{kept_of};
 ghost use Rattle.sql_tables.specs.Statements.{HasIdleBook};
 ghost use Rattle.sql_keeper.specs.Content.{shelf_names};
 ghost use Rattle.sql_keeper.specs.Commits.{Becomes, CommitsStanding, CommitsWhole, Transacts};
 ghost use Rattle.sql_keeper.specs.Inside.{names_in};
 ghost use Rattle.sql_keeper.specs.KeptRows.{AreKept, BecomesOver};
+ghost use Rattle.sql_keeper.specs.Numbers.{AreNumbersFree, LacksThen, WasSo};
 ghost use Rattle.sql_keeper.specs.Seen.{AreSeen, Stands};
 ghost use Rattle.sql_keeper.specs.Stops.{trees_in};
 ghost use Rattle.sql_keeper.specs.Writes.{meta_with, with_change_put};
 ghost use Rattle.sqlite.specs.Held.{state};
-ghost use Rattle.sql_keeper.specs.Calls.{StoresChange};
+ghost use Rattle.sql_keeper.specs.Calls.{StoresCommit};
 
 use crate::faults::counted;
 use crate::keeper::SqlKeeper;
@@ -45,6 +46,9 @@ fn write_change<S: Alter>(
         (with_change_put (shelf_names books.now) known.now change.now
         (option_map kept_of texts.now))
         (state S.Store conn.old) (state S.Store conn.new) result }
+    ensures free { WasSo (λ trees.
+        LacksThen (shelf_names books.now) known.now change.now (tables_content trees))
+        (state S.Store conn.old) (state S.Store conn.new) result }
 {
     // For the prover alone: looking at the value makes known here what its type keeps.
     let _ours = conn.schema();
@@ -73,6 +77,8 @@ fn make_change<S: Alter>(
     requires is_there { Stands is_there (meta_with text.now change.now) (state S.Store conn.old) }
     ensures plain { conn.new.in_transaction ≡ false }
     ensures commits { CommitsWhole (BecomesOver (shelf_names books.now) text.now change.now)
+        (state S.Store conn.old) (state S.Store conn.new) result }
+    ensures free { WasSo (λ trees. AreNumbersFree change.now (rows_in trees change.now.number))
         (state S.Store conn.old) (state S.Store conn.new) result }
 {
     // For the prover alone: looking at the value makes known here what its type keeps.
@@ -109,6 +115,8 @@ fn ask_to_change<S: Alter>(
     ensures plain { conn.new.in_transaction ≡ false }
     ensures commits { CommitsStanding (BecomesOver (shelf_names books.now) text.now change.now)
         (state S.Store conn.old) (state S.Store conn.new) result }
+    ensures free { WasSo (λ trees. AreNumbersFree change.now (rows_in trees change.now.number))
+        (state S.Store conn.old) (state S.Store conn.new) result }
 {
     still_open(conn)?;
     make_change(conn, alloc, books, seen, kept, text, is_there, change)
@@ -116,15 +124,16 @@ fn ask_to_change<S: Alter>(
 
 impl<S: Alter> SqlKeeper<S> {
     /// Makes the change and nothing else, in one transaction: the account's rows that are named,
-    /// the charges, the kept answer, the voucher that is redeemed and the moment together. At a
-    /// fault nothing has changed, and whatever a stop leaves is the rows before the change or with
-    /// it.
+    /// the charges, the kept answer, the voucher that is redeemed and the moment together. No
+    /// charge was there under the number of one of its own, and no bucket under that of one that
+    /// is new. At a fault nothing has changed, and whatever a stop leaves is the rows before the
+    /// change or with it.
     ///
     /// # Errors
     /// Lack of memory; a fault of the store, which is counted, as is a change that may not be
-    /// written.
+    /// written, or has a number that is taken.
     pub fn commit(&mut self, change: Change) -> Result<(), StoreFault>
-        ensures { StoresChange S.Store (changed change)
+        ensures { StoresCommit S.Store change
             (Becomes (names_in self.old) self.old.text change (trees_in S.Store self.old))
             self.old self.new result }
     {

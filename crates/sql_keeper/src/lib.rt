@@ -8,6 +8,7 @@ mod adding_books;
 mod among;
 mod asking;
 mod books;
+mod bucket_numbers;
 mod charge_pages;
 mod committing;
 mod counted_buckets;

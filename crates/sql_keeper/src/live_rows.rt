@@ -60,7 +60,7 @@ pub(crate) struct ReadRows {
 pub(crate) fn purse_of(alloc: Global, buckets: Vec<Bucket>) -> Result<Purse, ReadFault>
     ensures { IfOk result (λ purse. purse ≡ buckets.items) }
 {
-    Purse::from_buckets(alloc, buckets).ok_or(ReadFault::Rules)
+    Purse::from_buckets(alloc, buckets)?.ok_or(ReadFault::Rules)
 }
 
 /// The purse of the buckets of these rows, with what each counts.

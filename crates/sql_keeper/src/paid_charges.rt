@@ -1,53 +1,23 @@
 //! Charges with the blocks that were covered, which have rows of their own.
 
 ghost use Rattle.std.specs.Prelude.{◌≡◌, map};
-ghost use Rattle.sql_rows.specs.Content.{with_rows};
+ghost use Rattle.sql_rows.specs.Content.{tables_content};
 ghost use Rattle.sql_rows.specs.Makes.{Makes, MakesIfOpen};
 ghost use Rattle.sql_tables.specs.Statements.{Attempts, HasBook, IsInside};
 ghost use Rattle.sql_keeper.specs.Covered.{blocks_of, covered_charge};
-ghost use Rattle.sql_keeper.specs.Writes.{some_blocks, with_all_charged, with_blocks};
-ghost use Rattle.sql_keeper.specs.Writes.{with_charged, with_new_blocks, with_paid};
+ghost use Rattle.sql_keeper.specs.Numbers.{LacksCharge, LacksCharges, WasSo};
+ghost use Rattle.sql_keeper.specs.Writes.{some_blocks, with_all_charged};
+ghost use Rattle.sql_keeper.specs.Writes.{with_charged, with_new_blocks};
 ghost use Rattle.sqlite.specs.Held.{state};
+ghost use Rattle.sqlite.specs.declared.error.Error.TheVariants.{SqliteFailure};
+ghost use Rattle.sqlite.specs.declared.error.ErrorCode.TheVariants.{ConstraintViolation};
+ghost use Rattle.sqlite_schema.specs.declared.schema.Constraint.TheVariants.{Unique};
 
 use identifiers::AccountNumber;
 use ledger::ChargeRow;
-use sql_rows::{CoveredColumns, add_charge, put_charge, put_covered, remove_covered};
-use sqlite::{Alter, Error, Transaction};
+use sql_rows::{CoveredColumns, add_charge, put_covered};
+use sqlite::{Alter, Constraint, Error, ErrorCode, Transaction};
 use units::Blocks;
-
-/// Puts the blocks of a charge that were covered, if any were.
-fn put_blocks<S: Alter>(
-    tx: &mut Transaction<'_, S>,
-    account: &AccountNumber,
-    charge: &ChargeRow,
-) -> Result<(), Error>
-    requires book { HasBook (state S.Store tx.old.conn.now) }
-    ensures same_reference { tx.new.conn.ghost_name ≡ tx.old.conn.ghost_name }
-    ensures makes { Attempts
-        (Makes (with_rows account.now (with_blocks charge.now.number charge.now.covered.0)))
-        (state S.Store tx.old.conn.now) (state S.Store tx.new.conn.now) result }
-{
-    if charge.covered.0 == 0 {
-        remove_covered(tx, account, charge.number)
-    } else {
-        put_covered(tx, account, charge.number, charge.covered)
-    }
-}
-
-/// Puts a charge with the blocks that were covered.
-fn put_with_blocks<S: Alter>(
-    tx: &mut Transaction<'_, S>,
-    account: &AccountNumber,
-    charge: &ChargeRow,
-) -> Result<(), Error>
-    requires book { HasBook (state S.Store tx.old.conn.now) }
-    ensures same_reference { tx.new.conn.ghost_name ≡ tx.old.conn.ghost_name }
-    ensures makes { Attempts (Makes (with_paid account.now charge.now))
-        (state S.Store tx.old.conn.now) (state S.Store tx.new.conn.now) result }
-{
-    put_charge(tx, account, charge)?;
-    put_blocks(tx, account, charge)
-}
 
 /// Some of these blocks; none of none.
 fn some_blocks(blocks: u64) -> Option<u64>
@@ -75,8 +45,18 @@ fn put_new_blocks<S: Alter>(
     }
 }
 
-/// Puts a charge with the blocks that were covered. Where the account has none of its number,
-/// nothing is removed.
+/// The error of a charge whose number is taken, as the engine answers it of a key.
+fn taken() -> Error
+    ensures { result ≡ SqliteFailure (ConstraintViolation Unique) }
+{
+    Error::SqliteFailure(ErrorCode::ConstraintViolation(Constraint::Unique))
+}
+
+/// Puts a charge with the blocks that were covered. The account has none of its number then: one
+/// that it has isn't written over.
+///
+/// # Errors
+/// An error of the store, or that the number is taken. Then nothing is committed.
 fn put_charged<S: Alter>(
     tx: &mut Transaction<'_, S>,
     account: &AccountNumber,
@@ -86,20 +66,22 @@ fn put_charged<S: Alter>(
     ensures same_reference { tx.new.conn.ghost_name ≡ tx.old.conn.ghost_name }
     ensures makes { Attempts (Makes (with_charged account.now charge.now))
         (state S.Store tx.old.conn.now) (state S.Store tx.new.conn.now) result }
+    ensures free { WasSo (λ trees. LacksCharge account.now (tables_content trees) charge.now)
+        (state S.Store tx.old.conn.now) (state S.Store tx.new.conn.now) result }
 {
     let added = add_charge(tx, account, charge)?;
     if added {
         let covered = some_blocks(charge.covered.0);
         return put_new_blocks(tx, account, charge.number, covered);
     }
-    put_with_blocks(tx, account, charge)?;
-    Ok(())
+    Err(taken())
 }
 
-/// Puts each charge in turn, with the blocks that were covered.
+/// Puts each charge in turn, with the blocks that were covered. The account has none of their
+/// numbers then.
 ///
 /// # Errors
-/// The first error of a row. Then nothing is committed.
+/// The first error of a row, as of a number that is taken. Then nothing is committed.
 pub(crate) fn put_paid<S: Alter>(
     tx: &mut Transaction<'_, S>,
     account: &AccountNumber,
@@ -109,6 +91,8 @@ pub(crate) fn put_paid<S: Alter>(
     requires book { HasBook (state S.Store tx.old.conn.now) }
     ensures same_reference { tx.new.conn.ghost_name ≡ tx.old.conn.ghost_name }
     ensures makes { Attempts (MakesIfOpen (with_all_charged account.now rows.now))
+        (state S.Store tx.old.conn.now) (state S.Store tx.new.conn.now) result }
+    ensures free { WasSo (λ trees. LacksCharges account.now (tables_content trees) rows.now)
         (state S.Store tx.old.conn.now) (state S.Store tx.new.conn.now) result }
 {
     'rows: for row in rows {

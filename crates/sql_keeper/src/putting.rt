@@ -4,10 +4,12 @@ ghost use Rattle.std.specs.Prelude.{◌≡◌, option_map};
 ghost use Rattle.commands.specs.Keys.{key_of};
 ghost use Rattle.sql_tables.specs.Statements.{Attempts, AttemptsOver, HasBook, HasRules};
 ghost use Rattle.sql_tables.specs.Statements.{IsInside};
+ghost use Rattle.sql_rows.specs.Content.{tables_content};
 ghost use Rattle.sql_rows.specs.Each.{with_sessions};
 ghost use Rattle.sql_rows.specs.Makes.{Makes, MakesIfOpen};
 ghost use Rattle.sql_rows.specs.Texts.{kept_of};
 ghost use Rattle.sql_keeper.specs.Content.{shelf_names};
+ghost use Rattle.sql_keeper.specs.Numbers.{LacksCharges, LacksThen, WasSo};
 ghost use Rattle.sql_keeper.specs.Writes.{head_columns_of, with_change_put, with_kept};
 ghost use Rattle.sql_keeper.specs.Writes.{with_changed_rows, with_moment_put, with_money};
 ghost use Rattle.sql_keeper.specs.Writes.{with_named, with_texts};
@@ -168,7 +170,7 @@ fn put_kept<S: Alter>(
     }
 }
 
-/// Puts an account's rows that a change names, and its charges.
+/// Puts an account's rows that a change names, and its charges, none of which is there before.
 fn put_rows<S: Alter>(
     tx: &mut Transaction<'_, S>,
     books: &TariffShelf,
@@ -179,6 +181,10 @@ fn put_rows<S: Alter>(
     ensures same_reference { tx.new.conn.ghost_name ≡ tx.old.conn.ghost_name }
     ensures makes { Attempts
         (Makes (with_changed_rows (shelf_names books.now) known.now change.now))
+        (state S.Store tx.old.conn.now) (state S.Store tx.new.conn.now) result }
+    ensures free { WasSo (λ trees. LacksCharges change.now.number
+        (with_named change.now.number (shelf_names books.now) known.now change.now.rows
+        (tables_content trees)) change.now.charges.items)
         (state S.Store tx.old.conn.now) (state S.Store tx.new.conn.now) result }
 {
     put_named(tx, &change.number, books, known, &change.rows)?;
@@ -210,6 +216,10 @@ pub(crate) fn put_moment<S: Alter>(
 /// the charges, the texts of what is kept, and the voucher that is redeemed. Where nothing was
 /// there of its sessions and groups, these are added, and nothing of them is removed; nor is it
 /// where what was seen of them stays, and what a bucket counts isn't written where that is kept.
+///
+/// # Errors
+/// The first error of a row, as where a charge of one of the numbers is there. Then nothing is
+/// committed.
 pub(crate) fn put_change<S: Alter>(
     tx: &mut Transaction<'_, S>,
     books: &TariffShelf,
@@ -224,6 +234,9 @@ pub(crate) fn put_change<S: Alter>(
     ensures makes { Attempts (Makes
         (with_change_put (shelf_names books.now) known.now change.now
         (option_map kept_of texts.now)))
+        (state S.Store tx.old.conn.now) (state S.Store tx.new.conn.now) result }
+    ensures free { WasSo (λ trees.
+        LacksThen (shelf_names books.now) known.now change.now (tables_content trees))
         (state S.Store tx.old.conn.now) (state S.Store tx.new.conn.now) result }
 {
     put_moment(tx, change.moment, known.is_there)?;

@@ -6,12 +6,13 @@ ghost use Rattle.identifiers.specs.Texts.{is_account_number, is_reference, is_se
 ghost use Rattle.sql_keeper.specs.Content.{shelf_names};
 ghost use Rattle.voucher_rules.specs.Standing.{unspent};
 ghost use Rattle.sql_keeper.specs.RuledRows.{are_ruled_rows, is_ruled_addition, is_ruled_change};
-ghost use Rattle.sql_keeper.specs.RuledRows.{is_ruled_group, is_ruled_swept};
+ghost use Rattle.sql_keeper.specs.RuledRows.{is_ruled_charge, is_ruled_group, is_ruled_swept};
 ghost use Rattle.commands.specs.Keys.{key_of};
 ghost use Rattle.sql_keeper.specs.RuledRows.{is_ruled_hold, is_ruled_kept, is_ruled_key};
 ghost use Rattle.sql_keeper.specs.RuledRows.{is_ruled_redeemed, is_ruled_reservation};
 ghost use Rattle.sql_keeper.specs.Writes.{head_columns_of, voucher_row};
-ghost use Rattle.sql_rules.specs.Columns.{is_moment, is_small, is_in_bounds, is_optional_within};
+ghost use Rattle.sql_rules.specs.Columns.{is_end, is_moment, is_small, is_in_bounds};
+ghost use Rattle.sql_rules.specs.Columns.{is_optional_within};
 ghost use Rattle.sql_rules.specs.Ruled.{is_account, is_bucket, is_charge, is_counter, is_session};
 ghost use Rattle.sql_rules.specs.Ruled.{is_voucher};
 ghost use Rattle.sql_rows.specs.Values.{flag_number, nat, state_number};
@@ -25,8 +26,10 @@ use keepers::{Change, KeptAnswer, NamedRows, Redeemed};
 use ledger::ChargeRow;
 use reserving::{Counter, Reservation, Session, SessionGroup, SessionState};
 use shelves::TariffShelf;
+use sql_rules::MOST_RATED;
 use units::{
-    END_OF_NUMBERS, GREATEST_NUMBER, MOST_COUNTED, MOST_DAYS, MOST_MONEY, MOST_USED, Moment, NO_END,
+    END_OF_NUMBERS, GREATEST_NUMBER, MOST_BLOCKS, MOST_COUNTED, MOST_DAYS, MOST_MONEY, MOST_USED,
+    Moment, NO_END,
 };
 use voucher_rules::VoucherTerms;
 
@@ -36,6 +39,13 @@ pub(crate) fn is_moment(moment: Moment) -> bool
     ensures { result ≡ is_moment moment }
 {
     moment.seconds() < NO_END
+}
+
+/// Whether something that starts ends after its start.
+fn is_end(starts: Moment, ends: Moment) -> bool
+    ensures { result ≡ is_end starts ends }
+{
+    starts.seconds() < ends.seconds() && ends.seconds() <= NO_END
 }
 
 fn is_small(number: u32) -> bool
@@ -118,7 +128,7 @@ fn is_bucket(bucket: &Bucket) -> bool
 {
     is_within(u64::from(bucket.number()), 1, GREATEST_NUMBER)
         && is_moment(bucket.from())
-        && is_within(bucket.until().seconds(), 1, NO_END)
+        && is_end(bucket.from(), bucket.until())
         && is_none_or_within(bucket.scope(), 0, GREATEST_NUMBER)
         && bucket.credited() <= MOST_MONEY
 }
@@ -218,12 +228,20 @@ fn is_charge(charge: &ChargeRow) -> bool
         && is_moment(charge.moment)
         && is_name(&charge.session)
         && is_small(charge.group)
+        && charge.blocks.0 <= MOST_BLOCKS
+        && charge.rated.0 <= MOST_RATED as u128
+}
+
+fn is_ruled_charge(charge: &ChargeRow) -> bool
+    ensures { result ≡ is_ruled_charge charge.now }
+{
+    is_charge(charge) && charge.covered.0 <= MOST_BLOCKS
 }
 
 fn are_charges(charges: &[ChargeRow]) -> bool
-    ensures { result ≡ list_all is_charge charges.now }
+    ensures { result ≡ list_all is_ruled_charge charges.now }
 {
-    charges.iter().all(|charge| is_charge(charge))
+    charges.iter().all(|charge| is_ruled_charge(charge))
 }
 
 fn are_terms(code: &VoucherCode, terms: VoucherTerms) -> bool

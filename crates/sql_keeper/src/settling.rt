@@ -14,6 +14,7 @@ ghost use Rattle.sql_tables.specs.Statements.{HasIdleBook};
 ghost use Rattle.sqlite.specs.Held.{state};
 
 use crate::among::{has_group, has_session};
+use crate::bucket_numbers::test_bucket_numbers;
 use crate::seen::{
     SeenAccount, Standing, head_seen, is_open, is_unknown, standing_seen, stands_open,
 };
@@ -101,7 +102,7 @@ fn read_head<S: Alter>(
 }
 
 /// What is kept of an account once: as it was seen, or as it is read.
-fn find_head<S: Alter>(
+pub(crate) fn find_head<S: Alter>(
     conn: &mut Connection<S>,
     seen: &Option<SeenAccount>,
     account: &AccountNumber,
@@ -293,7 +294,7 @@ fn told(found: NamedSessions) -> Result<bool, ReadFault>
 }
 
 /// Tests a change; whether nothing is there of its sessions and groups. It is out of the rules
-/// where it may not be made.
+/// where it may not be made, and where a bucket that is new has the number of one that is there.
 pub(crate) fn test_change<S: Alter>(
     conn: &mut Connection<S>,
     alloc: Global,
@@ -309,6 +310,7 @@ pub(crate) fn test_change<S: Alter>(
 {
     // For the prover alone: looking at the value makes known here what its type keeps.
     let _ours = conn.schema();
+    test_bucket_numbers(conn, seen, &change.number, change.rows.buckets())?;
     let found = find_change(conn, alloc, books, seen, change)?;
     told(found)
 }

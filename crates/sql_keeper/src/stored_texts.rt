@@ -1,10 +1,10 @@
 //! The texts of what is kept of a command.
 
 ghost use Rattle.std.specs.Prelude.{◌≡◌, IfErr, IfOk, Some, option_map, true};
+ghost use Rattle.commands.specs.Keys.{key_of};
 ghost use Rattle.sql_rows.specs.Texts.{kept_of};
-ghost use Rattle.sql_rules.specs.Rules.{are_kept_texts};
 ghost use Rattle.sql_keeper.specs.Content.{kept_in};
-ghost use Rattle.sql_keeper.specs.RuledRows.{are_ruled_texts};
+ghost use Rattle.sql_keeper.specs.RuledRows.{are_ruled_texts, are_texts_under};
 ghost use Rattle.sql_keeper.specs.Writes.{AreTexts, IsTextsFault, texts_fault};
 
 use identifiers::AccountNumber;
@@ -23,8 +23,8 @@ fn texts_of(
     kept: &KeptAnswer,
 ) -> Result<KeptTexts, ReadFault>
     ensures told { IfOk result (λ t. kept_in account.now (kept_of t) ≡ Some kept.now) }
-    ensures rules { IfOk result (λ t. are_kept_texts account.now (kept_of t).content
-        (kept_of t).answer ≡ true) }
+    ensures rules { IfOk result (λ t.
+        are_texts_under (key_of kept.now.content) account.now (kept_of t) ≡ true) }
     ensures fault { IfErr result (λ e. e ≡ texts_fault account.now kept.now.content) }
 {
     // For the prover alone: looking at the value makes known here what its type keeps.
@@ -48,7 +48,7 @@ pub fn kept_texts(
 ) -> Result<Option<KeptTexts>, ReadFault>
     ensures told { IfOk result (λ t. AreTexts account.now kept.now (option_map kept_of t)) }
     ensures rules { IfOk result (λ t.
-        are_ruled_texts account.now (option_map kept_of t) ≡ true) }
+        are_ruled_texts account.now kept.now (option_map kept_of t) ≡ true) }
     ensures fault { IfErr result (IsTextsFault account.now kept.now) }
 {
     match kept {

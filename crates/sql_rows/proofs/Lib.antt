@@ -43,6 +43,7 @@ pub mod ReadAllHolds
 pub mod ReadAllowances
 pub mod ReadAnswer
 pub mod ReadBooks
+pub mod ReadBucket
 pub mod ReadBuckets
 pub mod ReadCharges
 pub mod ReadCounter

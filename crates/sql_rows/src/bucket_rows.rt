@@ -1,16 +1,17 @@
 //! Rows of buckets.
 
-ghost use Rattle.std.specs.Prelude.{◌≡◌, map, filter, true, IsTrue, IfOk, OnOk};
+ghost use Rattle.std.specs.Prelude.{◌≡◌, map, filter, true, IsTrue, IfOk, OnOk, option_map};
 ghost use Rattle.buckets.specs.declared.kind.BucketKind.TheVariants.{Money};
-ghost use Rattle.sql_rows.specs.Content.{has_bucket, with_bucket, with_rows};
+ghost use Rattle.sql_rows.specs.Content.{has_bucket, rows_in, with_bucket, with_rows};
 ghost use Rattle.sql_rows.specs.Values.{AreColumnsFrom, bucket_cells, bucket_values, money_cells};
 ghost use Rattle.sql_rows.specs.Values.{plain_bucket};
 ghost use Rattle.sql_rows.specs.Lists.{BucketsRise, Rises, is_dead_bucket};
 ghost use Rattle.sql_rows.specs.Texts.{ReadsBuckets, bucket_row};
 ghost use Rattle.sql_rows.specs.Each.{with_buckets};
 ghost use Rattle.sql_rows.specs.Makes.{Makes, MakesIfOpen, ReplacesIfSome};
+ghost use Rattle.sql_tables.specs.Selects.{one_or_none};
 ghost use Rattle.sql_tables.specs.Statements.{HasBook, HasIdleBook, IsInside};
-ghost use Rattle.sql_tables.specs.Statements.{AttemptsOver};
+ghost use Rattle.sql_tables.specs.Statements.{AttemptsOver, Reads};
 ghost use Rattle.sqlite.specs.Held.{state};
 ghost use Rattle.sqlite.specs.State.{ExecutesInside};
 
@@ -18,8 +19,8 @@ use crate::decoding::moment_at;
 use buckets::{Bucket, BucketKind, Columns as BucketColumns};
 use identifiers::AccountNumber;
 use sql_tables::{
-    ReadFault, has_columns, large, number_at, optional, optional_at, read, small_at, text, whole,
-    write,
+    ReadFault, has_columns, large, number_at, one_of, optional, optional_at, read, small_at, text,
+    whole, write,
 };
 use sqlite::{Alter, Connection, Error, Row, Transaction};
 use std::alloc::Global;
@@ -133,6 +134,44 @@ pub fn put_bucket<S: Alter>(
         return Ok(());
     }
     insert_bucket(tx, account, bucket)
+}
+
+/// The columns of an account's bucket of this number, if it has one: no other rule of theirs is
+/// tested yet, and it is given as one of money.
+///
+/// # Errors
+/// `Store` where the store failed, `Rules` where the row is out of its rules. Nothing is changed
+/// then either.
+pub fn read_bucket<S: Alter>(
+    conn: &mut Connection<S>,
+    account: &AccountNumber,
+    number: u32,
+) -> Result<Option<BucketColumns>, ReadFault>
+    requires idle { HasIdleBook (state S.Store conn.old) }
+    ensures reads { Reads (λ trees o.
+        option_map bucket_row o ≡ (rows_in trees account.now).buckets number)
+        (state S.Store conn.old) (state S.Store conn.new) result }
+{
+    let of_account = text(account.as_str());
+    let of_number = whole(number);
+    let rows = read(
+        conn,
+        "SELECT number, starts, ends, scope, credited, available, reserved, charged, expired \
+         FROM buckets WHERE account = ?1 AND number = ?2",
+        &[of_account, of_number],
+    )?;
+    bucket_among(&rows)
+}
+
+fn bucket_among(rows: &[Row]) -> Result<Option<BucketColumns>, ReadFault>
+    ensures { IfOk result
+        (λ o. rows.now ≡ map bucket_cells (one_or_none (option_map bucket_row o))) }
+{
+    let row = one_of(rows)?;
+    match row {
+        None => Ok(None),
+        Some(row) => Ok(Some(bucket_from(row)?)),
+    }
 }
 
 /// All buckets, in the order of their numbers, each once, as their columns say: no other rule of

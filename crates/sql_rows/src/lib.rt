@@ -32,7 +32,9 @@ pub use crate::account_rows::{put_account, read_account, read_account_within, re
 pub use crate::allowance_rows::{put_allowance, read_allowances, remove_allowance};
 pub use crate::answer_rows::{KeptTexts, put_answer, read_answer};
 pub use crate::book_rows::{BookColumns, put_book, read_books, read_books_within};
-pub use crate::bucket_rows::{put_bucket, put_buckets, read_buckets_all, read_buckets_dead};
+pub use crate::bucket_rows::{
+    put_bucket, put_buckets, read_bucket, read_buckets_all, read_buckets_dead,
+};
 pub use crate::charge_rows::{add_charge, put_charge, put_charges, read_charges_within};
 pub use crate::counter_rows::{put_counter, put_counters, read_counter};
 pub use crate::covered_rows::{CoveredColumns, put_covered, read_covered_within, remove_covered};

@@ -2,7 +2,7 @@
 use Rattle.std.proofs.Common.{◌≡◌, ◌≤◌, ◌<◌, ℕ, pos, negsuc, List, [], ◌∷◌, length, true}
 use Rattle.std.proofs.Common.{eqb-true, false}
 use Rattle.std.proofs.Common.{Some, None, Option, refl, sym, ap, subst, ◌∙◌, arith, nat_eq}
-use Rattle.std.proofs.Common.{inl, inr, drop, IsTrue, nat_le, nat_lt, is_eq}
+use Rattle.std.proofs.Common.{inl, inr, drop, IsTrue, nat_le, is_eq}
 use Rattle.std.specs.Prelude.{is_some, option_map}
 use Rattle.std.specs.Cmp.{unsigned_Decides}
 use Rattle.std.specs.Ordering.{eq_by_cmp}
@@ -34,6 +34,7 @@ use Rattle.sql_rows.specs.Values.{session_in_row, group_in_row, hold_in, answer_
 use Rattle.sql_rows.specs.Values.{voucher_in_row, charge_in_row}
 use Rattle.sql_rows.specs.Values.{book_in_row, grant_book_in, allowance_in, covered_in_row}
 use Rattle.sql_rules.specs.Columns.{is_moment, is_numbering, is_some_money, is_in_bounds}
+use Rattle.sql_rules.specs.Columns.{are_some_blocks}
 use Rattle.sql_rules.specs.Rules.{is_ruled_account, is_ruled_allowance}
 use Rattle.sql_rules.specs.Rules.{is_ruled_answer, is_ruled_book, is_ruled_bucket, is_ruled_charge}
 use Rattle.sql_rules.specs.Rules.{is_ruled_counter, is_ruled_covered, is_ruled_grant_book}
@@ -217,7 +218,7 @@ module _ (shelf : Shelf) (trees : Trees) (fits : Fits book_schema trees)
         let it = found_in covered trees is_ruled_covered (ruled 13 (omega arith)).rows
         covered_in_row
         (charge_key a n) blocks e in
-        subst (λ y. nat_lt 0 y ≡ true) it.3 (covered_told it.0 it.2);
+        subst (λ y. are_some_blocks y ≡ true) it.3 (covered_told it.0 it.2);
   }
 
   pub content_ruled : IsInRules shelf (tables_content trees)

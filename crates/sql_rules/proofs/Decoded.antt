@@ -1,6 +1,6 @@
 -- A row that is in its rules is decoded as a row that is.
 use Rattle.std.proofs.Common.{◌≡◌, ℕ, pos, negsuc, List, [], ◌∷◌, drop, Bool, true, false, ◌&&◌}
-use Rattle.std.proofs.Common.{Some, None, refl, sym, ◌∙◌, nat_le, nat_eq, nat_lt, is_eq}
+use Rattle.std.proofs.Common.{Some, None, refl, sym, ◌∙◌, nat_le, nat_eq, is_eq}
 use Rattle.std.proofs.Common.{arith, subst}
 use Rattle.std.specs.Prelude.{Option, if◌then◌else◌, is_some, ◌==◌}
 use Rattle.std.specs.Cmp.{unsigned_Decides}
@@ -24,7 +24,8 @@ use Rattle.sql_rows.specs.Values.{answer_in_row, voucher_in_row}
 use Rattle.sql_rows.specs.Values.{charge_in_row, book_in_row, grant_book_in, covered_in_row}
 use Rattle.sql_rows.specs.Values.{PeriodNames}
 use Rattle.sql_rules.specs.Columns.{is_in_bounds, is_optional_within, is_moment, is_some_money}
-use Rattle.sql_rules.specs.Columns.{is_money, is_next, is_numbering, is_small}
+use Rattle.sql_rules.specs.Columns.{is_money, is_next, is_numbering, is_small, is_end}
+use Rattle.sql_rules.specs.Columns.{are_some_blocks}
 use Rattle.sql_rules.specs.Rules.{are_periods, is_period_name, is_ruled_answer, is_ruled_book}
 use Rattle.sql_rules.specs.Rules.{is_ruled_grant_book, is_ruled_meta}
 use Rattle.sql_rules.specs.Rules.{is_ruled_account, is_ruled_bucket, is_ruled_counter}
@@ -93,7 +94,7 @@ pub bucket_told : (row : Row) → is_ruled_bucket row ≡ true
 bucket_told [] h = absurd (cc h)
 bucket_told (v ∷ cells) h =
     fourth (is_numbering (nat_in (column cells 1))) (is_moment (nat_in (column cells 2)))
-    (is_in_bounds 1 4_102_444_800 (nat_in (column cells 3)))
+    (is_end (nat_in (column cells 2)) (nat_in (column cells 3)))
     (is_optional_within 0 4_294_967_295 (column cells 4)) (is_money (nat_in (column cells 5)))
     (is_optional_within 0 4_294_967_295 (or_null nat (optional_in (column cells 4))))
     (optional 0 4_294_967_295 (column cells 4)) h
@@ -122,7 +123,7 @@ charge_told [] h = absurd (cc h)
 charge_told (v ∷ cells) h = h
 
 pub covered_told : (row : Row) → is_ruled_covered row ≡ true →
-    nat_lt 0 (covered_in_row (drop 1 row)) ≡ true
+    are_some_blocks (covered_in_row (drop 1 row)) ≡ true
 covered_told [] h = absurd (cc h)
 covered_told (v ∷ cells) h = h
 

@@ -1,6 +1,6 @@
 -- A row whose content is in its rules is in its rules, where it is as the statements write it.
 use Rattle.std.proofs.Common.{◌≡◌, ℕ, zero, suc, [], ◌∷◌, drop, Bool, true, false, ◌&&◌, ◌||◌}
-use Rattle.std.proofs.Common.{Some, None, refl, sym, ◌∙◌, nat_eq, nat_le, nat_lt, arith}
+use Rattle.std.proofs.Common.{Some, None, refl, sym, ◌∙◌, nat_eq, nat_le, arith}
 use Rattle.std.specs.Prelude.{if◌then◌else◌, is_some, ◌==◌}
 use Rattle.std.proofs.lemmas.Bool.{and_from, and_parts}
 use Rattle.std.proofs.lemmas.Bool.Decides.{nat_tests}
@@ -21,7 +21,8 @@ use Rattle.sql_rows.specs.Values.{session_in_row, group_in_row, hold_in, answer_
 use Rattle.sql_rows.specs.Values.{voucher_in_row, charge_in_row}
 use Rattle.sql_rows.specs.Values.{book_in_row, grant_book_in, covered_in_row}
 use Rattle.sql_rules.specs.Columns.{is_in_bounds, is_optional_within, is_moment, is_some_money}
-use Rattle.sql_rules.specs.Columns.{is_money, is_next, is_numbering, is_small}
+use Rattle.sql_rules.specs.Columns.{is_money, is_next, is_numbering, is_small, is_end}
+use Rattle.sql_rules.specs.Columns.{are_some_blocks}
 use Rattle.sql_rules.specs.Rules.{are_periods, is_ruled_answer, is_ruled_book}
 use Rattle.sql_rules.specs.Rules.{is_ruled_account, is_ruled_bucket, is_ruled_counter}
 use Rattle.sql_rules.specs.Rules.{is_ruled_session, is_ruled_group, is_ruled_hold}
@@ -78,7 +79,7 @@ pub bucket_back : (row : Row) → is_bucket (bucket_in_row (drop 1 row)) ≡ tru
 bucket_back [] h = absurd (cc h)
 bucket_back (v ∷ cells) h =
     fourth (is_numbering (nat_in (column cells 1))) (is_moment (nat_in (column cells 2)))
-    (is_in_bounds 1 4_102_444_800 (nat_in (column cells 3)))
+    (is_end (nat_in (column cells 2)) (nat_in (column cells 3)))
     (is_optional_within 0 4_294_967_295 (or_null nat (optional_in (column cells 4))))
     (is_money (nat_in (column cells 5)))
     (is_optional_within 0 4_294_967_295 (column cells 4)) (optional_back (column cells 4)) h
@@ -165,7 +166,7 @@ pub grant_book_back : (shelf : Shelf) (row : Row)
 grant_book_back shelf [] h = absurd (cc h)
 grant_book_back shelf (v ∷ cells) h = h
 
-pub covered_back : (row : Row) → nat_lt 0 (covered_in_row (drop 1 row)) ≡ true →
+pub covered_back : (row : Row) → are_some_blocks (covered_in_row (drop 1 row)) ≡ true →
     is_ruled_covered row ≡ true
 covered_back [] h = absurd (cc h)
 covered_back (v ∷ cells) h = h

@@ -1,6 +1,6 @@
 -- What is put into content that is in its rules, or removed, leaves it so.
 use Rattle.std.proofs.Common.{◌≡◌, ◌≤◌, ◌+◌, ℕ, List, Bool, true, false, ◌&&◌, Some, None}
-use Rattle.std.proofs.Common.{Option, refl, subst, arith, eqb-true, nat_eq, nat_lt}
+use Rattle.std.proofs.Common.{Option, refl, subst, arith, eqb-true, nat_eq}
 use Rattle.std.specs.Prelude.{if◌then◌else◌, is_some}
 use Rattle.std.proofs.lemmas.Bool.{and_parts}
 use Rattle.identifiers.specs.Texts.{same_name}
@@ -23,6 +23,7 @@ use Rattle.sql_rows.specs.Content.{with_rows, with_session_row, with_voucher_row
 use Rattle.sql_rows.specs.Content.{without_covered, without_grant_book, without_holds}
 use Rattle.sql_rows.specs.Values.{BookRow, Group, Kept, Meta}
 use Rattle.sql_rules.specs.Columns.{is_moment, is_numbering, is_some_money, is_in_bounds}
+use Rattle.sql_rules.specs.Columns.{are_some_blocks}
 use Rattle.sql_rules.specs.Ruled.{AreInRules, IsInRules, is_account, is_answer, is_book, is_bucket}
 use Rattle.sql_rules.specs.Ruled.{is_charge, is_counter, is_group, is_session, is_voucher}
 
@@ -264,7 +265,7 @@ module _ (shelf : Shelf) (a : List ℕ) (r : TableRows) (in' : AreInRules shelf 
       (in'.allowances m))
 
   covered_put : (f : ℕ → Option ℕ) →
-      ((n y : ℕ) → f n ≡ Some y → nat_lt 0 y ≡ true)
+      ((n y : ℕ) → f n ≡ Some y → are_some_blocks y ≡ true)
       → AreInRules shelf a (record r { covered = f })
   covered_put f is = record {
     head = in'.head;
@@ -280,15 +281,15 @@ module _ (shelf : Shelf) (a : List ℕ) (r : TableRows) (in' : AreInRules shelf 
     covered = is;
   }
 
-  pub covered_kept : (x : CoveredColumns) → nat_lt 0 x.blocks ≡ true
+  pub covered_kept : (x : CoveredColumns) → are_some_blocks x.blocks ≡ true
       → AreInRules shelf a (with_covered x r)
   covered_kept x some =
-      covered_put _ (λ n. chosen (λ y. nat_lt 0 y ≡ true) (nat_eq x.number n) x.blocks
+      covered_put _ (λ n. chosen (λ y. are_some_blocks y ≡ true) (nat_eq x.number n) x.blocks
       (r.covered n) (λ e. some) (in'.covered n))
 
   pub covered_gone : (n : ℕ) → AreInRules shelf a (without_covered n r)
   covered_gone n =
-      covered_put _ (λ m. left_out (λ y. nat_lt 0 y ≡ true) (nat_eq n m) (r.covered m)
+      covered_put _ (λ m. left_out (λ y. are_some_blocks y ≡ true) (nat_eq n m) (r.covered m)
       (in'.covered m))
 
 -- ---- the content

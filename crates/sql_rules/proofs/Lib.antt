@@ -12,4 +12,5 @@ pub mod Standing
 pub mod Steps
 pub mod Texts
 pub mod Typed
+pub mod UnderKey
 pub mod Written

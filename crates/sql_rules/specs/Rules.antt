@@ -2,25 +2,32 @@
 -- sums are right and that a row which another one names is there, the schema says already; so a
 -- column that names another row isn't tested again.
 -- Source: profile.
-use Rattle.std.specs.Prelude.{ℕ, ◌&&◌, ◌||◌, Bool, true, List, [], ◌∷◌, is_some, nat_eq, nat_le}
-use Rattle.std.specs.Prelude.{nat_lt, slice_index_or}
+use Rattle.std.specs.Prelude.{ℕ, ◌&&◌, ◌||◌, Bool, true, false, List, [], ◌∷◌, is_some, nat_eq}
+use Rattle.std.specs.Prelude.{nat_le, slice_index_or, Result, Ok, Err}
 use Rattle.std.specs.List.{list_any}
-use Rattle.units.specs.Words.{no_end, latest_command, greatest_number, most_used, most_counted}
+use Rattle.std.specs.Cmp.Lexicographic.{pointwise}
+use Rattle.units.specs.Words.{latest_command, greatest_number, most_used, most_counted}
 use Rattle.units.specs.Words.{most_days}
 use Rattle.identifiers.specs.Texts.{is_account_number, is_reference, is_session_id}
-use Rattle.identifiers.specs.Texts.{is_voucher_code}
+use Rattle.identifiers.specs.Texts.{is_voucher_code, same_name}
+use Rattle.commands.specs.Keys.{key_of}
+use Rattle.commands.specs.declared.command.Content.{Content}
+use Rattle.commands.specs.declared.key.Key.{Key}
+use Rattle.commands.specs.declared.key.Key.TheVariants.{Request, Reference}
+use Rattle.json_fields.specs.declared.fault.WireFault.{WireFault}
 use Rattle.tariffs.specs.Names.{period_named}
 use Rattle.shelves.specs.Shelves.{Shelf, count, dated_books}
 use Rattle.shelves.specs.declared.dated.DatedBook.{DatedBook}
 use Rattle.sqlite_sql.specs.Ops.{is_null}
 use Rattle.sqlite_value.specs.declared.value.Value.{Value}
 use Rattle.sqlite_value.specs.Order.{Row, column}
-use Rattle.wire.specs.Contents.{is_content_text}
+use Rattle.wire.specs.Contents.{content_of, content_text}
 use Rattle.wire.specs.ReadingAnswers.{is_answer_text}
 use Rattle.sql_rows.specs.Words.{KeyKind, KeyName, KeyNumber}
 use Rattle.sql_rows.specs.Values.{text_in}
 use Rattle.sql_rules.specs.Columns.{number_at, text_at, is_in_bounds, is_optional_within, is_small}
 use Rattle.sql_rules.specs.Columns.{is_numbering, is_next, is_moment, is_money, is_some_money}
+use Rattle.sql_rules.specs.Columns.{is_end, are_blocks, are_some_blocks, is_rated}
 
 -- one row alone, at 1; its version and its book are read by who opens the database
 abbrev pub is_ruled_meta : Row → Bool
@@ -34,7 +41,7 @@ is_ruled_account row =
 abbrev pub is_ruled_bucket : Row → Bool
 is_ruled_bucket row =
     is_numbering (number_at row 2) && is_moment (number_at row 3)
-    && is_in_bounds 1 no_end (number_at row 4)
+    && is_end (number_at row 3) (number_at row 4)
     && is_optional_within 0 greatest_number (column row 5) && is_money (number_at row 6)
 
 abbrev pub is_ruled_counter : Row → Bool
@@ -94,14 +101,32 @@ is_answer_key kind name number =
     (nat_eq 1 kind && is_session_id name && is_small number)
     || (nat_eq 2 kind && is_reference name && nat_eq 0 number)
 
-abbrev pub are_kept_texts : List ℕ → List ℕ → List ℕ → Bool
-are_kept_texts account content answer =
-    is_account_number account && is_content_text account content && is_answer_text answer
+-- these columns are those of this key
+abbrev pub is_under : Key → KeyKind → KeyName → KeyNumber → Bool
+is_under (Request session n) kind name number =
+    nat_eq 1 kind && same_name session name && nat_eq n number
+is_under (Reference reference) kind name number =
+    nat_eq 2 kind && same_name reference name && nat_eq 0 number
+
+-- bytes are the text of the content that they say, whose key is that of the columns
+abbrev pub is_kept_content : KeyKind → KeyName → KeyNumber → List ℕ → Result Content WireFault
+    → Bool
+is_kept_content kind name number bytes (Ok c) =
+    pointwise nat_eq (content_text c) bytes && is_under (key_of c) kind name number
+is_kept_content kind name number bytes (Err e) = false
+
+-- the texts of a command of the account, under the command's own key, and of an answer
+abbrev pub are_kept_texts : KeyKind → KeyName → KeyNumber → List ℕ → List ℕ → List ℕ → Bool
+are_kept_texts kind name number account content answer =
+    is_account_number account
+    && is_kept_content kind name number content (content_of account content)
+    && is_answer_text answer
 
 abbrev pub is_ruled_answer : Row → Bool
 is_ruled_answer row =
     is_answer_key (number_at row 2) (text_at row 3) (number_at row 4)
-    && are_kept_texts (text_at row 1) (text_at row 5) (text_at row 6)
+    && are_kept_texts (number_at row 2) (text_at row 3) (number_at row 4) (text_at row 1)
+    (text_at row 5) (text_at row 6)
 
 -- ---- vouchers, charges, books, blocks
 
@@ -114,7 +139,7 @@ is_ruled_voucher row =
 abbrev pub is_ruled_charge : Row → Bool
 is_ruled_charge row =
     is_numbering (number_at row 2) && is_moment (number_at row 3) && is_session_id (text_at row 4)
-    && is_small (number_at row 5)
+    && is_small (number_at row 5) && are_blocks (number_at row 6) && is_rated (number_at row 7)
 
 -- a book after the first; its text is read by who opens the database
 abbrev pub is_ruled_book : Row → Bool
@@ -124,9 +149,9 @@ is_ruled_book row =
 abbrev pub is_ruled_allowance : Row → Bool
 is_ruled_allowance row = is_numbering (number_at row 2)
 
--- some block is covered
+-- some block is covered, and no more than one use may start
 abbrev pub is_ruled_covered : Row → Bool
-is_ruled_covered row = nat_lt 0 (number_at row 3)
+is_ruled_covered row = are_some_blocks (number_at row 3)
 
 -- ---- by the table's place
 

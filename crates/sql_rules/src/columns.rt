@@ -10,6 +10,9 @@ ghost use Rattle.sql_rules.specs.Columns.{is_optional_within, is_in_bounds, numb
 use sqlite::Row;
 use sqlite::types::ValueRef;
 
+/// The most that one use costs: the most blocks that it may start, at the greatest price.
+pub const MOST_RATED: u64 = 1_000_000_000_000_000_000;
+
 /// The number, if it isn't below 0.
 fn natural(number: i64) -> u64
     ensures { result ≡ nat_in (Int number) }

@@ -10,6 +10,7 @@ mod rows;
 mod ruling;
 mod walking;
 
+pub use crate::columns::MOST_RATED;
 pub use crate::laws::{
     content_in_rules_is_of_ruled_rows, puts_keep_the_rules, ruled_rows_are_ruled_under_their_keys,
     ruled_rows_are_told_ruled,

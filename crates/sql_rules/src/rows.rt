@@ -3,7 +3,8 @@
 ghost use Rattle.std.specs.Prelude.{◌≡◌, ◌<◌, length, IfOk};
 ghost use Rattle.sqlite_value.specs.Order.{column};
 ghost use Rattle.sql_tables.specs.Schema.{book_schema};
-ghost use Rattle.sql_rules.specs.Columns.{is_moment, is_next, is_numbering, is_small, number_at};
+ghost use Rattle.sql_rules.specs.Columns.{is_end, is_moment, is_next, is_numbering, is_small};
+ghost use Rattle.sql_rules.specs.Columns.{number_at};
 ghost use Rattle.sql_rules.specs.Rules.{are_periods, is_answer_key, is_period, is_ruled_account};
 ghost use Rattle.sql_rules.specs.Rules.{is_ruled_allowance, is_ruled_answer, is_ruled_book};
 ghost use Rattle.sql_rules.specs.Rules.{is_ruled_bucket, is_ruled_charge, is_ruled_counter};
@@ -11,7 +12,7 @@ ghost use Rattle.sql_rules.specs.Rules.{is_ruled_covered, is_ruled_grant_book, i
 ghost use Rattle.sql_rules.specs.Rules.{is_ruled_hold, is_ruled_meta, is_ruled_session};
 ghost use Rattle.sql_rules.specs.Rules.{is_ruled_voucher, rule_at};
 
-use crate::columns::{is_null_at, is_optional_within, is_within, number_at, text_at};
+use crate::columns::{MOST_RATED, is_null_at, is_optional_within, is_within, number_at, text_at};
 use crate::kept::are_kept_texts;
 use crate::names::{is_account_number, is_reference, is_session_id, is_voucher_code};
 use crate::periods::is_period_name;
@@ -19,8 +20,8 @@ use shelves::TariffShelf;
 use sqlite::Row;
 use std::alloc::{AllocError, Global};
 use units::{
-    END_OF_NUMBERS, GREATEST_NUMBER, LATEST_COMMAND, MOST_COUNTED, MOST_DAYS, MOST_MONEY,
-    MOST_USED, NO_END,
+    END_OF_NUMBERS, GREATEST_NUMBER, LATEST_COMMAND, MOST_BLOCKS, MOST_COUNTED, MOST_DAYS,
+    MOST_MONEY, MOST_USED, NO_END,
 };
 
 /// How many tables there are, those of all versions.
@@ -50,6 +51,13 @@ fn is_moment(seconds: u64) -> bool
     seconds < NO_END
 }
 
+/// Whether something that starts ends after its start.
+fn is_end(starts: u64, ends: u64) -> bool
+    ensures { result ≡ is_end starts ends }
+{
+    starts < ends && ends <= NO_END
+}
+
 fn is_ruled_meta(row: &Row) -> bool
     ensures { result ≡ is_ruled_meta row.now }
 {
@@ -71,7 +79,7 @@ fn is_ruled_bucket(row: &Row) -> bool
 {
     is_numbering(number_at(row, 2))
         && is_moment(number_at(row, 3))
-        && is_within(number_at(row, 4), 1, NO_END)
+        && is_end(number_at(row, 3), number_at(row, 4))
         && is_optional_within(row, 5, 0, GREATEST_NUMBER)
         && number_at(row, 6) <= MOST_MONEY
 }
@@ -142,10 +150,14 @@ fn is_answer_key(kind: u64, name: &[u8], number: u64) -> bool
 fn is_ruled_answer(alloc: Global, row: &Row) -> Result<bool, AllocError>
     ensures { IfOk result (λ b. b ≡ is_ruled_answer row.now) }
 {
-    if !is_answer_key(number_at(row, 2), text_at(row, 3), number_at(row, 4)) {
+    let kind = number_at(row, 2);
+    let name = text_at(row, 3);
+    let number = number_at(row, 4);
+    if !is_answer_key(kind, name, number) {
         return Ok(false);
     }
-    are_kept_texts(alloc, text_at(row, 1), text_at(row, 5), text_at(row, 6))
+    let (account, content, answer) = (text_at(row, 1), text_at(row, 5), text_at(row, 6));
+    are_kept_texts(alloc, kind, name, number, account, content, answer)
 }
 
 fn is_ruled_voucher(row: &Row) -> bool
@@ -164,6 +176,8 @@ fn is_ruled_charge(row: &Row) -> bool
         && is_moment(number_at(row, 3))
         && is_session_id(text_at(row, 4))
         && is_small(number_at(row, 5))
+        && number_at(row, 6) <= MOST_BLOCKS
+        && number_at(row, 7) <= MOST_RATED
 }
 
 fn is_ruled_book(row: &Row) -> bool
@@ -181,7 +195,7 @@ fn is_ruled_allowance(row: &Row) -> bool
 fn is_ruled_covered(row: &Row) -> bool
     ensures { result ≡ is_ruled_covered row.now }
 {
-    number_at(row, 3) > 0
+    is_within(number_at(row, 3), 1, MOST_BLOCKS)
 }
 
 /// Whether a row is in the rules of the table at this place among those of all versions.

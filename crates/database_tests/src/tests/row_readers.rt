@@ -236,7 +236,9 @@ pub(crate) fn stored_rows(
     let rows = GivenRows {
         as_of: head.as_of,
         barred: head.barred,
-        purse: Purse::from_buckets(alloc, buckets).expect(rt, "a purse"),
+        purse: Purse::from_buckets(alloc, buckets)
+            .expect(rt, "memory")
+            .expect(rt, "a purse"),
         counters,
         sessions,
         groups,

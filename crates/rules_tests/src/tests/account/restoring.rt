@@ -154,7 +154,9 @@ fn parts(rt: &impl Abort, alloc: Global, account: &StoredAccount) -> GivenRows {
     GivenRows {
         as_of: account.as_of(),
         barred: account.is_barred(),
-        purse: Purse::from_buckets(alloc, buckets).expect(rt, "a purse"),
+        purse: Purse::from_buckets(alloc, buckets)
+            .expect(rt, "memory")
+            .expect(rt, "a purse"),
         counters: Vec::from_slice(alloc, account.counters()).expect(rt, "memory"),
         sessions: copy_of_sessions(alloc, account.sessions()).expect(rt, "memory"),
         groups: copy_of_groups(alloc, account.groups()).expect(rt, "memory"),

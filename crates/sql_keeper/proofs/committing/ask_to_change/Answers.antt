@@ -1,8 +1,10 @@
 use Rattle.sqlite.specs.Held.{state}
+use Rattle.sql_rows.specs.Content.{rows_in}
 use Rattle.sql_keeper.specs.Content.{shelf_names}
+use Rattle.sql_keeper.specs.Numbers.{AreNumbersFree}
 use Rattle.sql_keeper.proofs.KeptRows.{still_kept}
 use Rattle.sql_keeper.proofs.SeenRows.{seen_after, stands_after}
-use Rattle.sql_keeper.proofs.StillOpen.{committed_standing, standing_shut}
+use Rattle.sql_keeper.proofs.StillOpen.{committed_standing, standing_shut, was_standing}
 use Rattle.sql_keeper.proofs.committing.ask_to_change.Goals as goal
 
 pub make_change-requires-clause-seen : goal.make_change-requires-clause-seen
@@ -37,3 +39,11 @@ returns-clause-commits g c =
     committed_standing _ (state g.S.Store c.args.conn.now)
     (state g.S.Store c.still_open.new.conn) (state g.S.Store c.make_change.new.conn) _
     c.make_change.result c.in_ok-still_open.ensures c.make_change.ensures.commits
+
+pub returns-clause-free : goal.returns-clause-free
+returns-clause-free g c =
+    was_standing
+    (λ trees. AreNumbersFree c.args.change.now (rows_in trees c.args.change.now.number)) _
+    (state g.S.Store c.args.conn.now) (state g.S.Store c.still_open.new.conn)
+    (state g.S.Store c.make_change.new.conn) _ c.make_change.result c.in_ok-still_open.ensures
+    c.make_change.ensures.commits c.make_change.ensures.free

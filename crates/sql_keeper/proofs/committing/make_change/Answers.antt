@@ -1,6 +1,6 @@
 use Rattle.std.proofs.Common.{arith}
 use Rattle.std.proofs.lemmas.Result.{err_from_is_err_and}
-use Rattle.sql_keeper.proofs.Commits.{become_at}
+use Rattle.sql_keeper.proofs.Commits.{become_at, free_at}
 use Rattle.sql_keeper.proofs.Whole.{written, not_written}
 use Rattle.sql_keeper.proofs.committing.make_change.Goals as goal
 
@@ -36,3 +36,17 @@ returns-clause-commits g c =
     }) _ _ c.in_ok-are_new.ensures.only c.in_ok-are_new.ensures.found c.requires.seen
     c.requires.kept c.requires.is_there) _ _
     c.in_ok-write_change.ensures.transacts
+
+pub returns-clause-free : goal.returns-clause-free
+returns-clause-free g c = λ clean.
+    free_at _ _ c.args.change.now c.as_of-named.ensures.named
+    (record {
+      are_new = c.in_ok-are_new.are_new;
+      seen = c.args.seen;
+      kept = c.args.kept;
+      is_there = c.args.is_there;
+    }) _ _ c.in_ok-are_new.ensures.only c.in_ok-are_new.ensures.found c.requires.seen
+    c.requires.kept c.requires.is_there
+    (omega (arith, c.in_ok-write_change.ensures.transacts.survives.clean, clean))
+    (c.in_ok-write_change.ensures.transacts.done clean).0
+    (c.in_ok-write_change.ensures.free clean)

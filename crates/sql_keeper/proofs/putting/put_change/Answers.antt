@@ -1,9 +1,12 @@
-use Rattle.std.proofs.Common.{option_map, Ok}
+use Rattle.std.proofs.Common.{arith, option_map, Ok}
 use Rattle.std.proofs.lemmas.Result.{err_from_is_err_and}
 use Rattle.sql_rows.specs.Texts.{kept_of}
+use Rattle.sql_tables.proofs.Keeps.{on_ok}
 use Rattle.sql_keeper.specs.Content.{shelf_names}
-use Rattle.sql_keeper.specs.Writes.{with_changed_rows, with_kept, with_moment_put}
+use Rattle.sql_keeper.specs.Numbers.{LacksCharges}
+use Rattle.sql_keeper.specs.Writes.{with_changed_rows, with_kept, with_moment_put, with_named}
 use Rattle.sql_keeper.specs.Writes.{with_redeemed}
+use Rattle.sql_keeper.proofs.NewCharges.{so_before}
 use Rattle.sql_keeper.proofs.Puts.{list_failed, list_makes, makes_all_then, makes_failed}
 use Rattle.sql_keeper.proofs.putting.put_change.Goals as goal
 
@@ -39,3 +42,21 @@ returns-in_err-put_kept-clause-makes g c =
     (list_makes _ _ _ _ _ c.in_ok-put_moment.field-0 (Ok c.in_ok-put_rows.field-0)
     c.in_ok-put_moment.ensures.makes c.in_ok-put_rows.ensures.makes)
     c.in_err-put_kept.ensures.makes)
+
+pub returns-clause-free : goal.returns-clause-free
+returns-clause-free g c = λ clean.
+    let change = c.args.change.now in
+    let known = c.args.known.now in
+    on_ok c.put_redeemed.result
+    (so_before (with_moment_put known.is_there change.moment)
+    (with_changed_rows (shelf_names c.args.books.now) known change)
+    (λ x. LacksCharges change.number
+    (with_named change.number (shelf_names c.args.books.now) known change.rows x)
+    change.charges.items) _ _ _ c.in_ok-put_moment.field-0 c.in_ok-put_rows.field-0
+    c.in_ok-put_moment.ensures.makes c.in_ok-put_rows.ensures.makes c.in_ok-put_rows.ensures.free
+    (omega (
+      arith,
+      c.in_ok-put_kept.ensures.makes.survives.clean,
+      c.put_redeemed.ensures.makes.survives.clean,
+      clean,
+    )))

@@ -8,7 +8,7 @@ use Rattle.sql_keeper.proofs.Held.{held_committed, held_stands}
 use Rattle.sql_keeper.proofs.Committed.{committed}
 use Rattle.sql_keeper.proofs.KeptRows.{becomes_standing, kept_made}
 use Rattle.sql_keeper.proofs.SeenRows.{none_seen}
-use Rattle.sql_keeper.proofs.Standing.{keeps, standing_keeper, standing_whole}
+use Rattle.sql_keeper.proofs.Standing.{keeps, ok_handed, standing_keeper, standing_whole}
 use Rattle.sql_keeper.proofs.Whole.{handed_on}
 use Rattle.sql_keeper.proofs.keeper.SqlKeeper.commit.Goals as goal
 
@@ -59,4 +59,6 @@ returns g c = rw (← c.self.view_is) (record {
       c.ask_to_change-made.result c.counted.result c.counted.ensures.handed
       (becomes_standing _ _ _ _ _ _ c.ask_to_change-made.ensures.commits)
       c.as_str-text.ensures.value;
+  free = λ clean. ok_handed _ c.ask_to_change-made.result c.counted.result
+      c.counted.ensures.handed (c.ask_to_change-made.ensures.free clean.disk);
 })
