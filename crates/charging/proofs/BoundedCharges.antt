@@ -23,7 +23,8 @@ use Rattle.ledger.specs.declared.charge.ChargeRow.{ChargeRow}
 use Rattle.reserving.specs.declared.session.Counter.{Counter}
 use Rattle.ledger.specs.declared.terms.Terms.{Terms}
 use Rattle.ledger.specs.Ledger.{Fact, Dated, Ledger, counter, used, open_grant, next_charge}
-use Rattle.ledger.specs.Ledger.{uses_in, UseOf, blocks_by, number_of, counts}
+use Rattle.ledger.specs.Ledger.{UseOf, number_of, counts}
+use Rattle.ledger.specs.Parts.{uses_in, blocks_by}
 use Rattle.ledger.specs.Charges.{charge_of, charge_rows, charge_by}
 use Rattle.ledger.specs.Pricing.{cycle_at, terms_now, rated_with, validity_of}
 use Rattle.ledger.specs.Settlement.{charge_facts, due_of, price_of, report_price, settled_by}

@@ -16,13 +16,16 @@ use Rattle.buckets.specs.Holding.{held_in, unheld, paid, holds_of}
 use Rattle.buckets.proofs.Kept.{Each-inserted}
 use Rattle.units.specs.declared.blocks.UsedPart.{UsedPart}
 use Rattle.shelves.specs.Shelves.{Shelf}
-use Rattle.ledger.specs.Ledger.{Fact, Ledger, is_same, or_else, touch_in, recording_in, closes}
-use Rattle.ledger.specs.Ledger.{units_in, names_group, charge_to, credits_in, hold_of}
-use Rattle.ledger.specs.Ledger.{counts_before, charged, next_bucket, used, last_touch, is_within}
+use Rattle.ledger.specs.Ledger.{Fact, Ledger, is_same, or_else}
+use Rattle.ledger.specs.Parts.{touch_in, recording_in, closes}
+use Rattle.ledger.specs.Parts.{units_in, names_group, charge_to, credits_in, hold_of}
+use Rattle.ledger.specs.Ledger.{charged, next_bucket, used, last_touch}
+use Rattle.ledger.specs.Parts.{counts_before, is_within}
 use Rattle.ledger.specs.Ledger.{is_closed, is_live, last_recording, held, only, has_group, Counts}
 use Rattle.ledger.specs.Ledger.{GrantOf, HoldOf, EndOf, UseOf, ChargeOf, RequestOf}
-use Rattle.ledger.specs.Ledger.{counts as counts_of, number_of, test_of, paid_by, units_by}
-use Rattle.ledger.specs.Ledger.{holds_by, but_ended, ends_of, touched_at, recorded_at}
+use Rattle.ledger.specs.Ledger.{counts as counts_of, number_of, test_of}
+use Rattle.ledger.specs.Parts.{paid_by, units_by}
+use Rattle.ledger.specs.Parts.{holds_by, but_ended, ends_of, touched_at, recorded_at}
 use Rattle.ledger.specs.Ledger.Fact.{Credit, Grant, Hold, End, Use, Charge, Touch, Close, Recorded}
 use Rattle.ledger.specs.Ledger.Fact.{Barred}
 use Rattle.ledger.specs.Balance.{with_credit, credited_by, credits, bucket_at, buckets_at, holds_at}

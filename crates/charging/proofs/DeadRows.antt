@@ -9,10 +9,11 @@ use Rattle.buckets.specs.Spend.{Each, AreDistinct, IsBelow}
 use Rattle.shelves.specs.Shelves.{Shelf}
 use Rattle.reserving.specs.declared.session.Session.{Session}
 use Rattle.reserving.specs.declared.session.SessionState.TheVariants.{Open, Ended, NeverOpened}
-use Rattle.ledger.specs.Ledger.{Fact, Ledger, Recording, is_same, counts_before, hold_of, held}
+use Rattle.ledger.specs.Ledger.{Fact, Ledger, Recording, is_same, held}
+use Rattle.ledger.specs.Parts.{counts_before, hold_of}
 use Rattle.ledger.specs.Ledger.{charged, only, is_live, last_touch, last_recording, open_grant}
 use Rattle.ledger.specs.Ledger.{next_bucket, HoldOf, EndOf, counts as counts_of, number_of}
-use Rattle.ledger.specs.Ledger.{holds_by, but_ended, ends_of}
+use Rattle.ledger.specs.Parts.{holds_by, but_ended, ends_of}
 use Rattle.ledger.specs.Balance.{credits, balance_of, bucket_at, buckets_at, holds_at}
 use Rattle.reserving.specs.Sessions.{is_open, state_at, session_row, session_at}
 use Rattle.reserving.specs.Sessions.{reservation_of, reservation_at, group_at}

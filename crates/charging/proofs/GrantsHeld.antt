@@ -25,7 +25,8 @@ use Rattle.buckets.specs.Spend.{funds, allowance}
 use Rattle.buckets.specs.Holding.{held_in, held_sum, holds_of, paid}
 use Rattle.buckets.proofs.Parts.{sum_at, held_in-sum_at}
 use Rattle.ledger.specs.Ledger.{Fact, Ledger, or_else, inner, newest, last_recording, used, counter}
-use Rattle.ledger.specs.Ledger.{held, only, open_grant, grant_in, next_bucket, UseOf, test_of}
+use Rattle.ledger.specs.Ledger.{held, only, open_grant, next_bucket, UseOf, test_of}
+use Rattle.ledger.specs.Parts.{grant_in}
 use Rattle.ledger.specs.Ledger.{counts}
 use Rattle.ledger.specs.Ledger.Fact.{Grant, End, Use}
 use Rattle.ledger.specs.Pricing.{tariff_of, tariff_at, cycle_at, periods_at, terms_at, validity_of}

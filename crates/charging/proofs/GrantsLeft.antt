@@ -8,9 +8,12 @@ use Rattle.buckets.specs.declared.kind.BucketKind.{BucketKind}
 use Rattle.buckets.specs.Kinds.{is_alike}
 use Rattle.buckets.specs.Row.{BucketRow, new_row}
 use Rattle.buckets.specs.Share.{sum_in}
-use Rattle.ledger.specs.Ledger.{Fact, Ledger, or_else, last_recording, used, held, only, grant_in}
-use Rattle.ledger.specs.Ledger.{open_grant, Counts, CreditOf, EndOf, but_ended, inner, newest}
-use Rattle.ledger.specs.Ledger.{recorded_at, test_of, counts}
+use Rattle.ledger.specs.Ledger.{Fact, Ledger, or_else, last_recording, used, held, only}
+use Rattle.ledger.specs.Parts.{grant_in}
+use Rattle.ledger.specs.Ledger.{open_grant, Counts, CreditOf, EndOf, inner, newest}
+use Rattle.ledger.specs.Parts.{but_ended}
+use Rattle.ledger.specs.Ledger.{test_of, counts}
+use Rattle.ledger.specs.Parts.{recorded_at}
 use Rattle.ledger.specs.Ledger.Fact.{Hold, Charge}
 use Rattle.ledger.specs.Balance.{credits, with_credit}
 use Rattle.ledger.specs.Settlement.{charge_facts}

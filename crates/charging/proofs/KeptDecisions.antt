@@ -26,8 +26,10 @@ use Rattle.ledger.specs.Settlement.{due_of, charge_facts, report_price, settled_
 use Rattle.buckets.specs.declared.holds.HeldAmount.{HeldAmount}
 use Rattle.buckets.specs.Share.{parts}
 use Rattle.buckets.specs.Holding.{holds_of, paid}
-use Rattle.ledger.specs.Ledger.{Ledger, Recording, or_else, is_barred, is_within, is_live}
-use Rattle.ledger.specs.Ledger.{is_closed, last_touch, last_recording, recording_in, used}
+use Rattle.ledger.specs.Ledger.{Ledger, Recording, or_else, is_barred, is_live}
+use Rattle.ledger.specs.Parts.{is_within}
+use Rattle.ledger.specs.Ledger.{is_closed, last_touch, last_recording, used}
+use Rattle.ledger.specs.Parts.{recording_in}
 use Rattle.ledger.specs.Ledger.{next_bucket}
 use Rattle.ledger.specs.Ledger.Fact.{Close, Recorded}
 use Rattle.ledger.specs.Balance.{buckets_at, holds_at}

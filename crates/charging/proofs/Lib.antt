@@ -49,3 +49,6 @@ pub mod PartedRows
 pub mod OpenGrants
 pub mod SharesTold
 pub mod BoundedCharges
+pub mod TablesAfter
+pub mod FromEquations
+pub mod Promised

@@ -2,7 +2,8 @@
 use Rattle.std.proofs.Common.{◌≡◌, ℕ, Bool, true, false, List, [], ◌∷◌, refl, Option, Some, None}
 use Rattle.std.specs.Prelude.{◌==◌, ◌&&◌, if◌then◌else◌, option_map}
 use Rattle.ledger.specs.Ledger.{Ledger, GrantOf, Telling, counts, is_same, or_else, newest, inner}
-use Rattle.ledger.specs.Ledger.{telling, told_of, tells}
+use Rattle.ledger.specs.Ledger.{telling, tells}
+use Rattle.ledger.specs.Parts.{told_of}
 use Rattle.charging.specs.Quotas.{OpenGrant}
 use Rattle.charging.specs.OpenGrants.{PlacedGrant, granted_by, GrantsAreOne}
 

@@ -18,7 +18,8 @@ use Rattle.buckets.specs.Spend.{IsInOrder, funds}
 use Rattle.buckets.specs.Holding.{paid, uncollected, holds_of, held_sum}
 use Rattle.buckets.proofs.Short.{spent_all}
 use Rattle.ledger.specs.Ledger.{Fact, Ledger, Recording, or_else, is_same, last_touch}
-use Rattle.ledger.specs.Ledger.{last_recording, next_bucket, UseOf, recorded_at, touched_at, counts}
+use Rattle.ledger.specs.Ledger.{last_recording, next_bucket, UseOf, counts}
+use Rattle.ledger.specs.Parts.{recorded_at, touched_at}
 use Rattle.ledger.specs.Ledger.Fact.{Touch, Recorded}
 use Rattle.ledger.specs.Balance.{credits, buckets_at, holds_at}
 use Rattle.ledger.specs.Requests.{touched, credited}

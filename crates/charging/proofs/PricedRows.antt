@@ -21,7 +21,8 @@ use Rattle.buckets.specs.Holding.{holds_of, paid}
 use Rattle.reserving.specs.declared.session.Reservation.{Reservation}
 use Rattle.reserving.specs.declared.session.SessionGroup.{SessionGroup}
 use Rattle.ledger.specs.declared.terms.Terms.{Terms}
-use Rattle.ledger.specs.Ledger.{Fact, Ledger, is_same, inner, or_else, newest, grant_in, open_grant}
+use Rattle.ledger.specs.Ledger.{Fact, Ledger, is_same, inner, or_else, newest, open_grant}
+use Rattle.ledger.specs.Parts.{grant_in}
 use Rattle.ledger.specs.Ledger.{used, counter, has_group, is_live}
 use Rattle.ledger.specs.Ledger.Fact.{End}
 use Rattle.ledger.specs.Pricing.{tariff_at, periods_at, switch_by, terms_at, cycle_at, validity_of}

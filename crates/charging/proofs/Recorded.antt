@@ -8,9 +8,12 @@ use Rattle.buckets.specs.declared.holds.HeldAmount.{HeldAmount}
 use Rattle.buckets.specs.Holding.{paid}
 use Rattle.buckets.specs.Share.{parts}
 use Rattle.shelves.specs.Shelves.{Shelf}
-use Rattle.ledger.specs.Ledger.{Fact, Ledger, Recording, is_same, or_else, names_group, touch_in}
-use Rattle.ledger.specs.Ledger.{has_group, last_touch, last_recording, HoldOf, recorded_at}
-use Rattle.ledger.specs.Ledger.{touched_at, counts}
+use Rattle.ledger.specs.Ledger.{Fact, Ledger, Recording, is_same, or_else}
+use Rattle.ledger.specs.Parts.{names_group, touch_in}
+use Rattle.ledger.specs.Ledger.{has_group, last_touch, last_recording, HoldOf}
+use Rattle.ledger.specs.Parts.{recorded_at}
+use Rattle.ledger.specs.Ledger.{counts}
+use Rattle.ledger.specs.Parts.{touched_at}
 use Rattle.ledger.specs.Ledger.Fact.{Grant, Hold, End, Use, Charge}
 use Rattle.ledger.specs.Requests.{recorded, touched}
 use Rattle.ledger.specs.Reservation.{hold_facts, grant_at, hold_for}

@@ -43,15 +43,12 @@ concerning who = record {
   request = None;
 }
 
--- a request of a session, which has its number as its key unless it reads
-abbrev pub of_request : Request → About
-of_request r = record (concerning (one r.account)) {
+abbrev pub about : Command → About
+about (command.Ccr r) = record (concerning (one r.account)) {
+  -- its number is its key, unless it reads
   keyed = not (is_read r.ask);
   request = Some r;
 }
-
-abbrev pub about : Command → About
-about (command.Ccr r) = of_request r
 about (command.OpenAccount n) = record (concerning (one n)) { opens = true }
 about (command.Credit c) = record (concerning (one c.account)) { keyed = true }
 about (command.Allow a) = record (concerning (one a.account)) { keyed = true }

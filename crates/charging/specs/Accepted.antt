@@ -74,24 +74,24 @@ IsInTime (d ∷ before) = (last_moment before ≤ d.moment) × IsInTime before
 
 -- ---- vouchers
 
-abbrev pub is_under : VoucherCode → CodeUse → Bool
-is_under code (adds_code added terms) = same_name added code
-is_under code (redeems_code redeemed account) = same_name redeemed code
-is_under code no_code = false
-
 -- a command names this code
 abbrev pub names_code : VoucherCode → Command → Bool
-names_code code c = is_under code (about c).code
-
-abbrev pub voucher_used : DayEnds → CodeUse → Moment → Option Voucher → Option Voucher
-voucher_used ends (adds_code code terms) t found = after_addition (addition found terms) found
-voucher_used ends (redeems_code code account) t found =
-    after_redemption (redemption ends found account t) found
-voucher_used ends no_code t found = found
+names_code code c = is_under (about c).code
+  where
+    is_under : CodeUse → Bool
+    is_under (adds_code added terms) = same_name added code
+    is_under (redeems_code redeemed account) = same_name redeemed code
+    is_under no_code = false
 
 -- what is under the code that it names, once it is accepted
 abbrev pub voucher_after : DayEnds → Command → Moment → Option Voucher → Option Voucher
-voucher_after ends c t found = voucher_used ends (about c).code t found
+voucher_after ends c t found = used ends (about c).code t found
+  where
+    used : DayEnds → CodeUse → Moment → Option Voucher → Option Voucher
+    used ends (adds_code code terms) t found = after_addition (addition found terms) found
+    used ends (redeems_code code account) t found =
+        after_redemption (redemption ends found account t) found
+    used ends no_code t found = found
 
 -- what is under a code after accepted commands
 abbrev pub voucher_under : DayEnds → VoucherCode → List Accepted → Option Voucher
@@ -101,14 +101,14 @@ voucher_under ends code (d ∷ before) =
     then voucher_after ends d.command d.moment (voucher_under ends code before)
     else voucher_under ends code before
 
-abbrev pub standing_under : DayEnds → CodeUse → List Accepted → Option Voucher
-standing_under ends (adds_code code terms) list = voucher_under ends code list
-standing_under ends (redeems_code code account) list = voucher_under ends code list
-standing_under ends no_code list = None
-
 -- what is under the code that a command names; nothing where it names none
 abbrev pub standing_for : DayEnds → Command → List Accepted → Option Voucher
-standing_for ends c list = standing_under ends (about c).code list
+standing_for ends c list = standing ends (about c).code list
+  where
+    standing : DayEnds → CodeUse → List Accepted → Option Voucher
+    standing ends (adds_code code terms) list = voucher_under ends code list
+    standing ends (redeems_code code account) list = voucher_under ends code list
+    standing ends no_code list = None
 
 -- ---- one account alone
 

@@ -29,3 +29,6 @@ pub mod OpenGrants
 pub mod SharesTold
 pub mod BoundedCharges
 pub mod Laws
+pub mod TablesAfter
+pub mod Equations
+pub mod Promise

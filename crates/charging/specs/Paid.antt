@@ -2,7 +2,7 @@
 -- units are debited; TS 32.296, account balance management function).
 use Rattle.std.specs.Prelude.{◌≡◌, ◌+◌, ◌<◌, ◌==◌, Bool, true, false, List, [], ◌∷◌, is_some}
 use Rattle.std.specs.Prelude.{if◌then◌else◌, Option, Some, None, IfSome}
-use Rattle.units.specs.Words.{Moment, Micros, BlockCount, GroupId}
+use Rattle.units.specs.Words.{Moment, GroupId}
 use Rattle.identifiers.specs.Words.{SessionName}
 use Rattle.buckets.specs.Words.{BucketNumber, BucketAmount}
 use Rattle.shelves.specs.Shelves.{Shelf}
@@ -50,13 +50,6 @@ abbrev pub taken : BucketKind → Ledger → BucketAmount
 taken kind [] = 0
 taken kind (d ∷ older) =
     if is_charge d.fact then taken_by kind d.fact older + taken kind older else 0
-
--- what they collect of money, and the blocks that they cover of allowances
-abbrev pub collected : Ledger → Micros
-collected ledger = taken Money ledger
-
-abbrev pub covered_blocks : Ledger → BlockCount
-covered_blocks ledger = taken Blocks ledger
 
 -- ---- a report
 
@@ -110,15 +103,12 @@ is_touched s ledger = is_some (last_touch s ledger)
 -- covered: of the session's report where its session was touched, else of a debit
 pub record IsPaidUse (b : Shelf) (reports : List Report) (t : Moment) (u : UseOf)
     (older : Ledger) : Type 0 where
-  pub sum : collected older + u.uncollected ≡ u.rated
-  pub allowed : covered_blocks older ≡ u.covered
+  pub sum : taken Money older + u.uncollected ≡ u.rated
+  pub allowed : taken Blocks older ≡ u.covered
   pub report : is_touched u.session (before_charges older) ≡ true →
       IsLastReport b reports t u (before_charges older)
   pub event : is_touched u.session (before_charges older) ≡ false →
       IsEvent b t u (before_charges older)
-
-abbrev pub IsPaid : Shelf → List Report → Moment → Fact → Ledger → Type 0
-IsPaid b reports t f older = IfSome (counts f).usage (λ u. IsPaidUse b reports t u older)
 
 abbrev pub without_last : List Report → List Report
 without_last [] = []
@@ -130,11 +120,9 @@ reports_without None older reports = reports
 reports_without (Some u) older reports =
     if is_touched u.session (before_charges older) then without_last reports else reports
 
-abbrev pub reports_before : Fact → Ledger → List Report → List Report
-reports_before f older reports = reports_without (counts f).usage older reports
-
 -- each use of a ledger is paid, and each of the reports made one of them, in their order
 abbrev pub ArePaid : Shelf → List Report → Ledger → Type 0
 ArePaid b reports [] = reports ≡ []
 ArePaid b reports (d ∷ older) =
-    IsPaid b reports d.at d.fact older × ArePaid b (reports_before d.fact older reports) older
+    IfSome (counts d.fact).usage (λ u. IsPaidUse b reports d.at u older)
+    × ArePaid b (reports_without (counts d.fact).usage older reports) older

@@ -4,7 +4,7 @@ use Rattle.std.specs.Prelude.{◌≡◌, ◌≤◌, [], ◌∷◌, Option, Some,
 use Rattle.units.specs.Words.{Moment, UnitCount, Place, GroupId}
 use Rattle.identifiers.specs.Words.{SessionName}
 use Rattle.shelves.specs.Shelves.{Shelf}
-use Rattle.ledger.specs.Ledger.{Fact, Dated, Ledger, GrantOf, UseOf, counts, tells, newest, inner}
+use Rattle.ledger.specs.Ledger.{Dated, Ledger, GrantOf, UseOf, counts, tells, newest, inner}
 use Rattle.ledger.specs.Ledger.{counter}
 use Rattle.ledger.specs.Pricing.{cycle_at}
 use Rattle.charging.specs.Paid.{before_charges}
@@ -32,10 +32,9 @@ IsWithinGrant b t u before =
     counter (cycle_at b u.group) u.group (cycle_at b u.group t) before ≡ x.counter →
     u.uncollected ≡ 0
 
-abbrev pub IsQuotaPaid : Shelf → Moment → Fact → Ledger → Type 0
-IsQuotaPaid b t f older = IfSome (counts f).usage (λ u. IsWithinGrant b t u (before_charges older))
-
 -- so each use of a ledger, whatever came between
 abbrev pub AreQuotasPaid : Shelf → Ledger → Type 0
 AreQuotasPaid b [] = Unit {0}
-AreQuotasPaid b (d ∷ older) = IsQuotaPaid b d.at d.fact older × AreQuotasPaid b older
+AreQuotasPaid b (d ∷ older) =
+    IfSome (counts d.fact).usage (λ u. IsWithinGrant b d.at u (before_charges older))
+    × AreQuotasPaid b older

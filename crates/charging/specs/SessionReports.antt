@@ -48,12 +48,12 @@ with_ask b t s (Termination services) reports = with_services b t s services rep
 with_ask b t s (Event event) reports = reports
 with_ask b t s (Refund refund) reports = reports
 
-abbrev pub with_request : Shelf → Moment → Option Request → List Report → List Report
-with_request b t (Some r) reports = with_ask b t r.session r.ask reports
-with_request b t None reports = reports
-
 abbrev pub with_reports : Shelf → Moment → Command → List Report → List Report
 with_reports b t c reports = with_request b t (about c).request reports
+  where
+    with_request : Shelf → Moment → Option Request → List Report → List Report
+    with_request b t (Some r) reports = with_ask b t r.session r.ask reports
+    with_request b t None reports = reports
 
 -- the reports of an account's sessions, the newest first
 abbrev pub reports_of : Shelf → AccountName → List Accepted → List Report

@@ -15,10 +15,20 @@ ghost use Rattle.charging.specs.BoundedCharges.{ChargesAreBounded};
 ghost use Rattle.charging.specs.SharesTold.{ChargesAreShares, HoldsAreShares};
 ghost use Rattle.charging.specs.RedeemedCodes.{IsLeftByThese, IsRedeemedAtMostOnce};
 ghost use Rattle.charging.specs.Served.{AreTables};
+ghost use Rattle.charging.specs.TablesAfter.{TablesAreAFunction, RunsFromNothing};
+ghost use Rattle.charging.specs.Equations.{EquationsAreEnough, RunsByEquations};
+ghost use Rattle.charging.specs.Headline.{AreAccounted};
+ghost use Rattle.charging.specs.Promise.{RunsOver};
+ghost use Rattle.charging.specs.Runs as relation;
 ghost use Rattle.charging.specs.Allowed.{ReportsAreCovered, EventsAreCovered};
 ghost use Rattle.charging.specs.Repeats.{AnswersOnce};
 ghost use Rattle.charging.specs.Laws.{AccountsAreIsolated, CodesAreRedeemedOnce, LedgersAreSound};
 ghost use Rattle.charging.specs.Laws.{QuotasArePaid, ReportsArePaid, TakenIsCharged};
+
+use crate::answers::Run;
+use crate::running::DatedCommand;
+use keepers::Keeper;
+use shelves::TariffShelf;
 
 /// Before any command the tables are empty: those of `MemoryKeeper::new`, with which a first call
 /// can begin.
@@ -26,6 +36,42 @@ pub fn beginning()
     ensures time { IsInTime [] }
     ensures tables { (b : Shelf) → AreTables b [] no_tables }
 {}
+
+/// The tables of accepted commands are a function of them, and of the shelf. So a run from nothing
+/// leaves those of the commands that it answered (profile).
+pub fn tables_from_commands()
+    ensures tables { TablesAreAFunction }
+    ensures runs { RunsFromNothing }
+{}
+
+/// And back: tables that are that function of accepted commands, and whose rows are lists, are the
+/// tables of these commands. So a run goes on from them by equations alone (profile).
+pub fn equations_are_enough()
+    ensures tables { EquationsAreEnough }
+    ensures runs { RunsByEquations }
+{}
+
+/// What `run` promises by equations, it also says of each list of accepted commands whose tables a
+/// keeper held: the answers are those of a beginning of the commands, and the tables are those of
+/// the list after it. Each account's buckets and charges are then sums of its ledger, and each use
+/// was paid as the rules say (profile).
+pub fn run_over_lists<K: Keeper>(
+    old: &K,
+    new: &K,
+    shelf: &TariffShelf,
+    commands: &Vec<DatedCommand>,
+    run: &Run,
+)
+    ensures lists { RunsOver shelf.now commands.now.items (K.seen old.now) (K.seen new.now) run.now →
+        relation.RunsOver shelf.now commands.now.items (K.seen old.now) (K.seen new.now) run.now }
+    ensures accounted { RunsOver shelf.now commands.now.items (K.seen old.now) (K.seen new.now) run.now →
+        (K.seen new.now).clean →
+        AreAccounted shelf.now commands.now.items (K.seen old.now).tables (K.seen new.now).tables
+        run.now.answers.items }
+{
+    // For the prover alone: looking at the value makes known here what its type keeps.
+    let _ranges = shelf.first();
+}
 
 /// One run after another is a run, where the second goes on from what the first one left. The
 /// answers of both, one after the other, are those of the commands that the first one answered and

@@ -1,8 +1,8 @@
 //! A run of commands.
 
 ghost use Rattle.std.specs.Prelude.{◌<◌, Some, None};
-ghost use Rattle.charging.specs.Runs.{RunsOver};
-ghost use Rattle.charging.specs.Headline.{AreAccounted};
+ghost use Rattle.charging.specs.Promise.{RunsOver};
+ghost use Rattle.charging.specs.Runs as relation;
 
 use crate::answers::Run;
 use crate::stepping::step;
@@ -38,25 +38,23 @@ pub fn run<K: Keeper>(
     shelf: &TariffShelf,
     commands: Vec<DatedCommand>,
 ) -> Run
-    ensures runs { RunsOver shelf.now commands.items
-        (K.seen keeper.old) (K.seen keeper.new) result }
-    ensures accounted { (K.seen keeper.new).clean →
-        AreAccounted shelf.now commands.items (K.seen keeper.old).tables
-        (K.seen keeper.new).tables result.answers.items }
+    ensures { RunsOver shelf.now commands.items (K.seen keeper.old) (K.seen keeper.new) result }
 {
     // For the prover alone: looking at the value makes known here what its type keeps.
     let _ranges = shelf.first();
     answer_each(alloc, keeper, shelf, commands)
 }
 
-/// Answers commands one after another, up to the first store fault.
+/// Answers commands one after another, up to the first store fault. What it leaves is said of each
+/// list of accepted commands whose tables the keeper held.
 fn answer_each<K: Keeper>(
     alloc: Global,
     keeper: &mut K,
     shelf: &TariffShelf,
     commands: Vec<DatedCommand>,
 ) -> Run
-    ensures { RunsOver shelf.now commands.items (K.seen keeper.old) (K.seen keeper.new) result }
+    ensures { relation.RunsOver shelf.now commands.items
+        (K.seen keeper.old) (K.seen keeper.new) result }
 {
     let mut answers = Vec::new(alloc);
     for dated in commands {

@@ -59,25 +59,25 @@ abbrev pub debit_refusal : Book → SessionName → Event → Ledger → Option 
 debit_refusal b s e ledger = if has_record s ledger then Some (invalid SessionId)
     else option_map invalid (event_fault b e)
 
--- its units are charged at once
-abbrev pub charged_at_once : Shelf → GroupTariff → Moment → SessionName → CcRequestNumber →
-    GroupId →
-    UnitCount → Ledger → Decision
-charged_at_once b tariff t s n g units ledger =
-    if debit_passes b t s g units ledger
-    then told (Failed UnableToComply) ledger
-    else accepted (Services (record {
-      group = g;
-      outcome = service.Debited (record { kind = tariff.unit; units = units });
-    } ∷ []))
-    (recorded t s n (debited b t s g units ledger))
+-- by the tariff of its group
+module _ (b : Shelf) (tariff : GroupTariff) (t : Moment) (s : SessionName) (n : CcRequestNumber)
+    (g : GroupId) (units : UnitCount) where
+  -- its units are charged at once
+  abbrev pub charged_at_once : Ledger → Decision
+  charged_at_once ledger =
+      if debit_passes b t s g units ledger
+      then told (Failed UnableToComply) ledger
+      else accepted (Services (record {
+        group = g;
+        outcome = service.Debited (record { kind = tariff.unit; units = units });
+      } ∷ []))
+      (recorded t s n (debited b t s g units ledger))
 
--- where the eligible buckets have their price
-abbrev pub charged_if_covered : Shelf → GroupTariff → Moment → SessionName → CcRequestNumber →
-    GroupId → UnitCount → Ledger → Decision
-charged_if_covered b tariff t s n g units ledger =
-    if is_covered b t g units ledger then charged_at_once b tariff t s n g units ledger
-    else denied t s n CreditLimitReached ledger
+  -- where the eligible buckets have their price
+  abbrev pub charged_if_covered : Ledger → Decision
+  charged_if_covered ledger =
+      if is_covered b t g units ledger then charged_at_once ledger
+      else denied t s n CreditLimitReached ledger
 
 abbrev pub charged_by : Option GroupTariff → Shelf → Moment → SessionName → CcRequestNumber →
     Event → Ledger → Decision
@@ -85,18 +85,16 @@ charged_by None b t s n e ledger = denied t s n RatingFailed ledger
 charged_by (Some tariff) b t s n e ledger =
     charged_if_covered b tariff t s n e.group (event_units tariff e.requested) ledger
 
--- a barred account is charged nothing
-abbrev pub charged_unless_barred : Shelf → Moment → SessionName → CcRequestNumber → Event → Ledger →
-    Decision
-charged_unless_barred b t s n e ledger =
-    if is_barred ledger then denied t s n EndUserServiceDenied ledger
-    else charged_by (tariff_at b t e.group) b t s n e ledger
+module _ (b : Shelf) (t : Moment) (s : SessionName) (n : CcRequestNumber) (e : Event)
+    (ledger : Ledger) where
+  -- a barred account is charged nothing
+  abbrev pub charged_unless_barred : Decision
+  charged_unless_barred =
+      if is_barred ledger then denied t s n EndUserServiceDenied ledger
+      else charged_by (tariff_at b t e.group) b t s n e ledger
 
-abbrev pub debit_decision : Shelf → Moment → SessionName → CcRequestNumber → Event → Ledger →
-    Decision
-debit_decision b t s n e ledger =
-    refused_or (debit_refusal (book_at b t) s e ledger) ledger
-    (charged_unless_barred b t s n e ledger)
+  abbrev pub debit_decision : Decision
+  debit_decision = refused_or (debit_refusal (book_at b t) s e ledger) ledger charged_unless_barred
 
 -- ---- reads
 
@@ -119,15 +117,14 @@ priced_by (Some tariff) b t e ledger =
 abbrev pub read_refusal : Book → Event → Option Failure
 read_refusal b e = option_map invalid (event_fault b e)
 
-abbrev pub check_decision : Shelf → Moment → Event → Ledger → Decision
-check_decision b t e ledger =
-    refused_or (read_refusal (book_at b t) e) ledger
-    (told (checked_by (tariff_at b t e.group) b t e ledger) ledger)
+module _ (b : Shelf) (t : Moment) (e : Event) (ledger : Ledger) where
+  abbrev pub check_decision : Decision
+  check_decision = refused_or (read_refusal (book_at b t) e) ledger
+      (told (checked_by (tariff_at b t e.group) b t e ledger) ledger)
 
-abbrev pub enquiry_decision : Shelf → Moment → Event → Ledger → Decision
-enquiry_decision b t e ledger =
-    refused_or (read_refusal (book_at b t) e) ledger
-    (told (priced_by (tariff_at b t e.group) b t e ledger) ledger)
+  abbrev pub enquiry_decision : Decision
+  enquiry_decision = refused_or (read_refusal (book_at b t) e) ledger
+      (told (priced_by (tariff_at b t e.group) b t e ledger) ledger)
 
 -- ---- an event
 
@@ -154,12 +151,13 @@ refund_refusal b s r ledger =
     if has_record s ledger then Some (invalid SessionId)
     else (if r.currency == b.currency then None else Some (invalid CurrencyCode))
 
--- the money is a bucket from the moment on, without an end, for all groups
-abbrev pub refunded : Moment → SessionName → CcRequestNumber → Refund → Ledger → Decision
-refunded t s n r ledger =
-    if nat_lt greatest_number (next_bucket ledger)
-    then told (Failed UnableToComply) ledger
-    else accepted Refunded (recorded t s n (credited t Money t no_end None r.micros ledger))
+module _ (t : Moment) (s : SessionName) (n : CcRequestNumber) (r : Refund) (ledger : Ledger) where
+  -- the money is a bucket from the moment on, without an end, for all groups
+  abbrev pub refunded : Decision
+  refunded =
+      if nat_lt greatest_number (next_bucket ledger)
+      then told (Failed UnableToComply) ledger
+      else accepted Refunded (recorded t s n (credited t Money t no_end None r.micros ledger))
 
 abbrev pub refund_decision : Shelf → Moment → SessionName → CcRequestNumber → Refund → Ledger →
     Decision

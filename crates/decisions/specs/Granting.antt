@@ -42,47 +42,45 @@ last_unit (action.Redirect address) = final.Redirect address
 abbrev pub final_unit : GroupTariff → Bool → Option FinalUnit
 final_unit tariff fewer = if fewer then Some (last_unit tariff.final_action) else None
 
-abbrev pub grant_answer : Shelf → GroupTariff → Moment → UnitCount → Option UnitCount →
-    ServiceOutcome
-grant_answer b tariff t units asked = service.Granted (record {
-  quantity = record { kind = tariff.unit; units = units };
-  switch = switch_at b t;
-  validity = validity_at b t;
-  last = final_unit tariff (nat_lt units (wanted_units tariff asked));
-})
+-- of a group's tariff at a moment
+module _ (b : Shelf) (tariff : GroupTariff) (t : Moment) where
+  abbrev pub grant_answer : UnitCount → Option UnitCount → ServiceOutcome
+  grant_answer units asked = service.Granted (record {
+    quantity = record { kind = tariff.unit; units = units };
+    switch = switch_at b t;
+    validity = validity_at b t;
+    last = final_unit tariff (nat_lt units (wanted_units tariff asked));
+  })
 
--- what a session is granted of a group with this tariff; no unit is 4012
-abbrev pub granted_with : Shelf → GroupTariff → Moment → SessionName → GroupId → Option UnitCount →
-    Grant → Ledger → Answered
-granted_with b tariff t s g asked grant ledger =
-    if nat_lt 0 grant.units.0
-    then record {
-      outcome = grant_answer b tariff t grant.units.0 asked;
-      after = reserved b t s g grant.units.0 (held_due grant) ledger;
-    }
-    else record { outcome = service.Failed CreditLimitReached; after = ledger }
+  -- to a session's group
+  module _ (s : SessionName) (g : GroupId) where
+    -- no unit is 4012
+    abbrev pub granted_with : Option UnitCount → Grant → Ledger → Answered
+    granted_with asked grant ledger =
+        if nat_lt 0 grant.units.0
+        then record {
+          outcome = grant_answer grant.units.0 asked;
+          after = reserved b t s g grant.units.0 (held_due grant) ledger;
+        }
+        else record { outcome = service.Failed CreditLimitReached; after = ledger }
 
--- the same, as far as the funds cover it
-abbrev pub granted_units : Shelf → GroupTariff → Moment → SessionName → GroupId → Option UnitCount →
-    Ledger → Answered
-granted_units b tariff t s g asked ledger =
-    granted_with b tariff t s g asked (grant_for b t g (used s g ledger) asked ledger) ledger
+    -- as far as the funds cover it
+    abbrev pub granted_units : Option UnitCount → Ledger → Answered
+    granted_units asked ledger =
+        granted_with asked (grant_for b t g (used s g ledger) asked ledger) ledger
 
--- a barred account is granted nothing: 4010
-abbrev pub granted_unless_barred : Shelf → GroupTariff → Moment → SessionName → GroupId →
-    Option UnitCount → Ledger → Answered
-granted_unless_barred b tariff t s g asked ledger =
-    if is_barred ledger then record {
-      outcome = service.Failed EndUserServiceDenied;
-      after = ledger;
-    } else granted_units b tariff t s g asked ledger
+    -- a barred account is granted nothing: 4010
+    abbrev pub granted_unless_barred : Option UnitCount → Ledger → Answered
+    granted_unless_barred asked ledger =
+        if is_barred ledger then record {
+          outcome = service.Failed EndUserServiceDenied;
+          after = ledger;
+        } else granted_units asked ledger
 
--- a service that asks for nothing is granted nothing, and that is 2001
-abbrev pub granted_if : Shelf → GroupTariff → Moment → SessionName → GroupId → Option Requested →
-    Ledger → Answered
-granted_if b tariff t s g None ledger = record { outcome = service.Settled; after = ledger }
-granted_if b tariff t s g (Some requested) ledger =
-    granted_unless_barred b tariff t s g (units_of requested) ledger
+    -- a service that asks for nothing is granted nothing, and that is 2001
+    abbrev pub granted_if : Option Requested → Ledger → Answered
+    granted_if None ledger = record { outcome = service.Settled; after = ledger }
+    granted_if (Some requested) ledger = granted_unless_barred (units_of requested) ledger
 
 -- a rating group without a tariff is 5031
 abbrev pub granted_by : Option GroupTariff → Shelf → Moment → SessionName → Service → Ledger →
@@ -90,31 +88,33 @@ abbrev pub granted_by : Option GroupTariff → Shelf → Moment → SessionName 
 granted_by None b t s x ledger = record { outcome = service.Failed RatingFailed; after = ledger }
 granted_by (Some tariff) b t s x ledger = granted_if b tariff t s x.group x.requested ledger
 
--- the grant of a service
-abbrev pub granted : Shelf → Moment → SessionName → Service → Ledger → Answered
-granted b t s x ledger = granted_by (tariff_at b t x.group) b t s x ledger
+-- of a session's services at a moment
+module _ (b : Shelf) (t : Moment) (s : SessionName) where
+  -- the grant of a service
+  abbrev pub granted : Service → Ledger → Answered
+  granted x ledger = granted_by (tariff_at b t x.group) b t s x ledger
 
--- the grants of all services, one after the other
-abbrev pub grant_answers : Shelf → Moment → SessionName → List Service → Ledger → List ServiceAnswer
-grant_answers b t s [] ledger = []
-grant_answers b t s (x ∷ xs) ledger =
-    record { group = x.group; outcome = (granted b t s x ledger).outcome }
-    ∷ grant_answers b t s xs (granted b t s x ledger).after
+  -- the grants of all services, one after the other
+  abbrev pub grant_answers : List Service → Ledger → List ServiceAnswer
+  grant_answers [] ledger = []
+  grant_answers (x ∷ xs) ledger =
+      record { group = x.group; outcome = (granted x ledger).outcome }
+      ∷ grant_answers xs (granted x ledger).after
 
-abbrev pub after_grants : Shelf → Moment → SessionName → List Service → Ledger → Ledger
-after_grants b t s [] ledger = ledger
-after_grants b t s (x ∷ xs) ledger = after_grants b t s xs (granted b t s x ledger).after
+  abbrev pub after_grants : List Service → Ledger → Ledger
+  after_grants [] ledger = ledger
+  after_grants (x ∷ xs) ledger = after_grants xs (granted x ledger).after
 
 -- ---- a session that isn't open yet
 
--- the service of a new session, which asks for units, would be granted one
-abbrev pub grants_new : Shelf → Moment → Ledger → Service → Bool
-grants_new b t ledger x =
-    nat_lt 0 (grant_for b t x.group 0 (asked_units x.requested) ledger).units.0
+module _ (b : Shelf) (t : Moment) (ledger : Ledger) where
+  -- the service of a new session, which asks for units, would be granted one
+  abbrev pub grants_new : Service → Bool
+  grants_new x = nat_lt 0 (grant_for b t x.group 0 (asked_units x.requested) ledger).units.0
 
--- until one is granted the funds stay the same, so that each can be asked for by itself
-abbrev pub any_grants : Shelf → Moment → Ledger → List Service → Bool
-any_grants b t ledger services = list_any (grants_new b t ledger) services
+  -- until one is granted the funds stay the same, so that each can be asked for by itself
+  abbrev pub any_grants : List Service → Bool
+  any_grants services = list_any grants_new services
 
 -- why a service that grants nothing doesn't
 abbrev pub denial : Book → Service → ServiceFailure

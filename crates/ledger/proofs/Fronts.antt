@@ -4,9 +4,12 @@ use Rattle.std.proofs.Common.{◌∙◌, arith, Option, Some, None}
 use Rattle.std.specs.Prelude.{if◌then◌else◌, ◌==◌, ◌&&◌, ◌||◌, not, option_map, unwrap_or}
 use Rattle.buckets.specs.declared.holds.HeldAmount.{HeldAmount}
 use Rattle.buckets.proofs.Parts.{sum_at}
-use Rattle.ledger.specs.Ledger.{Fact, Dated, Ledger, bar_in, is_barred, total, newest, any}
-use Rattle.ledger.specs.Ledger.{any_dated, or_else, held, charged, last_touch, last_recording}
-use Rattle.ledger.specs.Ledger.{is_closed, is_live, is_within}
+use Rattle.ledger.specs.Ledger.{Fact, Dated, Ledger, is_barred, total, newest}
+use Rattle.ledger.specs.Parts.{bar_in, any}
+use Rattle.ledger.specs.Ledger.{or_else, held, charged, last_touch, last_recording}
+use Rattle.ledger.specs.Parts.{any_dated}
+use Rattle.ledger.specs.Ledger.{is_closed, is_live}
+use Rattle.ledger.specs.Parts.{is_within}
 use Rattle.ledger.specs.Ledger.Fact.{Hold, Charge}
 use Rattle.ledger.specs.Balance.{credits}
 use Rattle.ledger.specs.Settlement.{charge_facts}

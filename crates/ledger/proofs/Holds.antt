@@ -6,7 +6,8 @@ pub use Rattle.std.proofs.lemmas.Bool.{and_parts as both, eqb-true as number_fro
 use Rattle.std.proofs.lemmas.Bool.Decides.{nat_tests}
 use Rattle.identifiers.proofs.Equality.{equal_names}
 use Rattle.ledger.specs.Ledger.{Fact, Ledger, HoldOf, EndOf, counts, number_of, is_same}
-use Rattle.ledger.specs.Ledger.{counts_before, but_ended, ends_of, hold_of, holds_by, held, only}
+use Rattle.ledger.specs.Ledger.{held, only}
+use Rattle.ledger.specs.Parts.{counts_before, but_ended, ends_of, hold_of, holds_by}
 pub use Rattle.ledger.proofs.Names.{number_same as number_itself, is_same-refl as same_itself}
 
 abbrev pub one_if : Bool → ℕ

@@ -2,7 +2,8 @@
 use Rattle.std.proofs.Common.{◌≡◌, ℕ, ◌≤◌, Bool, true, List, arith, Option, Some, None}
 use Rattle.std.specs.Prelude.{◌&&◌, not}
 use Rattle.std.proofs.lemmas.Bool.Decides.{nat_tests}
-use Rattle.ledger.specs.Ledger.{Ledger, is_live, is_within, is_closed, last_touch}
+use Rattle.ledger.specs.Ledger.{Ledger, is_live, is_closed, last_touch}
+use Rattle.ledger.specs.Parts.{is_within}
 
 -- a session that is live later was live before
 pub is_live-before : (v : ℕ → ℕ) (t1 t2 : ℕ) (ledger : Ledger) (s : List ℕ) → t1 ≤ t2 →

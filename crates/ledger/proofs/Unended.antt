@@ -2,8 +2,10 @@
 use Rattle.std.proofs.Common.{◌≡◌, ℕ, ◌+◌, Bool, true, false, List, [], ◌∷◌, refl, ap, ◌∙◌}
 use Rattle.std.proofs.Common.{Option, Some, None}
 use Rattle.std.specs.Prelude.{◌&&◌, ◌||◌, not}
-use Rattle.ledger.specs.Ledger.{Ledger, Dated, EndOf, counts as counts_of, test_of, ends_of}
-use Rattle.ledger.specs.Ledger.{is_live, any, counts_before, but_ended, hold_of, held}
+use Rattle.ledger.specs.Ledger.{Ledger, Dated, EndOf, counts as counts_of, test_of}
+use Rattle.ledger.specs.Parts.{ends_of}
+use Rattle.ledger.specs.Ledger.{is_live, held}
+use Rattle.ledger.specs.Parts.{any, counts_before, but_ended, hold_of}
 use Rattle.ledger.specs.Laws.{is_end_of, held_unended, IsHeldUnended, IsReservedUnended}
 use Rattle.ledger.proofs.Holds.{held_same}
 

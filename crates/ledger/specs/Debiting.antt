@@ -12,32 +12,32 @@ use Rattle.buckets.specs.declared.kind.Due.{Due}
 use Rattle.buckets.specs.Kinds.{due}
 use Rattle.buckets.specs.Spend.{funds, allowance}
 use Rattle.buckets.specs.Holding.{paid}
-use Rattle.ledger.specs.Ledger.{Ledger, used, counter, next_charge}
+use Rattle.ledger.specs.Ledger.{Ledger, used, next_charge}
 use Rattle.ledger.specs.Ledger.Fact.{Use}
-use Rattle.ledger.specs.Pricing.{cycle_at, validity_of}
+use Rattle.ledger.specs.Pricing.{place_at, validity_of}
 use Rattle.ledger.specs.Balance.{buckets_at}
 use Rattle.ledger.specs.Settlement.{price_of, due_of, charge_facts, use_of, passes}
 
 abbrev pub untagged : UnitCount → List UsedPart
 untagged units = record { units = record { 0 = units }; change = None } ∷ []
 
--- what an event's units cost, where so many blocks are covered: they start blocks from no use on,
--- at the period of the moment, from the group's counter in the cycle on
-abbrev pub event_price : Shelf → Moment → GroupId → BlockCount → UnitCount → Ledger → Rated
-event_price b t group covered units ledger =
-    price_of b t group None 0 (counter (cycle_at b group) group (cycle_at b group t) ledger)
-    covered (untagged units)
+-- of a group at a moment
+module _ (b : Shelf) (t : Moment) (group : GroupId) where
+  -- what an event's units cost, where so many blocks are covered: they start blocks from no use on,
+  -- at the period of the moment, from the group's counter in the cycle on
+  abbrev pub event_price : BlockCount → UnitCount → Ledger → Rated
+  event_price covered units ledger =
+      price_of b t group None 0 (place_at b t group ledger) covered (untagged units)
 
--- what they cost beside the allowance
-abbrev pub rest_price : Shelf → Moment → GroupId → UnitCount → Ledger → Rated
-rest_price b t group units ledger =
-    event_price b t group (allowance group t (buckets_at (validity_of b) t ledger)) units ledger
+  -- what they cost beside the allowance
+  abbrev pub rest_price : UnitCount → Ledger → Rated
+  rest_price units ledger =
+      event_price (allowance group t (buckets_at (validity_of b) t ledger)) units ledger
 
--- the eligible buckets have this price
-abbrev pub is_covered : Shelf → Moment → GroupId → UnitCount → Ledger → Bool
-is_covered b t group units ledger =
-    nat_le (rest_price b t group units ledger).amount.0
-    (funds group t (buckets_at (validity_of b) t ledger))
+  -- the eligible buckets have this price
+  abbrev pub is_covered : UnitCount → Ledger → Bool
+  is_covered units ledger = nat_le (rest_price units ledger).amount.0
+      (funds group t (buckets_at (validity_of b) t ledger))
 
 abbrev pub charged_use : (Moment → Seconds) → Moment → SessionName → GroupId → UnitCount →
     BlockCount → Due → Ledger → Ledger
@@ -48,15 +48,17 @@ charged_use v t session group units blocks due ledger =
     rows : List BucketRow
     rows = buckets_at v t ledger
 
--- the ledger with a debit that is covered
-abbrev pub debited : Shelf → Moment → SessionName → GroupId → UnitCount → Ledger → Ledger
-debited b t session group units ledger =
-    charged_use (validity_of b) t session group units (rest_price b t group units ledger).blocks
-    (due_of (rest_price b t group units ledger)) ledger
+module _ (b : Shelf) (t : Moment) (session : SessionName) (group : GroupId) (units : UnitCount)
+  where
+    -- the ledger with a debit that is covered
+    abbrev pub debited : Ledger → Ledger
+    debited ledger = charged_use (validity_of b) t session group units price.blocks (due_of price)
+        ledger
+      where
+        price : Rated
+        price = rest_price b t group units ledger
 
--- a stored number would pass its limit
-abbrev pub debit_passes : Shelf → Moment → SessionName → GroupId → UnitCount → Ledger → Bool
-debit_passes b t session group units ledger =
-    passes (used session group ledger) units
-    (counter (cycle_at b group) group (cycle_at b group t) ledger)
-    (rest_price b t group units ledger).blocks (next_charge ledger)
+    -- a stored number would pass its limit
+    abbrev pub debit_passes : Ledger → Bool
+    debit_passes ledger = passes (used session group ledger) units (place_at b t group ledger)
+        (rest_price b t group units ledger).blocks (next_charge ledger)

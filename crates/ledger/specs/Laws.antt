@@ -4,8 +4,10 @@ use Rattle.std.specs.Prelude.{◌≡◌, ◌≤◌, ◌&&◌, Bool, not, ◌+◌
 use Rattle.units.specs.Words.{Moment, Seconds, GroupId, UnitCount, BlockCount}
 use Rattle.identifiers.specs.Words.{SessionName}
 use Rattle.buckets.specs.Row.{BucketRow, IsBalanced, with_end, with_release}
-use Rattle.ledger.specs.Ledger.{Ledger, is_live, held, Fact, counts as counts_of, test_of, ends_of}
-use Rattle.ledger.specs.Ledger.{any, hold_of, next_charge}
+use Rattle.ledger.specs.Ledger.{Ledger, is_live, held, Fact, counts as counts_of, test_of}
+use Rattle.ledger.specs.Parts.{ends_of}
+use Rattle.ledger.specs.Ledger.{next_charge}
+use Rattle.ledger.specs.Parts.{any, hold_of}
 use Rattle.ledger.specs.Balance.{bucket_at, buckets_at}
 use Rattle.buckets.specs.Words.{BucketNumber, BucketAmount}
 use Rattle.buckets.specs.declared.kind.Due.{Due}

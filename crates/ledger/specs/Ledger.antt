@@ -149,9 +149,9 @@ abbrev pub newest : {A : Type 0} → (Dated → Option A) → Ledger → Option 
 newest f [] = None
 newest f (d ∷ older) = or_else (f d) (newest f older)
 
-abbrev pub any : (Fact → Bool) → Ledger → Bool
+abbrev pub any : (Dated → Bool) → Ledger → Bool
 any p [] = false
-any p (d ∷ older) = p d.fact || any p older
+any p (d ∷ older) = p d || any p older
 
 -- ---- reading what a fact counts
 
@@ -172,138 +172,88 @@ either (Some a) None = a
 either None (Some b) = b
 either (Some a) (Some b) = a || b
 
--- ---- the account itself
+-- the sum of a number of all that facts count of a kind
+abbrev pub sum_of : {A : Type 0} → (Counts → Option A) → (A → ℕ) → Ledger → ℕ
+sum_of what f ledger = total (λ d. number_of f (what (counts d.fact))) ledger
 
-abbrev pub bar_in : Dated → Option Bool
-bar_in d = (counts d.fact).bar
+-- ---- the account itself
 
 -- whether the account is barred: its last bar decides
 abbrev pub is_barred : Ledger → Bool
-is_barred ledger = unwrap_or (newest bar_in ledger) false
+is_barred ledger = unwrap_or (newest (λ d. (counts d.fact).bar) ledger) false
 
 -- ---- buckets
 
-abbrev pub paid_by : BucketNumber → ChargeOf → BucketAmount
-paid_by n c = if c.bucket == n then c.amount else 0
-
-abbrev pub charge_to : BucketNumber → Fact → BucketAmount
-charge_to n f = number_of (paid_by n) (counts f).charge
-
 -- all charges to a bucket
 abbrev pub charged : BucketNumber → Ledger → BucketAmount
-charged n ledger = total (λ d. charge_to n d.fact) ledger
-
-abbrev pub credits_in : Fact → ℕ
-credits_in f = number_of (λ c. 1) (counts f).credit
+charged n ledger = sum_of (λ c. c.charge) (λ x. if x.bucket == n then x.amount else 0) ledger
 
 -- the number of the next bucket
 abbrev pub next_bucket : Ledger → BucketNumber
-next_bucket ledger = total (λ d. credits_in d.fact) ledger + 1
+next_bucket ledger = sum_of (λ c. c.credit) (λ x. 1) ledger + 1
 
 -- ---- use
 
-abbrev pub is_use_of : SessionName → GroupId → UseOf → Bool
-is_use_of s g u = is_same u.session s && u.group == g
-
-abbrev pub units_by : SessionName → GroupId → UseOf → UnitCount
-units_by s g u = if is_use_of s g u then u.units else 0
-
-abbrev pub units_in : SessionName → GroupId → Fact → UnitCount
-units_in s g f = number_of (units_by s g) (counts f).usage
-
--- a session's use of a group so far
-abbrev pub used : SessionName → GroupId → Ledger → UnitCount
-used s g ledger = total (λ d. units_in s g d.fact) ledger
-
-abbrev pub blocks_by : GroupId → UseOf → BlockCount
-blocks_by g u = if u.group == g then u.blocks else 0
-
-abbrev pub blocks_in : GroupId → Fact → BlockCount
-blocks_in g f = number_of (blocks_by g) (counts f).usage
-
--- the account's counter of a group in a cycle: the blocks of the uses whose moments lie in it
-abbrev pub counter : (Moment → CycleNumber) → GroupId → CycleNumber → Ledger → Place
-counter cycle_at g c ledger =
-    total (λ d. if cycle_at d.at == c then blocks_in g d.fact else 0) ledger
-
-abbrev pub uses_in : Fact → ℕ
-uses_in f = number_of (λ u. 1) (counts f).usage
-
 -- the number of the next charge row: each use is one
 abbrev pub next_charge : Ledger → ChargeNumber
-next_charge ledger = total (λ d. uses_in d.fact) ledger + 1
+next_charge ledger = sum_of (λ c. c.usage) (λ u. 1) ledger + 1
+
+-- of a group in a cycle, whose number at a moment this is
+module _ (cycle_at : Moment → CycleNumber) (group : GroupId) (cycle : CycleNumber) where
+  -- the account's counter: the blocks of the uses whose moments lie in the cycle
+  abbrev pub counter : Ledger → Place
+  counter ledger = total (λ d. if cycle_at d.at == cycle
+      then number_of (λ u. if u.group == group then u.blocks else 0) (counts d.fact).usage else 0)
+      ledger
+
+  -- the account has a use of the group in the cycle
+  abbrev pub has_counter : Ledger → Bool
+  has_counter ledger = any (λ d. test_of (λ u. u.group == group && cycle_at d.at == cycle)
+      (counts d.fact).usage) ledger
 
 -- ---- sessions
-
-abbrev pub touched_at : SessionName → Moment → Option SessionName → Option Moment
-touched_at s t touch = option_and_then (λ x. if is_same x s then Some t else None) touch
-
-abbrev pub touch_in : SessionName → Dated → Option Moment
-touch_in s d = touched_at s d.at (counts d.fact).touch
-
--- the moment of a session's last touch
-abbrev pub last_touch : SessionName → Ledger → Option Moment
-last_touch s ledger = newest (touch_in s) ledger
-
-abbrev pub closes : SessionName → Fact → Bool
-closes s f = test_of (λ x. is_same x s) (counts f).close
-
-abbrev pub is_closed : SessionName → Ledger → Bool
-is_closed s ledger = any (closes s) ledger
-
--- a session that was touched lives until two validity times after its last touch
-abbrev pub is_within : (Moment → Seconds) → Moment → Option Moment → Bool
-is_within v t None = false
-is_within v t (Some at) = nat_lt t (at + 2 * v at)
-
--- a live session: it has a touch, wasn't closed, and its supervision time is not over (profile, in
--- the place of the session supervision timer Tcc of RFC 8506 section 13)
-abbrev pub is_live : (Moment → Seconds) → Moment → Ledger → SessionName → Bool
-is_live v t ledger s = is_within v t (last_touch s ledger) && not (is_closed s ledger)
 
 pub record Recording : Type 0 where
   pub number : CcRequestNumber
   pub at : Moment
 
-abbrev pub recorded_at : SessionName → Moment → Option RequestOf → Option Recording
-recorded_at s t request = option_and_then
-    (λ r. if is_same r.session s then Some (record { number = r.number; at = t }) else None)
-    request
+module _ (session : SessionName) where
+  -- the moment of a session's last touch
+  abbrev pub last_touch : Ledger → Option Moment
+  last_touch ledger = newest (λ d. option_and_then
+      (λ x. if is_same x session then Some d.at else None) (counts d.fact).touch) ledger
 
-abbrev pub recording_in : SessionName → Dated → Option Recording
-recording_in s d = recorded_at s d.at (counts d.fact).request
+  abbrev pub is_closed : Ledger → Bool
+  is_closed ledger = any (λ d. test_of (λ x. is_same x session) (counts d.fact).close) ledger
 
--- a session's last accepted request
-abbrev pub last_recording : SessionName → Ledger → Option Recording
-last_recording s ledger = newest (recording_in s) ledger
+  -- a session's last accepted request
+  abbrev pub last_recording : Ledger → Option Recording
+  last_recording ledger = newest (λ d. option_and_then (λ r. if is_same r.session session
+      then Some (record { number = r.number; at = d.at }) else None) (counts d.fact).request) ledger
+
+-- a live session: it has a touch, wasn't closed, and its supervision time, two validity times after
+-- its last touch, is not over (profile, in the place of the session supervision timer Tcc of RFC
+-- 8506 section 13)
+abbrev pub is_live : (Moment → Seconds) → Moment → Ledger → SessionName → Bool
+is_live v t ledger s = is_within (last_touch s ledger) && not (is_closed s ledger)
+  where
+    is_within : Option Moment → Bool
+    is_within None = false
+    is_within (Some at) = nat_lt t (at + 2 * v at)
 
 -- ---- reservations
-
-abbrev pub ends_of : SessionName → GroupId → EndOf → Bool
-ends_of s g e = is_same s e.session && g == e.group
-
-abbrev pub but_ended : Option EndOf → (SessionName → GroupId → Bool) → SessionName → GroupId → Bool
-but_ended None p = p
-but_ended (Some e) p = λ s g. p s g && not (ends_of s g e)
-
--- which reservations' holds count, seen from before a fact: none that it ends
-abbrev pub counts_before : Fact → (SessionName → GroupId → Bool) → SessionName → GroupId → Bool
-counts_before f p = but_ended (counts f).end p
-
-abbrev pub holds_by : (SessionName → GroupId → Bool) → BucketNumber → HoldOf → BucketAmount
-holds_by p n h = if p h.session h.group && h.bucket == n then h.amount else 0
-
-abbrev pub hold_of : (SessionName → GroupId → Bool) → BucketNumber → Fact → BucketAmount
-hold_of p n f = number_of (holds_by p n) (counts f).hold
 
 -- what reservations hold of a bucket: those that count, and that no later fact ended
 abbrev pub held : (SessionName → GroupId → Bool) → BucketNumber → Ledger → BucketAmount
 held p n [] = 0
-held p n (d ∷ older) = hold_of p n d.fact + held (counts_before d.fact p) n older
-
--- one reservation alone
-abbrev pub only : SessionName → GroupId → SessionName → GroupId → Bool
-only session group s g = is_same s session && g == group
+held p n (d ∷ older) =
+    number_of (λ h. if p h.session h.group && h.bucket == n then h.amount else 0)
+    (counts d.fact).hold
+    + held (but_ended (counts d.fact).end p) n older
+  where
+    but_ended : Option EndOf → (SessionName → GroupId → Bool) → SessionName → GroupId → Bool
+    but_ended None q = q
+    but_ended (Some e) q = λ s g. q s g && not (is_same s e.session && g == e.group)
 
 -- what is noted of the grant of a session's group: that it was made, or that it is over
 pub record Telling : Type 0 where
@@ -316,48 +266,34 @@ telling (Some x) e = Some (record { session = x.session; group = x.group; grant 
 telling None (Some e) = Some (record { session = e.session; group = e.group; grant = None })
 telling None None = None
 
-abbrev pub told_of : {A : Type 0} → (GrantOf → A) → SessionName → GroupId → Option Telling →
-    Option (Option A)
-told_of read s g o = option_and_then
-    (λ x. if is_same x.session s && x.group == g then Some (option_map read x.grant) else None) o
-
 -- of the grant of a session's group this; nothing of it where it is over
 abbrev pub tells : {A : Type 0} → (GrantOf → A) → SessionName → GroupId → Dated → Option (Option A)
-tells read s g d = told_of read s g (telling (counts d.fact).grant (counts d.fact).end)
-
-abbrev pub grant_in : SessionName → GroupId → Dated → Option (Option Terms)
-grant_in s g d = tells (λ x. x.terms) s g d
+tells read s g d = option_and_then
+    (λ x. if is_same x.session s && x.group == g then Some (option_map read x.grant) else None)
+    (telling (counts d.fact).grant (counts d.fact).end)
 
 abbrev pub inner : {A : Type 0} → Option (Option A) → Option A
 inner None = None
 inner (Some x) = x
 
--- the terms of a session's grant of a group that no later fact ended
-abbrev pub open_grant : SessionName → GroupId → Ledger → Option Terms
-open_grant s g ledger = inner (newest (grant_in s g) ledger)
+module _ (session : SessionName) (group : GroupId) where
+  -- this reservation alone
+  abbrev pub only : SessionName → GroupId → Bool
+  only s g = is_same s session && g == group
 
-abbrev pub is_grant_of : SessionName → GroupId → GrantOf → Bool
-is_grant_of s g x = is_same x.session s && x.group == g
+  abbrev pub is_use_of : UseOf → Bool
+  is_use_of u = is_same u.session session && u.group == group
 
-abbrev pub names_group : SessionName → GroupId → Fact → Bool
-names_group s g f = either (option_map (is_use_of s g) (counts f).usage)
-    (option_map (is_grant_of s g) (counts f).grant)
+  -- a session's use of a group so far
+  abbrev pub used : Ledger → UnitCount
+  used ledger = sum_of (λ c. c.usage) (λ u. if is_use_of u then u.units else 0) ledger
 
--- the session has a grant or a use of the group
-abbrev pub has_group : SessionName → GroupId → Ledger → Bool
-has_group s g ledger = any (names_group s g) ledger
+  -- the terms of a session's grant of a group that no later fact ended
+  abbrev pub open_grant : Ledger → Option Terms
+  open_grant ledger = inner (newest (tells (λ x. x.terms) session group) ledger)
 
--- a use at a moment is of the group in the cycle
-abbrev pub is_use_in : (Moment → CycleNumber) → GroupId → CycleNumber → Moment → UseOf → Bool
-is_use_in cycle_at g c t u = u.group == g && cycle_at t == c
-
-abbrev pub counts_group : (Moment → CycleNumber) → GroupId → CycleNumber → Dated → Bool
-counts_group cycle_at g c d = test_of (is_use_in cycle_at g c d.at) (counts d.fact).usage
-
-abbrev pub any_dated : (Dated → Bool) → Ledger → Bool
-any_dated p [] = false
-any_dated p (d ∷ older) = p d || any_dated p older
-
--- the account has a use of the group in the cycle
-abbrev pub has_counter : (Moment → CycleNumber) → GroupId → CycleNumber → Ledger → Bool
-has_counter cycle_at g c ledger = any_dated (counts_group cycle_at g c) ledger
+  -- the session has a grant or a use of the group
+  abbrev pub has_group : Ledger → Bool
+  has_group ledger = any (λ d. either (option_map is_use_of (counts d.fact).usage)
+      (option_map (λ x. is_same x.session session && x.group == group) (counts d.fact).grant))
+      ledger

@@ -1,5 +1,6 @@
 pub mod Words
 pub mod Ledger
+pub mod Parts
 pub mod Pricing
 pub mod Windows
 pub mod Balance

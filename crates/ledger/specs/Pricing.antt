@@ -12,6 +12,7 @@ use Rattle.calendar.specs.declared.week.Period.{Period}
 use Rattle.tariffs.specs.Books.{Book}
 use Rattle.shelves.specs.Shelves.{Shelf, book_at, number_at}
 use Rattle.ledger.specs.declared.terms.Terms.{Terms}
+use Rattle.ledger.specs.Ledger.{Ledger, counter}
 use Rattle.tariffs.specs.Tariffs.{GroupTariff}
 use Rattle.tariffs.specs.GroupPrices.{GroupPrices, prices_in}
 use Rattle.tariffs.specs.declared.group_prices.Side.TheVariants.{Before, After}
@@ -43,6 +44,10 @@ cycle_at s g t = cycle_with (book_at s t).calendar.zone (tariff_of (book_at s t)
 -- the tariff of a rating group at a moment
 abbrev pub tariff_at : Shelf → Moment → GroupId → Option GroupTariff
 tariff_at s t g = tariff_of (book_at s t) g
+
+-- where a group's counter is, in the cycle at a moment
+abbrev pub place_at : Shelf → Moment → GroupId → Ledger → Place
+place_at s t g ledger = counter (cycle_at s g) g (cycle_at s g t) ledger
 
 -- ---- the validity of a grant
 

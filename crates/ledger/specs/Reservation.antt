@@ -9,11 +9,11 @@ use Rattle.buckets.specs.declared.kind.Due.{Due}
 use Rattle.buckets.specs.Kinds.{due}
 use Rattle.buckets.specs.Spend.{funds, allowance}
 use Rattle.buckets.specs.Holding.{holds_of}
-use Rattle.ledger.specs.Ledger.{Ledger, HoldOf, GrantOf, counter}
+use Rattle.ledger.specs.Ledger.{Ledger, HoldOf, GrantOf}
 use Rattle.ledger.specs.Ledger.Fact.{Grant, Hold}
 use Rattle.shelves.specs.Shelves.{Shelf}
 use Rattle.rating.specs.declared.grant.Grant.{Grant as RatedGrant}
-use Rattle.ledger.specs.Pricing.{tariff_at, cycle_at, periods_at, terms_at, grant_with}
+use Rattle.ledger.specs.Pricing.{tariff_at, place_at, periods_at, terms_at, grant_with}
 use Rattle.ledger.specs.Pricing.{validity_of}
 use Rattle.ledger.specs.Balance.{buckets_at}
 
@@ -34,7 +34,7 @@ grant_at b t session group units ledger = record {
   group = group;
   terms = terms_at b t;
   units = units;
-  counter = counter (cycle_at b group) group (cycle_at b group t) ledger;
+  counter = place_at b t group ledger;
 }
 
 -- the ledger with a grant
@@ -52,6 +52,6 @@ held_due g = due g.amount.0 g.allowed.0
 abbrev pub grant_for : Shelf → Moment → GroupId → UnitCount → Option UnitCount → Ledger → RatedGrant
 grant_for b t group before requested ledger =
     grant_with (tariff_at b t group) (periods_at b t) before
-    (counter (cycle_at b group) group (cycle_at b group t) ledger) requested
+    (place_at b t group ledger) requested
     (funds group t (buckets_at (validity_of b) t ledger))
     (allowance group t (buckets_at (validity_of b) t ledger))

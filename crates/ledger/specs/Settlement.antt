@@ -19,9 +19,9 @@ use Rattle.buckets.specs.Kinds.{due}
 use Rattle.buckets.specs.declared.kind.BucketKind.TheVariants.{Blocks}
 use Rattle.buckets.specs.Spend.{allowance}
 use Rattle.buckets.specs.Holding.{held_sum, paid, uncollected}
-use Rattle.ledger.specs.Ledger.{Ledger, UseOf, used, counter, open_grant, next_charge}
+use Rattle.ledger.specs.Ledger.{Ledger, UseOf, used, open_grant, next_charge}
 use Rattle.ledger.specs.Ledger.Fact.{Use, Charge, End}
-use Rattle.ledger.specs.Pricing.{cycle_at, terms_now, rated_with, validity_of}
+use Rattle.ledger.specs.Pricing.{terms_now, rated_with, validity_of, place_at}
 use Rattle.ledger.specs.Balance.{buckets_at}
 use Rattle.ledger.specs.Balance.{holds_at}
 
@@ -43,23 +43,9 @@ abbrev pub price_of : Shelf → Moment → GroupId → Option Terms → UnitCoun
 price_of b t group granted used place covered used_parts =
     price_by b group (unwrap_or granted (terms_now b t)) used place covered used_parts
 
--- the blocks that may cover a report: those that its reservation holds, and the allowance
-abbrev pub coverable : (Moment → Seconds) → Moment → SessionName → GroupId → Ledger → BlockCount
-coverable v t session group ledger =
-    held_sum Blocks (holds_at v t session group ledger) (buckets_at v t ledger)
-    + allowance group t (buckets_at v t ledger)
-
 -- what is charged for a report: the price of its blocks that nothing covers, and those covered
 abbrev pub due_of : Rated → Due
 due_of r = due r.amount.0 r.covered.0
-
--- the price of a report of a live session: its grant is its reservation, its use goes on after the
--- session's use so far, and its blocks are counted from the group's counter in the cycle on
-abbrev pub report_price : Shelf → Moment → SessionName → GroupId → List UsedPart → Ledger → Rated
-report_price b t session group used_parts ledger =
-    price_of b t group (open_grant session group ledger) (used session group ledger)
-    (counter (cycle_at b group) group (cycle_at b group t) ledger)
-    (coverable (validity_of b) t session group ledger) used_parts
 
 abbrev pub charge_facts : Moment → List HeldAmount → Ledger
 charge_facts t [] = []
@@ -77,40 +63,6 @@ use_of session group units blocks due uncollected = record {
   uncollected = uncollected;
 }
 
--- the ledger with a settlement
-abbrev pub settled : (Moment → Seconds) → Moment → SessionName → GroupId → UnitCount → BlockCount →
-    Due → Ledger → Ledger
-settled v t session group units blocks due ledger =
-    record { at = t; fact = End session group }
-    ∷ record {
-      at = t;
-      fact = Use (use_of session group units blocks due
-          (uncollected holds group t due.money rows));
-    }
-    ∷ charge_facts t (parts (paid holds group t due rows) rows) ++ ledger
-  where
-    rows : List BucketRow
-    rows = buckets_at v t ledger
-
-    holds : List HeldAmount
-    holds = holds_at v t session group ledger
-
--- the ledger with a reported group's settlement; a group that is named without a report only ends
--- its reservation
-abbrev pub settled_by : Shelf → Moment → SessionName → GroupId → List UsedPart → Ledger → Ledger
-settled_by b t session group [] ledger = record { at = t; fact = End session group } ∷ ledger
-settled_by b t session group (p ∷ ps) ledger =
-    settled (validity_of b) t session group (reported (p ∷ ps))
-    (report_price b t session group (p ∷ ps) ledger).blocks
-    (due_of (report_price b t session group (p ∷ ps) ledger)) ledger
-
--- what of a report's price neither its holds nor any eligible bucket pays
-abbrev pub missing : Shelf → Moment → SessionName → GroupId → List UsedPart → Ledger → Micros
-missing b t session group used_parts ledger =
-    uncollected (holds_at (validity_of b) t session group ledger) group t
-    (report_price b t session group used_parts ledger).amount.0
-    (buckets_at (validity_of b) t ledger)
-
 -- a stored number would pass its limit: the session's use, the group's counter, or the charge row's
 -- number
 abbrev pub passes : UnitCount → UnitCount → Place → BlockCount → ChargeNumber → Bool
@@ -118,19 +70,69 @@ passes before units count blocks charge =
     nat_lt most_used (before + units)
     || (nat_lt most_counted (count + blocks) || nat_lt greatest_number charge)
 
-abbrev pub passes_limit : Shelf → Moment → SessionName → GroupId → List UsedPart → Ledger → Bool
-passes_limit b t session group [] ledger = false
-passes_limit b t session group (p ∷ ps) ledger =
-    passes (used session group ledger) (reported (p ∷ ps))
-    (counter (cycle_at b group) group (cycle_at b group t) ledger)
-    (report_price b t session group (p ∷ ps) ledger).blocks (next_charge ledger)
+-- of a session's group, as of a moment by these validities
+module _ (v : Moment → Seconds) (t : Moment) (session : SessionName) (group : GroupId) where
+  -- the blocks that may cover a report: those that its reservation holds, and the allowance
+  abbrev pub coverable : Ledger → BlockCount
+  coverable ledger =
+      held_sum Blocks (holds_at v t session group ledger) (buckets_at v t ledger)
+      + allowance group t (buckets_at v t ledger)
+
+  -- the ledger with a settlement
+  abbrev pub settled : UnitCount → BlockCount → Due → Ledger → Ledger
+  settled units blocks due ledger =
+      record { at = t; fact = End session group }
+      ∷ record {
+        at = t;
+        fact = Use (use_of session group units blocks due
+            (uncollected holds group t due.money rows));
+      }
+      ∷ charge_facts t (parts (paid holds group t due rows) rows) ++ ledger
+    where
+      rows : List BucketRow
+      rows = buckets_at v t ledger
+
+      holds : List HeldAmount
+      holds = holds_at v t session group ledger
+
+-- of a session's group at a moment
+module _ (b : Shelf) (t : Moment) (session : SessionName) (group : GroupId) where
+  -- the price of a report of a live session: its grant is its reservation, its use goes on after
+  -- the session's use so far, and its blocks are counted from the group's counter in the cycle on
+  abbrev pub report_price : List UsedPart → Ledger → Rated
+  report_price used_parts ledger =
+      price_of b t group (open_grant session group ledger) (used session group ledger)
+      (place_at b t group ledger) (coverable (validity_of b) t session group ledger) used_parts
+
+  -- the ledger with a reported group's settlement; a group that is named without a report only ends
+  -- its reservation
+  abbrev pub settled_by : List UsedPart → Ledger → Ledger
+  settled_by [] ledger = record { at = t; fact = End session group } ∷ ledger
+  settled_by (p ∷ ps) ledger =
+      settled (validity_of b) t session group (reported (p ∷ ps)) price.blocks (due_of price) ledger
+    where
+      price : Rated
+      price = report_price (p ∷ ps) ledger
+
+  -- what of a report's price neither its holds nor any eligible bucket pays
+  abbrev pub missing : List UsedPart → Ledger → Micros
+  missing used_parts ledger =
+      uncollected (holds_at (validity_of b) t session group ledger) group t
+      (report_price used_parts ledger).amount.0 (buckets_at (validity_of b) t ledger)
+
+  -- a settlement would pass the limit of a stored number
+  abbrev pub passes_limit : List UsedPart → Ledger → Bool
+  passes_limit [] ledger = false
+  passes_limit (p ∷ ps) ledger =
+      passes (used session group ledger) (reported (p ∷ ps)) (place_at b t group ledger)
+      (report_price (p ∷ ps) ledger).blocks (next_charge ledger)
 
 -- the same, where so many charges are numbered before the report's own
 abbrev pub passes_after : ℕ → Shelf → Moment → SessionName → GroupId → List UsedPart → Ledger → Bool
 passes_after charges b t session group [] ledger = false
 passes_after charges b t session group (p ∷ ps) ledger =
     passes (used session group ledger) (reported (p ∷ ps))
-    (counter (cycle_at b group) group (cycle_at b group t) ledger)
+    (place_at b t group ledger)
     (report_price b t session group (p ∷ ps) ledger).blocks
     (next_charge ledger + charges)
 

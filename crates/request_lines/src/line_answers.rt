@@ -4,6 +4,7 @@ ghost use Rattle.std.specs.Prelude.{◌≡◌, ◌≤◌, ◌+◌, ◌++◌, Err
 ghost use Rattle.std.specs.Prelude.{Some, length, min};
 ghost use Rattle.texts.specs.declared.streams.StreamFault.{StreamFault};
 ghost use Rattle.charging.specs.Continued.{ForEachList};
+ghost use Rattle.charging.specs.Runs.{RunsOver};
 ghost use Rattle.keepers.specs.Faults.{max_failures};
 ghost use Rattle.keepers.specs.declared.fault.StoreFault.TheVariants.{Store as StoreFailed};
 ghost use Rattle.keepers.specs.Tables.{Tables};
@@ -92,10 +93,23 @@ fn run_opened<K: Keeper>(
     ensures cause { result.fault ≡ Some StoreFailed →
         min ((K.seen keeper.old).failed + 1) max_failures ≤ (K.seen keeper.new).failed }
 {
-    let Run { answers: _, fault } = run(alloc, keeper, shelf, opening);
+    let Run { answers: _, fault } = run_each(alloc, keeper, shelf, opening);
     if fault.is_some() {
         let answers = Vec::new(alloc);
         return Run { answers, fault };
     }
-    run(alloc, keeper, shelf, requests)
+    run_each(alloc, keeper, shelf, requests)
+}
+
+/// Runs commands. What it leaves is said of each list of accepted commands whose tables the keeper
+/// held.
+fn run_each<K: Keeper>(
+    alloc: Global,
+    keeper: &mut K,
+    shelf: &TariffShelf,
+    commands: Vec<DatedCommand>,
+) -> Run
+    ensures { RunsOver shelf.now commands.items (K.seen keeper.old) (K.seen keeper.new) result }
+{
+    run(alloc, keeper, shelf, commands)
 }

@@ -12,7 +12,8 @@ use Rattle.buckets.specs.Share.{parts}
 use Rattle.buckets.specs.Holding.{paid, uncollected, holds_of}
 use Rattle.ledger.specs.declared.charge.ChargeRow.{ChargeRow}
 use Rattle.reserving.specs.declared.settle.Settled.{Settled}
-use Rattle.ledger.specs.Ledger.{Ledger, uses_in, next_charge}
+use Rattle.ledger.specs.Ledger.{Ledger, next_charge}
+use Rattle.ledger.specs.Parts.{uses_in}
 use Rattle.ledger.specs.Ledger.Fact.{Grant, End, Use}
 use Rattle.ledger.specs.Charges.{charge_of, charge_rows}
 use Rattle.ledger.specs.Requests.{recorded, touched, closed, credited}

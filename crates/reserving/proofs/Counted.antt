@@ -6,10 +6,13 @@ use Rattle.std.specs.Prelude.{◌==◌, ◌&&◌, ◌||◌, if◌then◌else◌,
 use Rattle.std.proofs.lemmas.Bool.{or_parts}
 use Rattle.ledger.specs.Ledger.{Fact, Ledger, Recording, Counts, CreditOf, GrantOf, HoldOf, EndOf}
 use Rattle.ledger.specs.Ledger.{UseOf, ChargeOf, RequestOf, counts, number_of, test_of, either}
-use Rattle.ledger.specs.Ledger.{total, newest, or_else, inner, is_same, paid_by, is_use_of}
-use Rattle.ledger.specs.Ledger.{units_by, blocks_by, is_use_in, is_grant_of, holds_by, but_ended}
-use Rattle.ledger.specs.Ledger.{told_of, telling, touched_at, recorded_at, names_group, units_in}
-use Rattle.ledger.specs.Ledger.{credits_in, uses_in, grant_in, charged, held, used, has_group}
+use Rattle.ledger.specs.Ledger.{total, newest, or_else, inner, is_same, is_use_of}
+use Rattle.ledger.specs.Parts.{paid_by}
+use Rattle.ledger.specs.Parts.{units_by, blocks_by, is_use_in, is_grant_of, holds_by, but_ended}
+use Rattle.ledger.specs.Ledger.{telling}
+use Rattle.ledger.specs.Parts.{told_of, touched_at, recorded_at, names_group, units_in}
+use Rattle.ledger.specs.Ledger.{charged, held, used, has_group}
+use Rattle.ledger.specs.Parts.{credits_in, uses_in, grant_in}
 use Rattle.ledger.specs.Ledger.{counter, has_counter, last_touch, last_recording, is_closed}
 use Rattle.ledger.specs.Balance.{with_credit, credits}
 use Rattle.ledger.specs.SoundLedger.{IsSoundLedger}

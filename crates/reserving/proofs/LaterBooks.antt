@@ -2,9 +2,12 @@
 use Rattle.std.proofs.Common.{◌≡◌, ℕ, ◌+◌, ◌*◌, ◌<◌, Bool, true, false, List, [], ◌∷◌, refl, sym}
 use Rattle.std.proofs.Common.{ap, subst, ◌∙◌, Option, Some, None}
 use Rattle.std.specs.Prelude.{◌==◌, ◌&&◌, ◌||◌, not, nat_lt, if◌then◌else◌, is_some, map}
-use Rattle.ledger.specs.Ledger.{Ledger, UseOf, counts, test_of, is_same, last_touch, touched_at}
-use Rattle.ledger.specs.Ledger.{is_closed, is_within, is_live, or_else, charged, held, counter}
-use Rattle.ledger.specs.Ledger.{blocks_in, has_counter, is_use_in, last_recording, has_group, only}
+use Rattle.ledger.specs.Ledger.{Ledger, UseOf, counts, test_of, is_same, last_touch}
+use Rattle.ledger.specs.Parts.{touched_at}
+use Rattle.ledger.specs.Ledger.{is_closed, is_live, or_else, charged, held, counter}
+use Rattle.ledger.specs.Parts.{is_within}
+use Rattle.ledger.specs.Ledger.{has_counter, last_recording, has_group, only}
+use Rattle.ledger.specs.Parts.{blocks_in, is_use_in}
 use Rattle.ledger.specs.Ledger.{open_grant, used}
 use Rattle.ledger.specs.Balance.{buckets_at, balance_of, credits}
 use Rattle.buckets.specs.Share.{parts}

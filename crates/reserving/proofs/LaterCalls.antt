@@ -19,7 +19,8 @@ use Rattle.shelves.specs.Shelves.{Shelf, book_at, number_at, tariff_in, count}
 use Rattle.shelves.specs.Laws.{GoesOnFrom}
 use Rattle.shelves.proofs.Begun.{begun_few}
 use Rattle.ledger.specs.declared.terms.Terms.{Terms}
-use Rattle.ledger.specs.Ledger.{Fact, Ledger, GrantOf, EndOf, counts, is_same, grant_in, told_of}
+use Rattle.ledger.specs.Ledger.{Fact, Ledger, GrantOf, EndOf, counts, is_same}
+use Rattle.ledger.specs.Parts.{grant_in, told_of}
 use Rattle.ledger.specs.Ledger.{telling, newest, or_else, inner, open_grant, used, counter, held}
 use Rattle.ledger.specs.Ledger.{only, next_charge}
 use Rattle.ledger.specs.Ledger.Fact.{Grant, End, Use}

@@ -11,8 +11,10 @@ use Rattle.shelves.specs.Shelves.{Shelf, tariff_in}
 use Rattle.rating.specs.declared.grant.Periods.{Periods}
 use Rattle.rating.specs.declared.report.Rated.{Rated}
 use Rattle.buckets.specs.declared.kind.Due.{Due}
-use Rattle.ledger.specs.Ledger.{Ledger, is_same, used, counter, open_grant, next_charge, uses_in}
-use Rattle.ledger.specs.Ledger.{inner, or_else, newest, grant_in}
+use Rattle.ledger.specs.Ledger.{Ledger, is_same, used, counter, open_grant, next_charge}
+use Rattle.ledger.specs.Parts.{uses_in}
+use Rattle.ledger.specs.Ledger.{inner, or_else, newest}
+use Rattle.ledger.specs.Parts.{grant_in}
 use Rattle.ledger.specs.Pricing.{cycle_at, validity_of, terms_now, rated_with}
 use Rattle.ledger.specs.Settlement.{charge_facts, settled, settled_by, reported, price_of, due_of}
 use Rattle.ledger.specs.Settlement.{coverable, report_price, passes, passes_limit, passes_after}

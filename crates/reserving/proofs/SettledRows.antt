@@ -27,9 +27,12 @@ use Rattle.reserving.specs.declared.session.Counter.{Counter}
 use Rattle.ledger.specs.declared.terms.Terms.{Terms}
 use Rattle.ledger.specs.Ledger.{Dated, Ledger, or_else, open_grant, held, only, used, counter}
 use Rattle.ledger.specs.Ledger.{has_group, has_counter, inner, is_live, is_same, UseOf, GrantOf}
-use Rattle.ledger.specs.Ledger.{EndOf, counts as counts_of, number_of, test_of, blocks_by}
-use Rattle.ledger.specs.Ledger.{is_use_in, told_of, telling, units_in, names_group, grant_in}
-use Rattle.ledger.specs.Ledger.{counts_group, blocks_in, uses_in, credits_in, newest, total}
+use Rattle.ledger.specs.Ledger.{EndOf, counts as counts_of, number_of, test_of}
+use Rattle.ledger.specs.Parts.{blocks_by}
+use Rattle.ledger.specs.Ledger.{telling}
+use Rattle.ledger.specs.Parts.{is_use_in, told_of, units_in, names_group, grant_in}
+use Rattle.ledger.specs.Ledger.{newest, total}
+use Rattle.ledger.specs.Parts.{counts_group, blocks_in, uses_in, credits_in}
 use Rattle.ledger.specs.Ledger.{next_bucket, next_charge}
 use Rattle.ledger.specs.Ledger.Fact.{Charge}
 use Rattle.ledger.specs.Pricing.{cycle_at, validity_of}

@@ -13,8 +13,10 @@ use Rattle.buckets.specs.declared.kind.Due.{Due}
 use Rattle.reserving.specs.declared.session.SessionGroup.{SessionGroup}
 use Rattle.ledger.specs.declared.terms.Terms.{Terms}
 use Rattle.ledger.specs.Ledger.{Ledger, charged, open_grant, held, only, used, counter, has_group}
-use Rattle.ledger.specs.Ledger.{has_counter, inner, is_live, is_same, grant_in, counts_group}
-use Rattle.ledger.specs.Ledger.{blocks_in, next_bucket}
+use Rattle.ledger.specs.Ledger.{has_counter, inner, is_live, is_same}
+use Rattle.ledger.specs.Parts.{grant_in, counts_group}
+use Rattle.ledger.specs.Ledger.{next_bucket}
+use Rattle.ledger.specs.Parts.{blocks_in}
 use Rattle.ledger.specs.Pricing.{cycle_at, validity_of}
 use Rattle.reserving.specs.Keyed.{put}
 use Rattle.ledger.specs.Balance.{credits, balance_of, bucket_at, buckets_at, holds_at}

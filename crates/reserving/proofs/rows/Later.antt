@@ -5,7 +5,8 @@ use Rattle.std.specs.Prelude.{if◌then◌else◌, ◌&&◌, not, nat_lt, option
 use Rattle.std.proofs.lemmas.Bool.Decides.{nat_tests}
 use Rattle.reserving.specs.declared.session.Session.{Session}
 use Rattle.reserving.specs.declared.session.SessionState.TheVariants.{Open, Ended, NeverOpened}
-use Rattle.ledger.specs.Ledger.{Ledger, Recording, is_live, is_within, is_closed, last_touch}
+use Rattle.ledger.specs.Ledger.{Ledger, Recording, is_live, is_closed, last_touch}
+use Rattle.ledger.specs.Parts.{is_within}
 use Rattle.ledger.specs.Ledger.{last_recording}
 use Rattle.reserving.specs.Sessions.{session_at, session_row, is_open, is_live_row}
 use Rattle.reserving.specs.Changes.{lapse}

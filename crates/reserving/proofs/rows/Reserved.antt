@@ -16,9 +16,12 @@ use Rattle.reserving.specs.declared.session.SessionGroup.{SessionGroup}
 use Rattle.reserving.specs.declared.session.Reservation.{Reservation}
 use Rattle.reserving.specs.declared.session.Counter.{Counter}
 use Rattle.ledger.specs.Ledger.{Ledger, or_else, charged, held, only, used, counter, has_group}
-use Rattle.ledger.specs.Ledger.{has_counter, open_grant, inner, is_live, is_within, is_same}
-use Rattle.ledger.specs.Ledger.{is_closed, units_in, names_group, grant_in, counts_group, blocks_in}
-use Rattle.ledger.specs.Ledger.{uses_in, credits_in, newest, last_touch, last_recording}
+use Rattle.ledger.specs.Ledger.{has_counter, open_grant, inner, is_live, is_same}
+use Rattle.ledger.specs.Parts.{is_within}
+use Rattle.ledger.specs.Ledger.{is_closed}
+use Rattle.ledger.specs.Parts.{units_in, names_group, grant_in, counts_group, blocks_in}
+use Rattle.ledger.specs.Ledger.{newest, last_touch, last_recording}
+use Rattle.ledger.specs.Parts.{uses_in, credits_in}
 use Rattle.ledger.specs.Ledger.{next_bucket}
 use Rattle.ledger.specs.Ledger.Fact.{Grant}
 use Rattle.shelves.specs.Shelves.{Shelf}

@@ -1,0 +1,102 @@
+-- What a run of commands promises, on one page: from the shelf of tariff books and the commands
+-- that were accepted before, all answers and all tables follow.
+-- Source: the ledger and its sums: TS 32.296; answers: RFC 8506; what is kept of them: profile.
+use Rattle.std.specs.Prelude.{◌≡◌, ◌≤◌, ◌<◌, ◌+◌, ◌⊎◌, ℕ, List, [], Option, Some, take, length, min}
+use Rattle.std.specs.Prelude.{IfNone, IfSome}
+use Rattle.identifiers.specs.Words.{AccountName}
+use Rattle.shelves.specs.Shelves.{Shelf}
+use Rattle.buckets.specs.Row.{IsBalanced}
+use Rattle.buckets.specs.Spend.{Each}
+use Rattle.ledger.specs.Pricing.{validity_of}
+use Rattle.ledger.specs.Balance.{buckets_at}
+use Rattle.keepers.specs.Faults.{max_failures}
+use Rattle.keepers.specs.Seen.{Seen}
+use Rattle.keepers.specs.Tables.{Head, Tables}
+use Rattle.keepers.specs.declared.fault.StoreFault.{StoreFault}
+use Rattle.keepers.specs.declared.fault.StoreFault.TheVariants.{Store}
+use Rattle.charging.specs.declared.answers.Run.{Run}
+use Rattle.charging.specs.declared.running.DatedCommand.{DatedCommand}
+use Rattle.charging.specs.Accepted.{Accepted, IsInTime}
+use Rattle.charging.specs.Served.{history}
+use Rattle.charging.specs.Runs.{answers_to, after_commands}
+use Rattle.charging.specs.SessionReports.{reports_of}
+use Rattle.charging.specs.Paid.{ArePaid}
+use Rattle.charging.specs.Quotas.{AreQuotasPaid}
+use Rattle.charging.specs.TablesAfter.{tables_after}
+use Rattle.charging.specs.Equations.{AreLists}
+
+-- of each list of accepted commands whose tables these are
+abbrev pub From : Shelf → Tables → (List Accepted → Type 0) → Type 0
+From shelf tables says = (list : List Accepted) → IsInTime list → AreLists tables →
+    tables ≡ tables_after shelf list → says list
+
+-- ---- what is paid
+
+-- each bucket is available, reserved, charged or expired; each use has the price of its report or
+-- of its debit, and what isn't collected of it nobody had; a use within its grant is collected whole
+pub record IsAccountPaid (shelf : Shelf) (a : AccountName) (head : Head) (list : List Accepted)
+    : Type 0 where
+  pub balanced : Each IsBalanced
+      (buckets_at (validity_of shelf) head.as_of (history shelf a list).ledger)
+  pub uses : ArePaid shelf (reports_of shelf a list) (history shelf a list).ledger
+  pub quotas : AreQuotasPaid shelf (history shelf a list).ledger
+
+-- so each account of the tables
+abbrev pub AreAccountsPaid : Shelf → Tables → List Accepted → Type 0
+AreAccountsPaid shelf tables list = (a : AccountName) (head : Head) →
+    (tables.rows a).head ≡ Some head → IsAccountPaid shelf a head list
+
+-- ---- a keeper over a call
+
+-- a store that is clean, or honest, was so before; over an honest one that was clean no other fault
+-- than those that are counted ends the call, and without a fault it is clean again
+pub record Carries (old new : Seen) (fault : Option StoreFault) : Type 0 where
+  pub clean : new.clean → old.clean
+  pub honest : new.honest → old.honest
+  pub stands : new.honest → old.clean → IfNone fault new.clean
+  pub failures : old.failed ≤ new.failed
+  pub cause : fault ≡ Some Store → min (old.failed + 1) max_failures ≤ new.failed
+
+-- ---- a run
+
+-- the commands that a run answered
+abbrev pub answered : List DatedCommand → Run → List DatedCommand
+answered commands run = take (length run.answers.items) commands
+
+-- all of them, or those up to a store fault
+pub record EndsAs (commands : List DatedCommand) (run : Run) : Type 0 where
+  pub whole : IfNone run.fault (length run.answers.items ≡ length commands)
+  pub stopped : IfSome run.fault (λ fault. length run.answers.items < length commands)
+
+-- tables are those of the accepted commands, and lists
+pub record AreAfter (shelf : Shelf) (list : List Accepted) (tables : Tables) : Type 0 where
+  pub are : tables ≡ tables_after shelf list
+  pub lists : AreLists tables
+  pub time : IsInTime list
+
+-- a stop leaves the tables of the commands that were answered, or of one more, and they are lists
+pub record IsFound (shelf : Shelf) (commands : List DatedCommand) (run : Run) (left : Tables)
+    (list : List Accepted) : Type 0 where
+  pub count : ℕ
+  pub all : length run.answers.items ≤ count
+  pub one_more : count ≤ length run.answers.items + 1
+  pub tables : left ≡ tables_after shelf (after_commands shelf list (take count commands))
+  pub lists : AreLists left
+
+-- from tables of accepted commands on, the answers are those to the commands, each after those
+-- before it, and the tables are those of all that were accepted
+pub record RunsOver (shelf : Shelf) (commands : List DatedCommand) (old new : Seen) (run : Run)
+    : Type 0 where
+  pub ends : EndsAs commands run
+  pub answers : new.honest → From shelf old.tables
+      (λ list. run.answers.items ≡ answers_to shelf list (answered commands run))
+  pub tables : new.clean → From shelf old.tables
+      (λ list. AreAfter shelf (after_commands shelf list (answered commands run)) new.tables)
+  pub paid : new.clean → From shelf old.tables
+      (λ list. AreAccountsPaid shelf new.tables
+      (after_commands shelf list (answered commands run)))
+  pub unchanged : new.clean → run.answers.items ≡ [] → new.tables ≡ old.tables
+  pub stop : new.honest → (left : Tables) → new.left left →
+      (old.clean → From shelf old.tables (IsFound shelf commands run left))
+      × (old.left left ⊎ From shelf old.tables (IsFound shelf commands run left))
+  pub keeper : Carries old new run.fault
