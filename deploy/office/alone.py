@@ -1,0 +1,120 @@
+"""A shard's database for one word alone: stopped, and started again whatever becomes of the word.
+
+The words `bar`, `unbar`, `import`, `book` and `carry` wrap their work in `alone`. A word holds the
+shard's lock meanwhile, so two words never have one shard at once. A unit of systemd's own, the
+guard, waits for that lock: where the word is killed (-9 as well) the kernel opens the lock, and the
+guard starts the shard. It costs two starts of the unit, each of which reads all rows."""
+from __future__ import annotations
+
+import contextlib
+import fcntl
+import os
+import pathlib
+import sys
+import time
+from collections.abc import Iterator
+
+from office import clock, places, units
+from office.faults import Refused
+from office.machines import pacemaker
+from office.settings import Settings
+from office.shards import Shard
+
+# Seconds: for another word's end, for a start that reads many rows, between two looks.
+PATIENCE, START, EACH = 15.0, 900.0, 0.02
+# What the guard does with the lock: a database that was about to take the shard's place takes it,
+# if the old one has gone already, and the unit is started.
+GUARD = """\
+if [ ! -e "$1" ] && [ -e "$1.next" ]; then
+    rm -f "$1-wal" "$1-shm" && mv "$1.next" "$1"
+fi
+exec systemctl start "$2"
+"""
+LISTENING = "0A"
+
+
+@contextlib.contextmanager
+def alone(settings: Settings, shard: Shard) -> Iterator[None]:
+    """The shard stands still meanwhile; how long its requests waited is said on standard error. A
+    shard that wasn't up stays so. With two machines Pacemaker has to leave its unit alone."""
+    if settings.machines and units.is_active(shard) and not pacemaker.leaves(shard):
+        raise Refused(
+            f"Pacemaker would start {shard.unit} again: first `{pacemaker.leave(shard)}`, and "
+            f"afterwards `{pacemaker.take(shard)}`"
+        )
+    with held(settings, shard) as lock:
+        places.settle(settings, shard)
+        if not units.is_active(shard):
+            yield
+            return
+        # It is up, so it may come up again, by whatever clock this is.
+        clock.mean(shard)
+        guard = set_guard(shard, lock)
+        begun = time.monotonic()
+        try:
+            units.systemctl("stop", shard.unit)
+            yield
+        finally:
+            with units.undisturbed():
+                units.systemctl("start", shard.unit)
+                units.systemctl("stop", guard)
+        wait_until_up(shard)
+        print(f"{shard}: requests waited {time.monotonic() - begun:.1f} s", file=sys.stderr)
+
+
+@contextlib.contextmanager
+def held(settings: Settings, shard: Shard) -> Iterator[pathlib.Path]:
+    """The lock of a shard; refused where another word keeps it."""
+    folder = pathlib.Path(settings.keeping.locks)
+    try:
+        folder.mkdir(mode=0o755, parents=True, exist_ok=True)
+        path = folder / f"{shard}.lock"
+        lock = os.open(path, os.O_RDWR | os.O_CREAT, 0o600)
+    except OSError as fault:
+        raise Refused(f"{folder}: {fault.strerror}") from fault
+    try:
+        take(lock, shard)
+        yield path
+    finally:
+        os.close(lock)
+
+
+def take(lock: int, shard: Shard) -> None:
+    """Takes a lock within some seconds."""
+    end = time.monotonic() + PATIENCE
+    while True:
+        try:
+            fcntl.flock(lock, fcntl.LOCK_EX | fcntl.LOCK_NB)
+            return
+        except BlockingIOError as fault:
+            if time.monotonic() > end:
+                raise Refused(f"another word of office has shard {shard} to itself") from fault
+        time.sleep(EACH)
+
+
+def set_guard(shard: Shard, lock: pathlib.Path) -> str:
+    """A unit that waits for the lock and then starts the shard; its name."""
+    name = f"office-guard-{shard}-{os.getpid()}-{time.monotonic_ns()}.service"
+    told = f"--description=Starts {shard.unit} when the word that stopped it has ended"
+    waits = ["flock", str(lock), "sh", "-c", GUARD, "sh", str(shard.database), shard.unit]
+    units.run("systemd-run", "--quiet", "--collect", f"--unit={name}", told, *waits)
+    return name
+
+
+def wait_until_up(shard: Shard, seconds: float = START) -> None:
+    """Waits until a shard listens; refused where its process ended instead."""
+    end = time.monotonic() + seconds
+    while not listens(shard.port):
+        told = units.systemctl("show", "--property", "SubState", "--value", shard.unit).strip()
+        if told in ("auto-restart", "failed"):
+            raise Refused(f"{shard.unit} doesn't start: journalctl --unit {shard.unit}")
+        if time.monotonic() > end:
+            raise Refused(f"{shard.unit} doesn't listen after {seconds:.0f} seconds")
+        time.sleep(EACH)
+
+
+def listens(port: int) -> bool:
+    """Whether somebody listens on a port of 127.0.0.1; no connection is made."""
+    wanted = f"0100007F:{port:04X}"
+    rows = pathlib.Path("/proc/net/tcp").read_text(encoding="ascii").splitlines()[1:]
+    return any(row[1] == wanted and row[3] == LISTENING for row in map(str.split, rows))

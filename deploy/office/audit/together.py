@@ -1,0 +1,138 @@
+"""What has to hold of all shards together, and since earlier copies.
+
+An account's rows may be in two databases: those that were left where it lived before it moved. It
+lives where a request for it goes."""
+from __future__ import annotations
+
+import collections
+import json
+import pathlib
+import time
+from collections.abc import Iterator
+
+from office import books
+from office.audit.findings import Finding
+from office.restoring import CLEARED, CREDITED
+from office.shards import Homes
+from office.tables import Database
+
+Named = dict[str, Database]
+
+
+class Living:
+    """Which rows of accounts count: those in the shard where the account lives."""
+
+    def __init__(self, homes: Homes, clearing: set[str], databases: Named) -> None:
+        self.homes, self.clearing, self.databases = homes, clearing, databases
+        self.known: dict[str, str] = {}
+
+    def is_at(self, account: str, shard: str) -> bool:
+        """Whether an account lives in a shard."""
+        if account not in self.known:
+            self.known[account] = str(self.homes.home(account))
+        return self.known[account] == shard
+
+    def counts(self, account: str, shard: str) -> bool:
+        """Whether an account's rows in a shard are part of the office's sums."""
+        return account not in self.clearing and self.is_at(account, shard)
+
+
+def findings(living: Living) -> Iterator[Finding]:
+    """What is found over all databases."""
+    yield from homeless(living)
+    yield from codes(living)
+    yield from redemptions(living)
+    yield from shelves(living.databases)
+
+
+def homeless(living: Living) -> Iterator[Finding]:
+    """Accounts that aren't in the shard where they are asked for."""
+    places = collections.defaultdict[str, set[str]](set)
+    for shard, database in living.databases.items():
+        for row in database.rows("SELECT account FROM accounts"):
+            places[row["account"]].add(shard)
+    for account, shards in sorted(places.items()):
+        if not any(living.is_at(account, shard) for shard in shards):
+            home = living.homes.home(account)
+            if str(home) in living.databases:
+                what = f"is asked for in {home}, where it isn't"
+                yield Finding("+".join(sorted(shards)), "accounts", account, what)
+
+
+def codes(living: Living) -> Iterator[Finding]:
+    """Codes in more than one database."""
+    found = collections.defaultdict[str, list[str]](list)
+    for shard, database in living.databases.items():
+        for row in database.rows("SELECT code, account FROM vouchers"):
+            if row["account"] is None or living.is_at(row["account"], shard):
+                found[row["code"]].append(shard)
+    for code, shards in sorted(found.items()):
+        if len(shards) > 1:
+            yield Finding("+".join(shards), "vouchers", code, "in more than one shard")
+
+
+def redemptions(living: Living) -> Iterator[Finding]:
+    """Codes that one shard redeemed for an account of another, beside that account's credit."""
+    cleared, credited, own = dict[str, str](), dict[str, str](), dict[str, str]()
+    for shard, database in living.databases.items():
+        for row in database.rows("SELECT account, name, content FROM answers WHERE kind = 2"):
+            if not living.is_at(row["account"], shard):
+                continue
+            if told := CLEARED.fullmatch(row["name"]):
+                cleared[told[1]] = told[2]
+            elif told := CREDITED.fullmatch(row["name"]):
+                credited[told[1]] = row["account"]
+            elif '"Voucher-Code":' in row["content"]:
+                own[json.loads(row["content"])["Voucher-Code"]] = row["account"]
+    for code in sorted(cleared.keys() | credited.keys()):
+        if cleared.get(code) != credited.get(code):
+            by = f", redeemed by {own[code]}" if code in own else ""
+            what = f"cleared for {cleared.get(code)}, credited to {credited.get(code)}{by}"
+            yield Finding("all", "vouchers", code, what)
+
+
+def shelves(databases: Named) -> Iterator[Finding]:
+    """Shards whose books aren't those of the first one, from now on."""
+    now, wanted = int(time.time()), None
+    for shard, database in databases.items():
+        shelf = books.shelf(database)
+        current = shelf.index(books.at(shelf, now))
+        found = [(max(now, book.starts), book.text) for book in shelf[current:]]
+        wanted = found if wanted is None else wanted
+        if found != wanted:
+            later = " ".join(str(starts) for starts, _ in found[1:]) or "none"
+            what = f"not those of {next(iter(databases))}; its later ones begin at: {later}"
+            yield Finding(shard, "books", "from now on", what)
+
+
+# What stays as it is once it is accepted.
+KEPT = {
+    "answers": "account, kind, name, number, content, answer",
+    "charges": "account, number, moment, session, rating_group, blocks, rated, collected, "
+    "uncollected",
+    "covered": "account, number, blocks",
+    "buckets": "account, number, starts, ends, scope, credited",
+    "accounts": "account",
+    "books": "number, starts, content",
+}
+BARS = """
+    SELECT a.account, a.barred FROM main.accounts a JOIN earlier.accounts e USING (account)
+    WHERE a.barred <> e.barred"""
+
+
+def since(shard: str, database: Database, earlier: pathlib.Path) -> Iterator[Finding]:
+    """What an earlier copy has and this one hasn't, and bars that changed."""
+    database.store.execute("ATTACH ? AS earlier", (f"file:{earlier}?mode=ro",))
+    try:
+        for table, columns in KEPT.items():
+            gone = database.rows(
+                f"SELECT {columns} FROM earlier.{table} EXCEPT SELECT {columns} FROM main.{table}"
+            )
+            for row in gone:
+                key = " ".join(str(value)[:80] for value in list(row.values())[:4])
+                yield Finding(shard, table, key, "not as in the earlier copy")
+        for row in database.rows(BARS):
+            told = "barred" if row["barred"] else "no longer barred"
+            yield Finding(shard, "accounts", row["account"], f"{told} since the earlier copy")
+    finally:
+        database.store.execute("DETACH earlier")

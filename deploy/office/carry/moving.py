@@ -1,0 +1,250 @@
+"""Accounts that move from a shard to another one while both are served.
+
+The word `move` calls `move`. Some accounts at a time are `moving` in HAProxy's map: their requests wait,
+all others go on. What was asked for before has been answered (a shard's queue is first in, first out);
+a copy of the shard tells what they have; the requests of the plan are noted, and then sent to the other
+shard; both are compared; the file of moved accounts names the new shard, and HAProxy goes by it.
+
+Killed before the note is written, nothing has happened; after it, the guard sends the same requests
+again, which have references, and ends the move. The requests of an account wait for the copy of its
+shard and some milliseconds a bucket."""
+from __future__ import annotations
+
+import argparse
+import contextlib
+import dataclasses
+import fcntl
+import json
+import os
+import pathlib
+import time
+from collections.abc import Iterator
+
+from office import copies, operate, program, units
+from office.alone import alone
+from office.carry import repeats, runtime
+from office.carry.plan import Plan, Request
+from office.client import Answer, Body, Client, compact
+from office.faults import Refused
+from office.progress import shown
+from office.settings import Settings
+from office.shards import Shard, named
+from office.tables import opened
+
+THERE, DONE = {"Refusal": "O1"}, 2001
+PATIENCE = 60.0
+# How many accounts may be told of one that can't move; seconds for another move's end.
+FEW, WAIT = 3, 15.0
+
+
+@dataclasses.dataclass(frozen=True)
+class Note:
+    """What is to be done for accounts that move, once it is begun."""
+
+    source: str
+    target: str
+    accounts: list[str]
+    barred: list[str]
+    requests: list[Request]
+    buckets: dict[str, list[Body]]  # what each account has then, by `shape`
+
+
+def note_of(settings: Settings) -> pathlib.Path:
+    """Where the note lies while a move is under way."""
+    return pathlib.Path(settings.office.databases) / "move.json"
+
+
+@contextlib.contextmanager
+def under_way(settings: Settings) -> Iterator[pathlib.Path]:
+    """One move at a time; the lock's file."""
+    folder = pathlib.Path(settings.keeping.locks)
+    folder.mkdir(mode=0o755, parents=True, exist_ok=True)
+    path = folder / "move.lock"
+    lock, end = os.open(path, os.O_RDWR | os.O_CREAT, 0o600), time.monotonic() + WAIT
+    try:
+        while True:
+            try:
+                fcntl.flock(lock, fcntl.LOCK_EX | fcntl.LOCK_NB)
+                break
+            except BlockingIOError as fault:
+                if time.monotonic() > end:
+                    raise Refused("accounts are moving already") from fault
+            time.sleep(0.05)
+        yield path
+    finally:
+        os.close(lock)
+
+
+@contextlib.contextmanager
+def guarded(lock: pathlib.Path, arguments: argparse.Namespace) -> Iterator[None]:
+    """A unit of systemd's ends what was begun, where this process is killed."""
+    name = f"office-guard-move-{os.getpid()}-{time.monotonic_ns()}.service"
+    command = pathlib.Path(__file__).resolve().parents[2] / "bin/office"
+    again = [str(command), "--file", str(arguments.file), "move", "--finish"]
+    waits = ["flock", str(lock), "true"]
+    told = "--description=Ends a move of accounts when the word has ended"
+    script = f'{" ".join(waits)}; exec "$@"'
+    units.run(
+        "systemd-run",
+        "--quiet",
+        "--collect",
+        f"--unit={name}",
+        told,
+        "sh",
+        "-c",
+        script,
+        "sh",
+        *again,
+    )
+    try:
+        yield
+    finally:
+        units.systemctl("stop", name)
+
+
+def finish(settings: Settings, client: Client) -> None:
+    """Ends what a move that was killed has begun, or takes it back."""
+    path, there = note_of(settings), runtime.entries(settings)
+    moving = [account for account, value in there.items() if value == runtime.MOVING]
+    if path.exists():
+        note = Note(**json.loads(path.read_text(encoding="utf-8")))
+        if set(note.accounts) <= set(moving):
+            carry_out(settings, client, note)
+        else:
+            # HAProxy was started anew meanwhile: its requests went where the file says.
+            path.unlink()
+    runtime.settle(settings, moving)
+
+
+def move(
+    settings: Settings, client: Client, source: Shard, target: Shard, those: list[str], batch: int
+) -> tuple[int, list[str]]:
+    """Moves accounts, so many at a time; how many moved, and a line for each that didn't."""
+    moved, stay = 0, list[str]()
+    parts = [those[at : at + batch] for at in range(0, len(those), batch)]
+    for part in shown("move", parts):
+        note, why = held(settings, client, source, target, part)
+        stay += why
+        if note.accounts:
+            carry_out(settings, client, note)
+            moved += len(note.accounts)
+    return moved, stay
+
+
+def held(
+    settings: Settings, client: Client, source: Shard, target: Shard, those: list[str]
+) -> tuple[Note, list[str]]:
+    """Holds the requests of accounts, and notes what is to be done for those that can move; the others
+    go on, with a line each."""
+    there, why = runtime.entries(settings), dict[str, str]()
+    try:
+        for account in those:
+            runtime.put(settings, account, runtime.MOVING, there)
+        for account in those:
+            client.ask("GET", f"/accounts/{account}", shard=str(source))
+            if "Account" in client.ask("GET", f"/accounts/{account}", shard=str(target)).body:
+                why[account] = f"{account} stays: it has rows in shard {target} already"
+        with copies.made(settings, [source]) as made, opened(made[0]) as database:
+            plan = Plan(database, int(time.time()), lambda account: account in set(those))
+            for one in repeats.expected(settings, database):
+                why.setdefault(one.split()[0], f"{one} stays: its answer didn't arrive")
+        for session in plan.sessions:
+            why.setdefault(
+                session.split()[0], f"{session.split()[0]} stays: live session {session}"
+            )
+        note = noted(plan, source, target, [one for one in plan.accounts if one not in why])
+        write(settings, note)
+    except BaseException:
+        runtime.settle(settings, those)
+        raise
+    runtime.settle(settings, [account for account in those if account not in note.accounts])
+    return note, list(why.values())
+
+
+def noted(plan: Plan, source: Shard, target: Shard, those: list[str]) -> Note:
+    """The note of a plan, for some of its accounts."""
+    wanted = set(those)
+    requests = [one for one in plan.requests() if account_of(one) in wanted]
+    buckets: dict[str, list[Body]] = {account: [] for account in those}
+    for one in plan.live:
+        if one.account in wanted:
+            buckets[one.account].append(
+                shape(one.starts, one.ends, one.scope, one.is_blocks, one.left)
+            )
+    barred = [account for account in those if plan.accounts[account]]
+    return Note(str(source), str(target), those, barred, requests, buckets)
+
+
+def account_of(request: Request) -> str:
+    """The account that a request of a plan is for."""
+    _, path, body = request
+    if path == "/ccr":
+        return str((body or {})["Subscription-Id"]["Subscription-Id-Data"])
+    return path.split("/")[2]
+
+
+def write(settings: Settings, note: Note) -> None:
+    """Writes the note, whole."""
+    path = note_of(settings)
+    part = path.with_name(path.name + ".part")
+    part.write_text(json.dumps(dataclasses.asdict(note)), encoding="utf-8")
+    copies.sync(part)
+    os.replace(part, path)
+    copies.sync(path.parent)
+
+
+def carry_out(settings: Settings, client: Client, note: Note) -> None:
+    """Does what a note says, from wherever it was stopped; refused, the accounts go on where the file
+    says. Signals wait meanwhile, so that no account waits for a word that has gone."""
+    with units.undisturbed():
+        try:
+            fill(client, note)
+            bar(settings, client, note)
+            for account in note.accounts:
+                compare(account, note, client.ask("GET", f"/accounts/{account}", shard=note.target))
+            runtime.write(settings, note.accounts, note.target)
+        finally:
+            runtime.settle(settings, note.accounts)
+            note_of(settings).unlink()
+
+
+def fill(client: Client, note: Note) -> None:
+    """Sends the requests of a note to the new shard."""
+    for method, path, body in note.requests:
+        answer = client.ask(method, path, body, shard=note.target)
+        if answer.body != THERE and answer.body.get("Result-Code") != DONE:
+            raise Refused(f"{method} {path} {compact(body or {})}: {answer.compact()}")
+
+
+def bar(settings: Settings, client: Client, note: Note) -> None:
+    """Bars accounts in their new shard, which is stopped for it."""
+    target = named(settings, note.target)
+    open_yet = [
+        account
+        for account in note.barred
+        if not client.ask("GET", f"/accounts/{account}", shard=note.target).body["Barred"]
+    ]
+    if open_yet:
+        with alone(settings, target):
+            operate.is_now(target, operate.last_moment(target))
+            for account in open_yet:
+                program.done(settings, "bar", target.database, account)
+
+
+def compare(account: str, note: Note, answer: Answer) -> None:
+    """Refuses an account that hasn't in its new shard what it had."""
+    told = answer.body
+    found = [
+        shape(one["From"], one["Until"], one.get("Scope"), "Unit" in one, one["Available"])
+        for one in told["Buckets"]
+        if one["Available"]
+    ]
+    now = told["Moment"]
+    wanted = [one for one in note.buckets[account] if one["ends"] > now]
+    if found != wanted or told["Barred"] != (account in note.barred):
+        raise Refused(f"{account} has {found} in shard {note.target}, and had {wanted}")
+
+
+def shape(starts: int, ends: int, scope: int | None, is_blocks: bool, left: int) -> Body:
+    """What both shards have of a bucket."""
+    return {"starts": starts, "ends": ends, "scope": scope, "is_blocks": is_blocks, "left": left}

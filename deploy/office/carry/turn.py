@@ -1,0 +1,148 @@
+"""A shard's new database, in the place of its old one, which becomes an archive.
+
+The word `carry` calls `shard`. Requests wait in HAProxy while the new one is filled: two to four
+milliseconds a request of the plan. Stopped anywhere, -9 as well, the shard goes on with one of the
+two, whole; the same word again begins anew, or puts the archive's name right."""
+from __future__ import annotations
+
+import contextlib
+import os
+import pathlib
+import tempfile
+import time
+from collections.abc import Iterator
+
+from office import copies, places, program, shards, spare
+from office.alone import alone, held
+from office.audit import reckoned, strays
+from office.carry import repeats
+from office.carry.plan import Plan, rows
+from office.client import compact
+from office.faults import Refused
+from office.progress import shown
+from office.settings import Settings
+from office.shards import Shard
+from office.tables import opened
+
+THERE = {"Refusal": "O1"}
+DONE = 2001
+FORM = "%Y%m%dT%H%M%SZ"
+# Findings and hindrances that are told of a database; seconds that a request of the plan takes.
+MOST, EACH = 20, 0.004
+
+
+def shard(settings: Settings, one: Shard, is_audited: bool, may_wait: bool) -> None:
+    """Carries a shard; refused, it goes on as it is."""
+    with held(settings, one):
+        places.settle(settings, one)
+    with copies.made(settings, [one]) as made:
+        plan = planned(settings, one, made[0], int(time.time()))
+        if not may_wait:
+            unrepeated(settings, one, made[0])
+        if is_audited:
+            audited(made[0])
+    seconds = EACH * plan.count()
+    if seconds > settings.waits.start and not may_wait:
+        raise Refused(
+            f"shard {one} would be away for some {seconds:.0f} s, and requests wait for "
+            f"{settings.waits.start} s ([waits] start): --long does it all the same"
+        )
+    with alone(settings, one):
+        turned(settings, one)
+        places.finish(settings, one)
+
+
+def planned(settings: Settings, one: Shard, database: pathlib.Path, at: int) -> Plan:
+    """What is carried of a database of the shard; refused where something can't be."""
+    homes = shards.Homes(settings)
+    with opened(database) as read:
+        plan = Plan(read, at, lambda account: homes.home(account) == one)
+    if plan.sessions:
+        few = ", ".join(plan.sessions[:3]) + (", .." if len(plan.sessions) > 3 else "")
+        raise Refused(f"shard {one} has {len(plan.sessions)} live sessions: {few}")
+    return plan
+
+
+def unrepeated(settings: Settings, one: Shard, copy: pathlib.Path) -> None:
+    """Refuses a copy of which requests may be repeated whose answers didn't arrive."""
+    with opened(copy) as read:
+        those = list(repeats.expected(settings, read))
+    if those:
+        raise Refused(
+            f"shard {one} has accepted {len(those)} requests in {repeats.MINUTES} minutes whose "
+            f"answers didn't arrive, and whose repeats would be accepted anew (--long carries all "
+            f"the same): {', '.join(those[:3])}"
+        )
+
+
+def audited(copy: pathlib.Path) -> None:
+    """Refuses a copy of which an audit finds something."""
+    with opened(copy) as read:
+        found = [*strays.findings(copy.stem, read), *reckoned.findings(copy.stem, read)]
+    if found:
+        told = "\n  ".join(map(str, found[:MOST]))
+        raise Refused(f"the audit has {len(found)} findings (--unaudited carries it):\n  {told}")
+
+
+def turned(settings: Settings, one: Shard) -> None:
+    """Makes the new database of a shard that is stopped, and puts it in the old one's place."""
+    new = places.new_of(one)
+    places.discard(new)
+    try:
+        plan = planned(settings, one, one.database, int(time.time()))
+        make(settings, plan, new)
+        with opened(new) as read:
+            found = Plan(read, plan.at, lambda _: True)
+        differs = plan.differs(found)
+        if differs:
+            raise Refused(f"the new database of shard {one} has other {differs}")
+        places.ready(settings, one, new)
+        archive(settings, one, plan.at)
+        places.swap(one, None)
+        print("\n".join(f"{one} {line}" for line in found.sums()))
+    finally:
+        places.discard(new)
+
+
+def make(settings: Settings, plan: Plan, new: pathlib.Path) -> None:
+    """Makes a database of a plan: books, accounts, vouchers, bars."""
+    for book in plan.books:
+        with written(book.text) as file:
+            if book is plan.books[0]:
+                program.done(settings, "init", new, file)
+            else:
+                program.done(settings, "book", new, file, "--from", book.starts)
+    with spare.served(settings, new, "--at", plan.at) as served:
+        for method, path, body in shown("carry", plan.requests(), plan.count()):
+            answer = served.ask(method, path, body)
+            if answer != THERE and answer.get("Result-Code") != DONE:
+                raise Refused(f"{method} {path} {compact(body or {})}: {compact(answer)}")
+    at = ("--at", plan.at)
+    if plan.vouchers:
+        with written(rows(plan.vouchers)) as file:
+            program.done(settings, "import", new, file, *at)
+    for account in (account for account, is_barred in plan.accounts.items() if is_barred):
+        program.done(settings, "bar", new, account, *at)
+
+
+@contextlib.contextmanager
+def written(text: str) -> Iterator[pathlib.Path]:
+    """A file with a text, which the databases' owner may read."""
+    with tempfile.TemporaryDirectory() as folder:
+        path = pathlib.Path(folder) / "file"
+        path.write_text(text, encoding="utf-8")
+        with program.readable(path) as readable:
+            yield readable
+
+
+def archive(settings: Settings, one: Shard, at: int) -> None:
+    """Makes one whole file of the old database, under a name that isn't an archive's yet."""
+    folder = pathlib.Path(settings.keeping.archive)
+    folder.mkdir(mode=0o750, parents=True, exist_ok=True)
+    program.give(settings, folder)
+    path = folder / f"{one}-{time.strftime(FORM, time.gmtime(at))}.db{places.TURNING}"
+    path.unlink(missing_ok=True)
+    copies.make_whole(one.database, path)
+    os.chmod(path, 0o440)
+    program.give(settings, path)
+    copies.sync(folder)

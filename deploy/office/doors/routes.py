@@ -1,0 +1,53 @@
+"""Which role may ask what: the one table of the program's routes and of the doors' own.
+
+`rules` makes HAProxy's patterns of it, `words/check.py` prints it. A route that isn't here is 404
+or 405 at every door."""
+from __future__ import annotations
+
+import dataclasses
+
+ACCOUNT = "/accounts/[0-9]{1,15}"
+# What the program takes: a head of 8,192 bytes, of which HAProxy hands on some, and a body.
+HEAD, BODY = 8000, 65536
+
+
+@dataclasses.dataclass(frozen=True)
+class Route:
+    """A method and a target, as a regular expression, with the roles that may ask it."""
+
+    method: str
+    target: str
+    roles: tuple[str, ...]
+
+
+OFFICE = ("operator", "script")
+ROUTES = (
+    Route("POST", "/ccr", ("gateway", *OFFICE)),
+    Route("GET", ACCOUNT, ("shop", *OFFICE)),
+    Route("PUT", ACCOUNT, OFFICE),
+    Route("GET", ACCOUNT + "/statement/[0-9]{6}", OFFICE),
+    Route("POST", ACCOUNT + "/credits", OFFICE),
+    Route("POST", ACCOUNT + "/allowances", OFFICE),
+    Route("POST", "/vouchers/[0-9]{12}/redeem", ("shop", *OFFICE)),
+    Route("POST", "/sweep", ("script",)),
+    # These HAProxy answers itself, but for a shard's health.
+    Route("GET", "/office", ("operator",)),
+    Route("GET", "/health", ("gateway", "operator", "watcher")),
+    Route("GET", "/health/[0-9]{2}", ("watcher",)),
+    Route("GET", "/metrics", ("watcher",)),
+)
+
+
+def of(role: str) -> list[Route]:
+    """What a role may ask."""
+    return [route for route in ROUTES if role in route.roles]
+
+
+def targets() -> str:
+    """A pattern of a target that some method has."""
+    return "^[^ ]+ (" + "|".join(dict.fromkeys(route.target for route in ROUTES)) + ")$"
+
+
+def pattern(routes: list[Route]) -> str:
+    """A pattern of these methods and targets, with a space between them."""
+    return "^(" + "|".join(f"{route.method} {route.target}" for route in routes) + ")$"

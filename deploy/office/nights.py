@@ -1,0 +1,136 @@
+"""Copies of all shards, a folder a night: made, kept for some days, sent to another place, measured.
+
+`office backups` makes them by a timer, `office restore` takes one, `office audit` looks beside one. It
+costs the disk's copy of each shard, and a second copy to the other place."""
+from __future__ import annotations
+
+import calendar
+import hashlib
+import os
+import pathlib
+import re
+import shutil
+import sys
+import time
+from collections.abc import Iterator
+
+from office import copies, shards
+from office.faults import Refused
+from office.progress import shown
+from office.settings import Settings
+
+NAME = re.compile(r"\d{8}T\d{6}Z")
+FORM = "%Y%m%dT%H%M%SZ"
+SUMS = "SHA256SUMS"
+DAY, HOUR = 86_400, 3600
+
+
+def make(settings: Settings) -> pathlib.Path:
+    """Copies each shard into a new folder, which takes its name when it is whole."""
+    place = pathlib.Path(settings.keeping.copies)
+    sweep_parts(place)
+    made = place / time.strftime(FORM, time.gmtime())
+    part = place / f".{made.name}.part"
+    part.mkdir(mode=0o700, parents=True)
+    for shard in shown("copy", shards.of(settings)):
+        copies.copy(settings, shard, part / f"{shard}.db")
+    write_sums(part)
+    os.replace(part, made)
+    return made
+
+
+def write_sums(folder: pathlib.Path) -> None:
+    """The SHA-256 of each copy, as `sha256sum --check` reads them."""
+    lines = [f"{sum_of(path)}  {path.name}\n" for path in sorted(folder.glob("*.db"))]
+    (folder / SUMS).write_text("".join(lines), encoding="ascii")
+
+
+def sum_of(path: pathlib.Path) -> str:
+    """The SHA-256 of a file."""
+    with path.open("rb") as stream:
+        return hashlib.file_digest(stream, "sha256").hexdigest()
+
+
+def is_whole(folder: pathlib.Path) -> bool:
+    """Whether each copy of a night is the file that was made."""
+    try:
+        lines = (folder / SUMS).read_text(encoding="ascii").splitlines()
+        wanted = {name: told for told, name in (line.split("  ") for line in lines)}
+        return bool(wanted) and all(sum_of(folder / name) == wanted[name] for name in wanted)
+    except (OSError, ValueError):
+        return False
+
+
+def send(settings: Settings) -> list[str]:
+    """Copies to the other place each night that it lacks; their names."""
+    elsewhere = pathlib.Path(settings.keeping.elsewhere)
+    if not elsewhere.is_dir():
+        raise Refused(f"{elsewhere} isn't there: the copies are on this machine alone")
+    sweep_parts(elsewhere)
+    sent = []
+    for night in list(nights(pathlib.Path(settings.keeping.copies))):
+        if (elsewhere / night.name).exists():
+            continue
+        part = elsewhere / f".{night.name}.part"
+        shutil.copytree(night, part)
+        if not is_whole(part):
+            raise Refused(f"{part} isn't what {night} is: the other place's disk")
+        os.replace(part, elsewhere / night.name)
+        sent.append(night.name)
+    return sent
+
+
+def sweep_parts(place: pathlib.Path) -> None:
+    """Removes what a run that was stopped left behind."""
+    for part in place.glob(".*.part"):
+        shutil.rmtree(part)
+
+
+def drop(settings: Settings, place: pathlib.Path) -> list[str]:
+    """Removes the nights of a place that are older than the days; the last one stays."""
+    before = time.time() - settings.keeping.days * DAY
+    old = [night for night in list(nights(place))[:-1] if moment(night) < before]
+    for night in old:
+        shutil.rmtree(night)
+    return [night.name for night in old]
+
+
+def nights(place: pathlib.Path) -> Iterator[pathlib.Path]:
+    """The folders of a place, the oldest first."""
+    if place.is_dir():
+        yield from sorted(each for each in place.iterdir() if NAME.fullmatch(each.name))
+
+
+def last(settings: Settings) -> pathlib.Path:
+    """The last night's folder."""
+    found = list(nights(pathlib.Path(settings.keeping.copies)))
+    if not found:
+        raise Refused(f"{settings.keeping.copies} has no copies: `office backups` makes them")
+    return found[-1]
+
+
+def moment(night: pathlib.Path) -> float:
+    """When a night's copies were begun, in seconds since 1970."""
+    return float(calendar.timegm(time.strptime(night.name, FORM)))
+
+
+def ages(settings: Settings) -> dict[str, float | None]:
+    """The age of the last night's copies in each place, in seconds; none where there are none."""
+    places = [settings.keeping.copies, settings.keeping.elsewhere]
+    found: dict[str, float | None] = {}
+    for place in filter(None, places):
+        there = list(nights(pathlib.Path(place)))
+        found[place] = time.time() - moment(there[-1]) if there else None
+    return found
+
+
+def report(settings: Settings) -> int:
+    """Prints the age of each place's last copies; 1 where one is too old or isn't there."""
+    failed = 0
+    for place, age in ages(settings).items():
+        told = "no copies" if age is None else f"{age / HOUR:.1f} h"
+        print(f"{place} {told}")
+        if age is None or age > settings.keeping.hours * HOUR:
+            print(f"office: {place}: {told}, at most {settings.keeping.hours} h", file=sys.stderr)
+            failed = 1
+    return failed

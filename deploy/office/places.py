@@ -1,0 +1,89 @@
+"""A whole new database in the place of a shard's, which is stopped meanwhile.
+
+`restore` and `carry` call `swap` within `alone`. The new one lies beside the old one as `NN.db.next`
+before anything moves, and the guard of `alone` knows the name: stopped anywhere, -9 as well, the
+shard goes on with one of the two, whole; `alone` calls `settle` before anything else, which puts
+right what was left."""
+from __future__ import annotations
+
+import os
+import pathlib
+
+from office import copies, program, units
+from office.settings import Settings
+from office.shards import Shard
+
+ENDS = ("-wal", "-shm")
+# What an archive is called until the new database is in the old one's place.
+TURNING = ".turning"
+
+
+def next_of(shard: Shard) -> pathlib.Path:
+    """Where the database lies that is about to take a shard's place."""
+    return shard.database.with_name(shard.database.name + ".next")
+
+
+def new_of(shard: Shard) -> pathlib.Path:
+    """Where a database lies that is filled for a shard."""
+    return shard.database.with_name(f"{shard}.new.db")
+
+
+def ready(settings: Settings, shard: Shard, made: pathlib.Path) -> None:
+    """Makes one whole file of a database and its log, as the next one of a shard."""
+    path = next_of(shard)
+    part = path.with_name(path.name + ".part")
+    part.unlink(missing_ok=True)
+    copies.make_whole(made, part)
+    program.give(settings, part)
+    os.replace(part, path)
+    copies.sync(path.parent)
+
+
+def swap(shard: Shard, keep: pathlib.Path | None) -> None:
+    """Puts the next database in the place of the old one, which takes the name `keep`; where that is
+    none, it goes. The old one goes first, so that there is never one with another's log."""
+    old = shard.database
+    with units.undisturbed():
+        if old.exists():
+            if keep is None:
+                old.unlink()
+            else:
+                os.replace(old, keep)
+        for end in ENDS:
+            log = old.with_name(old.name + end)
+            if keep is not None and log.exists():
+                os.replace(log, keep.with_name(keep.name + end))
+            log.unlink(missing_ok=True)
+        os.replace(next_of(shard), old)
+        copies.sync(old.parent)
+
+
+def discard(database: pathlib.Path) -> None:
+    """Removes a database with its log."""
+    for end in ("", *ENDS):
+        database.with_name(database.name + end).unlink(missing_ok=True)
+
+
+def settle(settings: Settings, shard: Shard) -> None:
+    """Puts right what a word that was killed left: its archive has its name where the new database
+    took the shard's place, and goes with the new one where it didn't."""
+    next_one = next_of(shard)
+    if next_one.exists() and shard.database.exists():
+        for path in turning(settings, shard):
+            path.unlink()
+        next_one.unlink()
+    finish(settings, shard)
+    discard(new_of(shard))
+
+
+def finish(settings: Settings, shard: Shard) -> None:
+    """Gives the archive of a turn its name, and says which it is."""
+    for path in turning(settings, shard):
+        made = path.with_name(path.name.removesuffix(TURNING))
+        os.replace(path, made)
+        print(f"{shard} archive {made}")
+
+
+def turning(settings: Settings, shard: Shard) -> list[pathlib.Path]:
+    """Archives of turns that weren't ended."""
+    return sorted(pathlib.Path(settings.keeping.archive).glob(f"{shard}-*.db{TURNING}"))

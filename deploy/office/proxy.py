@@ -1,0 +1,110 @@
+"""The process of HAProxy: its file, its unit, its socket.
+
+The words `up`, `revoke` and `status` call this."""
+from __future__ import annotations
+
+import csv
+import io
+import os
+import pathlib
+import socket
+import subprocess
+import tempfile
+import time
+
+from office import units
+from office.faults import Refused
+from office.settings import Settings
+
+UNIT = "haproxy"
+# Until a process of HAProxy that was reloaded is at the doors.
+SECONDS = 60
+
+
+def put(path: pathlib.Path, text: str) -> bool:
+    """Writes a configuration that HAProxy takes in the place of the one before; whether it is
+    another. One that it doesn't take is refused, and the one before stays."""
+    if path.exists() and path.read_text(encoding="utf-8") == text:
+        return False
+    with tempfile.NamedTemporaryFile(
+        "w", dir=path.parent, prefix=".haproxy-", delete=False
+    ) as made:
+        made.write(text)
+    try:
+        accepts(pathlib.Path(made.name))
+        os.chmod(made.name, 0o644 if "userlist" not in text else 0o600)
+        os.replace(made.name, path)
+    finally:
+        pathlib.Path(made.name).unlink(missing_ok=True)
+    return True
+
+
+def accepts(path: pathlib.Path) -> None:
+    """Refuses a configuration that HAProxy doesn't take, with what it says."""
+    try:
+        asked = ["haproxy", "-c", "-q", "-f", str(path)]
+        ended = subprocess.run(asked, capture_output=True, text=True, check=False)
+    except OSError as fault:
+        raise Refused(f"haproxy: {fault.strerror}") from fault
+    if ended.returncode:
+        raise Refused(f"haproxy doesn't take it: {ended.stderr.strip()[:600]}")
+
+
+def read_again(settings: Settings) -> str:
+    """Has HAProxy read its files again, and waits until a process that has read them is at the
+    doors; what was done, in a sentence."""
+    try:
+        if (
+            units.systemctl("show", "--property", "ActiveState", "--value", UNIT).strip()
+            != "active"
+        ):
+            return f"the unit {UNIT} isn't active: nothing was reloaded"
+    except Refused as fault:
+        return f"nothing was reloaded ({fault}): HAProxy reads its files when it is reloaded"
+    before, end = process(settings), time.monotonic() + SECONDS
+    units.systemctl("reload", UNIT)
+    while process(settings) in (before, ""):
+        if time.monotonic() > end:
+            raise Refused(f"the unit {UNIT} is at the doors as before: journalctl --unit {UNIT}")
+        time.sleep(0.05)
+    return f"the unit {UNIT} is reloaded"
+
+
+def process(settings: Settings) -> str:
+    """The number of the process that is at the doors; empty where none answers."""
+    try:
+        lines = told(settings, "show info").splitlines()
+    except Refused:
+        return ""
+    return next((line[5:] for line in lines if line.startswith("Pid: ")), "")
+
+
+def up(settings: Settings, is_changed: bool) -> str:
+    """Starts HAProxy, or has it read a configuration that was changed; what was done."""
+    if units.systemctl("show", "--property", "ActiveState", "--value", UNIT).strip() == "active":
+        return read_again(settings) if is_changed else f"the unit {UNIT} is up"
+    units.systemctl("enable", "--quiet", UNIT)
+    units.systemctl("restart", UNIT)
+    return f"the unit {UNIT} is started"
+
+
+def told(settings: Settings, command: str) -> str:
+    """What HAProxy answers to a command at its socket."""
+    path = f"{settings.haproxy.sockets}/admin.sock"
+    try:
+        with socket.socket(socket.AF_UNIX) as peer:
+            peer.settimeout(10)
+            peer.connect(path)
+            peer.sendall(command.encode() + b"\n")
+            return b"".join(iter(lambda: peer.recv(65536), b"")).decode()
+    except OSError as fault:
+        raise Refused(f"{path}: {fault.strerror or fault}") from fault
+
+
+def shards_state(settings: Settings) -> dict[str, dict[str, str]]:
+    """HAProxy's measures of each shard, by the shard's number."""
+    text = told(settings, "show stat").lstrip("# ")
+    rows = csv.DictReader(io.StringIO(text))
+    return {
+        row["svname"]: row for row in rows if row["pxname"] == "shards" and row["svname"].isdigit()
+    }

@@ -1,0 +1,55 @@
+"""Redeems a voucher for an account, whichever shard its code is in.
+
+The word `redeem` calls this. A code of the account's own shard is one request. Any other takes two:
+it is redeemed onto the clearing account of its shard, and then the account is credited the same
+amount, until the same end and of the same scope. Each has a reference that names the code, so that
+both may be made again: stopped anywhere and made again, the account is credited once. What it costs
+is a request a shard until the code is found."""
+from __future__ import annotations
+
+import pathlib
+from collections.abc import Sequence
+
+from office.client import Answer, Client
+from office.faults import Refused
+from office.settings import Settings
+
+UNKNOWN = {"Refusal": "O3"}
+
+
+def redeem(client: Client, code: str, account: str, clearings: Sequence[str]) -> Answer:
+    """The answer that says whether the account has the amount of the code: a `Bucket`, or a
+    refusal."""
+    answer = redeemed(client, code, account, f"redeem-{code}")
+    for clearing in clearings:
+        if answer.body != UNKNOWN:
+            break
+        answer = redeemed(client, code, clearing, f"voucher-{code}-{account}")
+        if "Bucket" in answer.body:
+            return credited(client, code, account, clearing, answer.body["Bucket"])
+    return answer
+
+
+def redeemed(client: Client, code: str, account: str, reference: str) -> Answer:
+    """The answer to the redemption of a code for an account of its shard."""
+    body = {"Subscription-Id-Data": account, "Reference": reference}
+    return client.ask("POST", f"/vouchers/{code}/redeem", body)
+
+
+def credited(client: Client, code: str, account: str, clearing: str, number: int) -> Answer:
+    """The answer to a credit of what the code brought to a clearing account as this bucket."""
+    balance = client.ask("GET", f"/accounts/{clearing}").body
+    bucket = next(one for one in balance["Buckets"] if one["Number"] == number)
+    body = {"Amount": bucket["Credited"], "Until": bucket["Until"], "Reference": f"voucher-{code}"}
+    if "Scope" in bucket:
+        body["Scope"] = bucket["Scope"]
+    return client.ask("POST", f"/accounts/{account}/credits", body)
+
+
+def clearings(settings: Settings) -> list[str]:
+    """The clearing accounts of the office's file, one of each shard."""
+    path = pathlib.Path(settings.office.clearing)
+    try:
+        return path.read_text(encoding="utf-8").split()
+    except OSError as fault:
+        raise Refused(f"{path}: {fault.strerror}: `office clearing` makes it") from fault

@@ -1,0 +1,1 @@
+"""The words of `office`: each module here is one (see ../command.py and ../README.md)."""

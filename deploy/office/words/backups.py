@@ -1,0 +1,44 @@
+"""Copies all shards, as the timer does each night; keeps some days, and says how old the copies are.
+
+    office backups            copies, sends them to the other place, drops what is too old
+    office backups --age      the age of the last copies in each place, and nothing else
+
+Each shard is copied while it is served, into a folder of the night (`[keeping]` copies), with sums
+for `sha256sum --check`. Each night that the other place (`[keeping]` elsewhere) lacks is sent there
+and compared. Nights older than `[keeping]` days go, but never the last one. Stopped anywhere, a
+night that isn't whole has no name, and the next run removes it.
+
+deploy/office-backups.timer runs it each night. --age ends with status 1 where a place has no copies,
+or only some that are older than `[keeping]` hours."""
+from __future__ import annotations
+
+import argparse
+import pathlib
+
+from office import nights, options
+from office.settings import Settings
+
+
+def add(parser: argparse.ArgumentParser) -> None:
+    """Adds the word's arguments."""
+    parser.add_argument("--age", action="store_true", help="say how old the copies are")
+    options.dry_run(parser)
+
+
+def run(settings: Settings, arguments: argparse.Namespace) -> int:
+    """Makes the night's copies, or says how old the last ones are."""
+    if arguments.age:
+        return nights.report(settings)
+    if arguments.dry_run:
+        print(f"{settings.keeping.copies} would get copies of all shards")
+        return 0
+    print(nights.make(settings))
+    places = [settings.keeping.copies]
+    if settings.keeping.elsewhere:
+        for name in nights.send(settings):
+            print(f"{settings.keeping.elsewhere}/{name}")
+        places.append(settings.keeping.elsewhere)
+    for place in places:
+        for name in nights.drop(settings, pathlib.Path(place)):
+            print(f"{place}/{name} dropped")
+    return 0

@@ -1,0 +1,84 @@
+"""Writes the kind of each rating group for the bridges from Diameter.
+
+    office diameter [BOOK ..] [--shard NN]
+
+A bridge takes of the units that a gateway reports those of the group's kind: seconds, octets or
+events. They stand in the tariff books: in the files BOOK, or without one in those of a copy of a
+shard. The file that it writes is `groups` of `[diameter]`, whose name is in the bridges'
+configuration; `systemctl reload ocs-diameter` has them read it. Run it again with each later book,
+before the book begins.
+
+Prints a line a group: its number and its kind. The file is written where it changes."""
+from __future__ import annotations
+
+import argparse
+import json
+import os
+import pathlib
+import tomllib
+from collections.abc import Iterable
+
+from office import books, copies, options, shards
+from office.faults import Refused
+from office.settings import Settings
+from office.tables import opened
+
+KINDS = {member: unit for unit, member in books.MEMBERS.items()}
+
+
+def add(parser: argparse.ArgumentParser) -> None:
+    """Adds the word's arguments."""
+    parser.add_argument("books", nargs="*", type=pathlib.Path, metavar="BOOK")
+    parser.add_argument("--shard", default="01", metavar="NN", help="whose copy (%(default)s)")
+    options.dry_run(parser)
+
+
+def run(settings: Settings, arguments: argparse.Namespace) -> int:
+    """Writes the file; refused where a group has two kinds."""
+    told = list(map(read, arguments.books)) or kept(settings, arguments.shard)
+    kinds = kinds_of(told)
+    file = pathlib.Path(settings.diameter.groups)
+    text = json.dumps({str(group): kinds[group] for group in sorted(kinds)}, indent=1) + "\n"
+    for group in sorted(kinds):
+        print(group, kinds[group])
+    if not arguments.dry_run and not (file.is_file() and file.read_text() == text):
+        written(file, text)
+    return 0
+
+
+def read(path: pathlib.Path) -> books.Book:
+    """The book of a file."""
+    try:
+        return books.read(path.read_text(encoding="utf-8"), 0)
+    except OSError as fault:
+        raise Refused(f"{path}: {fault.strerror}") from fault
+    except (ValueError, KeyError, TypeError, tomllib.TOMLDecodeError) as fault:
+        raise Refused(f"{path} isn't a tariff book: {fault}") from fault
+
+
+def kept(settings: Settings, number: str) -> list[books.Book]:
+    """The books of a shard."""
+    with copies.made(settings, [shards.named(settings, number)]) as [copy]:
+        with opened(copy) as database:
+            return books.shelf(database)
+
+
+def kinds_of(told: Iterable[books.Book]) -> dict[int, str]:
+    """The kind of each group of these books, which follow each other."""
+    kinds: dict[int, str] = {}
+    for book in told:
+        for number, group in book.groups.items():
+            if kinds.setdefault(number, KINDS[group.member]) != KINDS[group.member]:
+                raise Refused(f"group {number} is in {kinds[number]} and {KINDS[group.member]}")
+    return kinds
+
+
+def written(file: pathlib.Path, text: str) -> None:
+    """Writes a file in one step."""
+    beside = file.with_name(f".{file.name}.new")
+    try:
+        beside.write_text(text, encoding="utf-8")
+        os.chmod(beside, 0o644)
+        os.replace(beside, file)
+    except OSError as fault:
+        raise Refused(f"{file}: {fault.strerror}") from fault

@@ -1,0 +1,144 @@
+"""Starts a shard from a night's copy, or tries whether it could be (a drill).
+
+    office restore 02 --drill      on the spare port alone: the shard goes on as it is
+    office restore 02              the shard goes on with the copy
+    office restore 02 --night 20261128T023004Z
+
+The copy is served on the spare port, where nobody else asks. Codes of it that were redeemed since for
+accounts of other shards are redeemed there again, or each could be spent twice; its own accounts get
+again what codes of other shards brought them since. It is held against the doors' log: what was
+answered before it was made and isn't in it is told as lacking, and refuses it (--lacking takes it so);
+what was accepted since is lost, and told: each credit, debit and session by its name, and the sums.
+Then it takes the shard's place. The database that was there stays beside it as NN.db.before-MOMENT.
+
+A drill ends with status 1 where the copy is refused. Run it each month: a copy that was never
+started is a hope."""
+from __future__ import annotations
+
+import argparse
+import pathlib
+import shutil
+import time
+from collections.abc import Iterator
+
+from office import (
+    alone,
+    copies,
+    lost,
+    nights,
+    operate,
+    options,
+    places,
+    program,
+    restoring,
+    shards,
+    spare,
+)
+from office.faults import Refused, Unread
+from office.settings import Settings
+from office.shards import Shard
+from office.tables import opened
+
+SUMS = """
+    SELECT (SELECT count(*) FROM accounts) AS accounts, (SELECT count(*) FROM answers) AS answers,
+           (SELECT count(*) FROM charges) AS charges, (SELECT sum(credited) FROM buckets) AS credited"""
+
+
+def add(parser: argparse.ArgumentParser) -> None:
+    """Adds the word's arguments."""
+    parser.add_argument("shard", metavar="SHARD")
+    parser.add_argument("--night", metavar="NAME", help="the folder of the copies (the last one)")
+    parser.add_argument("--drill", action="store_true", help="try it, and change nothing")
+    parser.add_argument("--lacking", action="store_true", help="also a copy that lacks answers")
+    options.dry_run(parser)
+
+
+def run(settings: Settings, arguments: argparse.Namespace) -> int:
+    """Tries the copy, and puts it in the shard's place."""
+    shard, night = shards.named(settings, arguments.shard), chosen(settings, arguments.night)
+    if arguments.dry_run:
+        print(f"{shard} would start from {night / f'{shard}.db'}")
+        return 0
+    work = shard.database.with_name(f"{shard}.restore.db")
+    try:
+        tried(settings, arguments, shard, night, work)
+        if arguments.drill:
+            print(f"{shard} could start from {night}")
+            return 0
+        keep = shard.database.with_name(f"{shard.database.name}.before-{int(time.time())}")
+        with alone.alone(settings, shard):
+            places.ready(settings, shard, work)
+            places.swap(shard, keep)
+    finally:
+        places.discard(work)
+    print(f"{shard} starts from {night}; what was there is {keep}")
+    return 0
+
+
+def chosen(settings: Settings, name: str | None) -> pathlib.Path:
+    """The night that the words name, or the last one; refused where its copies aren't whole."""
+    if name and not nights.NAME.fullmatch(name):
+        raise Unread(f"{name!r} is no night, such as 20261128T023004Z")
+    night = pathlib.Path(settings.keeping.copies) / name if name else nights.last(settings)
+    if not nights.is_whole(night):
+        raise Refused(f"{night}: its copies aren't there, or aren't those that were made")
+    return night
+
+
+def tried(
+    settings: Settings,
+    arguments: argparse.Namespace,
+    shard: Shard,
+    night: pathlib.Path,
+    work: pathlib.Path,
+) -> None:
+    """Opens the copy where nobody else asks, and makes it what the other shards need it to be."""
+    source = night / f"{shard}.db"
+    if not source.is_file():
+        raise Refused(f"{source} isn't there")
+    places.discard(work)
+    shutil.copyfile(source, work)
+    program.give(settings, work)
+    operate.is_now(shard, last_moment(work))
+    print("\n".join(sums(work)))
+    others = [each for each in shards.of(settings) if each != shard and each.database.exists()]
+    with copies.made(settings, others) as made:
+        used = restoring.of_others(made, shard)
+    with spare.served(settings, work) as served:
+        served.ask("GET", "/accounts/0")
+        for line in restoring.again(settings, served, shard, source, used):
+            print(line)
+    compare(settings, arguments, shard, night, work)
+
+
+def compare(
+    settings: Settings,
+    arguments: argparse.Namespace,
+    shard: Shard,
+    night: pathlib.Path,
+    work: pathlib.Path,
+) -> None:
+    """Holds the copy against the doors' log: a day before it was made, and since."""
+    begun = nights.moment(night)
+    found = list(lost.since(settings, work, shard, begun - nights.DAY))
+    lacking = [one for one in found if one.ended() < begun]
+    since = [one for one in found if one.ended() >= begun]
+    for one in since:
+        print(one)
+    print(lost.summed(since))
+    if lacking and not arguments.lacking:
+        told = "\n  ".join(map(str, lacking))
+        raise Refused(f"{night}: {len(lacking)} answers of before it aren't in it:\n  {told}")
+
+
+def last_moment(database: pathlib.Path) -> int:
+    """The last moment of a database."""
+    with opened(database) as read:
+        return read.last_moment
+
+
+def sums(database: pathlib.Path) -> Iterator[str]:
+    """What a copy has."""
+    with opened(database) as read:
+        row = next(read.rows(SUMS))
+    yield "copy " + " ".join(f"{name} {count or 0}" for name, count in row.items())

@@ -1,0 +1,103 @@
+"""Brings the office up, or to what its file says now.
+
+    office up [--meant]
+
+Writes HAProxy's configuration where it is another than before and HAProxy takes it; starts each
+shard that isn't up, one after another, and waits until it listens; starts HAProxy, or has it read
+its configuration; and sees that each shard answers through it. What is up already goes on. A shard
+whose start the clock is against is left alone (`office check --help` says when); --meant says that
+the clock is right. With two machines Pacemaker starts the shards. Prints a line for each thing that is
+done."""
+from __future__ import annotations
+
+import argparse
+import pathlib
+import sys
+import time
+from collections.abc import Callable, Iterable
+
+from office import alone, clock, options, proxy, units
+from office.client import Client
+from office.doors import configuration
+from office.faults import Refused, TurnedAway
+from office.progress import shown
+from office.settings import Settings
+from office.shards import Shard
+
+# Seconds in which a shard that listens answers through HAProxy.
+PATIENCE, AGAIN = 60.0, 0.2
+
+
+def add(parser: argparse.ArgumentParser) -> None:
+    """Adds the word's arguments."""
+    parser.add_argument("--meant", action="store_true", help="the clock is right: start by it")
+    options.which_shards(parser)
+    options.dry_run(parser)
+
+
+def run(settings: Settings, arguments: argparse.Namespace) -> int:
+    """Brings it up; 1 where a shard isn't."""
+    chosen = options.chosen(settings, arguments)
+    text, path = configuration.text(settings), pathlib.Path(settings.haproxy.file)
+    if arguments.dry_run:
+        return plan([] if settings.machines else chosen, text, path)
+    is_changed = proxy.put(path, text)
+    print(f"{path}: {'written' if is_changed else 'as before'}")
+    failed = each("start", chosen, lambda shard: started(settings, shard, arguments.meant))
+    print(proxy.up(settings, is_changed), flush=True)
+    with Client(settings, patience=PATIENCE) as client:
+        return failed | each("ask", chosen, lambda shard: answers(client, shard))
+
+
+def plan(chosen: list[Shard], text: str, path: pathlib.Path) -> int:
+    """Says what would be done."""
+    is_same = path.exists() and path.read_text(encoding="utf-8") == text
+    print(f"{path} would be {'as before' if is_same else 'written'}")
+    for shard in chosen:
+        if not units.is_active(shard):
+            print(f"{shard.unit} would be started")
+    return 0
+
+
+def each(what: str, chosen: Iterable[Shard], step: Callable[[Shard], str]) -> int:
+    """Takes a step for each shard, and prints what it says; 1 where one was refused."""
+    failed = 0
+    for shard in shown(what, chosen):
+        try:
+            print(f"{shard} {step(shard)}", flush=True)
+        except Refused as fault:
+            print(f"{shard} {fault}", file=sys.stderr)
+            failed = 1
+    return failed
+
+
+def started(settings: Settings, shard: Shard, is_meant: bool) -> str:
+    """Starts a shard that isn't up, now and at each boot, and waits until it listens."""
+    if units.is_active(shard):
+        return "is up"
+    if settings.machines:
+        return "isn't up here: Pacemaker starts it where its disk is"
+    if is_meant:
+        clock.mean(shard)
+    fault = clock.fault(settings, shard)
+    if fault:
+        raise Refused(
+            f"isn't started: {fault}. If this machine's clock is right: office up --meant"
+        )
+    units.systemctl("enable", "--quiet", "--now", shard.unit)
+    alone.wait_until_up(shard)
+    return "is started"
+
+
+def answers(client: Client, shard: Shard) -> str:
+    """Sees that a shard answers through HAProxy; a process of before a reload may not know it yet."""
+    end = time.monotonic() + PATIENCE
+    while True:
+        try:
+            client.ask("GET", "/accounts/0", shard=shard.number)
+            return "answers"
+        except TurnedAway:
+            if time.monotonic() > end:
+                raise
+            client.close()
+        time.sleep(AGAIN)
