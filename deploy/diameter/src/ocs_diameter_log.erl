@@ -1,0 +1,78 @@
+%% A line of JSON for each answer on standard output, with the members of the office's other doors,
+%% so that one reader reads both. Under systemd they go to the journal. What OTP logs goes to
+%% standard error (sys.config). A request costs a message to this process.
+-module(ocs_diameter_log).
+-behaviour(gen_server).
+
+-export([start_link/0, line/1]).
+-export([init/1, handle_call/3, handle_cast/2, handle_info/2]).
+
+%% Lines that wait for a reader that is slow; beyond it they are counted and dropped.
+-define(MOST_WAITING, 10000).
+
+-spec start_link() -> {ok, pid()} | {error, term()}.
+start_link() ->
+    gen_server:start_link({local, ?MODULE}, ?MODULE, [], []).
+
+%% Writes the line of these facts. Members that they lack are "-".
+-spec line(#{atom() => term()}) -> ok.
+line(Facts) ->
+    Moment = os:system_time(millisecond) - maps:get(took, Facts, 0),
+    case process_info(whereis(?MODULE), message_queue_len) of
+        {message_queue_len, Waiting} when Waiting < ?MOST_WAITING ->
+            gen_server:cast(?MODULE, {line, Moment, Facts});
+        _ ->
+            ocs_diameter_metrics:count(lines_dropped)
+    end.
+
+-spec init([]) -> {ok, port()}.
+init([]) ->
+    {ok, open_port({fd, 1, 1}, [out, binary])}.
+
+-spec handle_call(term(), term(), port()) -> {reply, nok, port()}.
+handle_call(_, _, Port) ->
+    {reply, nok, Port}.
+
+-spec handle_cast({line, integer(), map()}, port()) -> {noreply, port()}.
+handle_cast({line, Moment, Facts}, Port) ->
+    port_command(Port, [written(Moment, Facts), $\n]),
+    {noreply, Port}.
+
+-spec handle_info(term(), port()) -> {noreply, port()} | {stop, term(), port()}.
+handle_info({'EXIT', Port, Reason}, Port) ->
+    {stop, Reason, Port};
+handle_info(_, Port) ->
+    {noreply, Port}.
+
+%% The members in the order of the other doors' lines. Numbers of the request and codes are texts
+%% there, times and sizes numbers.
+-spec written(integer(), map()) -> iodata().
+written(Moment, Facts) ->
+    Seen = case Facts of
+               #{seen := #{} = S} -> S;
+               _ -> #{}
+           end,
+    jiffy:encode(
+      {[{<<"moment">>, Moment / 1000}, {<<"door">>, <<"diameter">>}]
+       ++ [{atom_to_binary(Name), text(maps:get(Name, Facts, none))}
+           || Name <- [peer, who]]
+       ++ [{<<"what">>, text(maps:get(what, Facts, <<"CCR">>))}]
+       ++ [{atom_to_binary(Name), text(maps:get(Name, Facts, none))}
+           || Name <- [account, session, type, number, reference, amount, granted, code, service,
+                       refusal, why]]
+       ++ [{<<"status">>, maps:get(status, Seen, 0)}, {<<"shard">>, maps:get(shard, Seen, <<"-">>)},
+           {<<"came">>, 0}]
+       ++ [{atom_to_binary(Name), maps:get(Name, Facts, 0)}
+           || Name <- [waited, answered, took, bytes]]
+       ++ [{<<"end">>, <<"--">>}, {<<"id">>, maps:get(id, Seen, <<"-">>)}]}, [force_utf8]).
+
+-spec text(term()) -> binary().
+text(none) -> <<"-">>;
+text(undefined) -> <<"-">>;
+text(Number) when is_integer(Number) -> integer_to_binary(Number);
+text(Atom) when is_atom(Atom) -> atom_to_binary(Atom);
+text(Text) when is_binary(Text); is_list(Text) ->
+    try iolist_to_binary(Text)
+    catch error:_ -> <<"-">>
+    end;
+text(_) -> <<"-">>.

@@ -1,0 +1,209 @@
+%% The office over HTTP/1.1: kept connections and time limits. Called by ocs_diameter_peer for each
+%% question.
+%%
+%% A request has its connection to itself, by OTP's own reader of HTTP heads ({packet, http_bin}).
+%% OTP's httpc isn't used, since it hands a request to a connection on which another one is under
+%% way, so that an account whose shard is away would hold up others. A connection is closed when its
+%% request's time is over: what waits in HAProxy then isn't done later (option abortonclose).
+-module(ocs_diameter_office).
+
+-export([ask/2]).
+-export_type([reply/0, seen/0]).
+
+%% Longest head line and longest body that is read: a balance of 40,000 buckets has some 5 MB.
+-define(MOST_BODY, 16#4000000).
+
+%% {answered, Status, Body}: the office's word. busy: it asked for the same again until time was
+%% over, and nothing was done. open: no answer came in time, so it may have been done.
+-type reply() :: {answered, pos_integer(), binary()} | busy | open.
+%% What the last answer's head said: its status, X-Request-Id and Office-Shard.
+-type seen() :: #{status := non_neg_integer(), id := binary(), shard := binary()}.
+-type outcome() :: {answer, pos_integer(), [{binary(), binary()}], binary(), keep | close}
+                 | unsent | closed | broken.
+
+%% Asks until there is an answer or the deadline, which is milliseconds of the monotonic clock. What
+%% may be sent again is sent again: the office's key makes the same bytes safe.
+-spec ask(ocs_diameter_ask:question(), integer()) -> {reply(), seen()}.
+ask(Question, Deadline) ->
+    #{office := Office, queue_time := Queue} = ocs_diameter_config:get(),
+    Seen = #{status => 0, id => <<"-">>, shard => <<"-">>},
+    tries(Office, request(Question, Office), Deadline, Queue, open, Seen).
+
+-spec request(ocs_diameter_ask:question(), ocs_diameter_config:office()) -> iodata().
+request({ccr, Members}, Office) ->
+    Body = jiffy:encode(Members),
+    [<<"POST /ccr HTTP/1.1\r\nHost: ">>, host(Office),
+     <<"\r\nContent-Type: application/json\r\nContent-Length: ">>,
+     integer_to_binary(iolist_size(Body)), <<"\r\n\r\n">>, Body];
+request({balance, Account}, Office) ->
+    [<<"GET /accounts/">>, Account, <<" HTTP/1.1\r\nHost: ">>, host(Office), <<"\r\n\r\n">>].
+
+-spec host(ocs_diameter_config:office()) -> iodata().
+host({local, _}) ->
+    <<"localhost">>;
+host({Address, Port}) ->
+    Text = inet:ntoa(Address),
+    case tuple_size(Address) of
+        4 -> [Text, $:, integer_to_binary(Port)];
+        8 -> [$[, Text, $], $:, integer_to_binary(Port)]
+    end.
+
+%% Last is what is told if time runs out between two tries.
+-spec tries(ocs_diameter_config:office(), iodata(), integer(), non_neg_integer(), busy | open,
+            seen()) -> {reply(), seen()}.
+tries(Office, Request, Deadline, Queue, Last, Seen) ->
+    case ocs_diameter_clock:left(Deadline) of
+        0 ->
+            {Last, Seen};
+        _ ->
+            Outcome = once(Office, Request, Deadline),
+            ocs_diameter_metrics:count({office, status(Outcome)}),
+            Now = seen(Outcome, Seen),
+            case judged(Outcome, Deadline, Queue) of
+                {again, Told, Pause} ->
+                    timer:sleep(min(Pause, ocs_diameter_clock:left(Deadline))),
+                    tries(Office, Request, Deadline, Queue, Told, Now);
+                Reply ->
+                    {Reply, Now}
+            end
+    end.
+
+%% What an outcome says: the reply, or what is told if there is no other one until the deadline. A
+%% request that HAProxy turned away is sent again only where it can wait for its turn once more:
+%% what would be in the queue at the deadline could slip into a shard's socket behind our back.
+-spec judged(outcome(), integer(), non_neg_integer()) -> reply() | {again, busy | open, 0..200}.
+judged({answer, Status, _, Body, _}, Deadline, Queue) ->
+    HasTime = ocs_diameter_clock:left(Deadline) >= Queue + 200,
+    case told(Status) of
+        answered -> {answered, Status, Body};
+        Told when HasTime -> {again, Told, 200};
+        Told -> Told
+    end;
+%% A kept connection that the other end had closed, as it may between two requests: at once anew.
+judged(closed, _, _) ->
+    {again, open, 0};
+judged(_, _, _) ->
+    {again, open, 50}.
+
+-spec told(pos_integer()) -> answered | busy | open.
+told(Status) when Status == 503; Status == 429; Status == 408 -> busy;
+told(Status) when Status == 502; Status == 504 -> open;
+told(_) -> answered.
+
+-spec seen(outcome(), seen()) -> seen().
+seen({answer, Status, Fields, _, _}, _) ->
+    #{status => Status, id => field(<<"x-request-id">>, Fields),
+      shard => field(<<"office-shard">>, Fields)};
+seen(_, Seen) ->
+    Seen.
+
+-spec status(outcome()) -> pos_integer() | unsent | closed | broken.
+status({answer, Status, _, _, _}) -> Status;
+status(Other) -> Other.
+
+-spec once(ocs_diameter_config:office(), iodata(), integer()) -> outcome().
+once(Office, Request, Deadline) ->
+    case ocs_diameter_pool:take() of
+        none ->
+            case connect(Office, Deadline) of
+                {ok, Socket} -> on(Socket, Request, Deadline);
+                {error, _} -> unsent
+            end;
+        Socket ->
+            case on(Socket, Request, Deadline) of
+                unsent -> closed;
+                Outcome -> Outcome
+            end
+    end.
+
+-spec connect(ocs_diameter_config:office(), integer()) ->
+          {ok, gen_tcp:socket()} | {error, term()}.
+connect(Office, Deadline) ->
+    {Address, Port, Family} = case Office of
+                                  {local, _} -> {Office, 0, [local]};
+                                  {{_, _, _, _} = A, P} -> {A, P, [{nodelay, true}]};
+                                  {A, P} -> {A, P, [inet6, {nodelay, true}]}
+                              end,
+    Options = [binary, {active, false}, {packet, http_bin}, {send_timeout, 5000},
+               {send_timeout_close, true}],
+    gen_tcp:connect(Address, Port, Options ++ Family, min(1000, ocs_diameter_clock:left(Deadline))).
+
+-spec on(gen_tcp:socket(), iodata(), integer()) -> outcome().
+on(Socket, Request, Deadline) ->
+    Outcome = case gen_tcp:send(Socket, Request) of
+                  ok -> read(Socket, Deadline);
+                  {error, _} -> unsent
+              end,
+    case Outcome of
+        {answer, _, _, _, keep} -> ocs_diameter_pool:give(Socket);
+        _ -> gen_tcp:close(Socket)
+    end,
+    Outcome.
+
+%% The answer. A connection that ends before its first byte had carried no answer; whether the
+%% request was read is then open.
+-spec read(gen_tcp:socket(), integer()) -> outcome().
+read(Socket, Deadline) ->
+    case recv(Socket, 0, Deadline) of
+        {ok, {http_response, _, Status, _}} ->
+            fields(Socket, Deadline, Status, []);
+        {error, closed} ->
+            closed;
+        _ ->
+            broken
+    end.
+
+-spec fields(gen_tcp:socket(), integer(), pos_integer(), [{binary(), binary()}]) -> outcome().
+fields(Socket, Deadline, Status, Fields) ->
+    case recv(Socket, 0, Deadline) of
+        {ok, {http_header, _, Name, _, Value}} ->
+            fields(Socket, Deadline, Status, [{lower(Name), Value} | Fields]);
+        {ok, http_eoh} ->
+            body(Socket, Deadline, Status, Fields);
+        _ ->
+            broken
+    end.
+
+-spec body(gen_tcp:socket(), integer(), pos_integer(), [{binary(), binary()}]) -> outcome().
+body(Socket, Deadline, Status, Fields) ->
+    Keep = case string:lowercase(field(<<"connection">>, Fields)) of
+               <<"close">> -> close;
+               _ -> keep
+           end,
+    case string:to_integer(field(<<"content-length">>, Fields)) of
+        {0, <<>>} ->
+            {answer, Status, Fields, <<>>, Keep};
+        {Length, <<>>} when Length > 0, Length =< ?MOST_BODY ->
+            _ = inet:setopts(Socket, [{packet, raw}]),
+            case recv(Socket, Length, Deadline) of
+                {ok, Body} ->
+                    {answer, Status, Fields, Body, unless_more(Socket, Keep)};
+                {error, _} ->
+                    broken
+            end;
+        _ ->
+            broken
+    end.
+
+%% Bytes behind an answer belong to nothing that was asked.
+-spec unless_more(gen_tcp:socket(), keep | close) -> keep | close.
+unless_more(Socket, Keep) ->
+    case gen_tcp:recv(Socket, 0, 0) of
+        {error, timeout} ->
+            _ = inet:setopts(Socket, [{packet, http_bin}]),
+            Keep;
+        _ ->
+            close
+    end.
+
+-spec recv(gen_tcp:socket(), non_neg_integer(), integer()) -> {ok, term()} | {error, term()}.
+recv(Socket, Length, Deadline) ->
+    gen_tcp:recv(Socket, Length, ocs_diameter_clock:left(Deadline)).
+
+-spec field(binary(), [{binary(), binary()}]) -> binary().
+field(Name, Fields) ->
+    proplists:get_value(Name, Fields, <<"-">>).
+
+-spec lower(atom() | binary()) -> binary().
+lower(Name) when is_atom(Name) -> string:lowercase(atom_to_binary(Name));
+lower(Name) -> string:lowercase(Name).

@@ -1,0 +1,241 @@
+"""Connections of gateways: none of their requests is lost without an answer, and those of one
+session keep their order."""
+from __future__ import annotations
+
+import concurrent.futures
+import contextlib
+import socket
+import struct
+import time
+from typing import Any
+
+import pytest
+from diameter.bridge import Bridge, Stub, good
+from diameter.wire import (
+    CCR,
+    DPR,
+    DWR,
+    REQUEST,
+    Avp,
+    Gateway,
+    ccr,
+    message,
+    read_message,
+    seconds,
+    service,
+)
+
+SIXTY = service(10, seconds(60))
+
+
+@pytest.fixture(scope="module")
+def peers(starts: Any) -> Any:
+    """A bridge over a stub that goes with the module."""
+    stub = Stub()
+    yield starts(stub.port, in_flight="1000"), stub
+    stub.stop()
+
+
+@pytest.fixture
+def bridge(peers: tuple[Bridge, Stub]) -> Bridge:
+    """The module's bridge."""
+    return peers[0]
+
+
+@pytest.fixture
+def asked(peers: tuple[Bridge, Stub]) -> Stub:
+    """What it asks, as good as new."""
+    peers[1].plan = good
+    peers[1].take()
+    return peers[1]
+
+
+def answered(port: int, host: str, is_reset: bool = False) -> bool:
+    """Whether a request in the very moment in which CEA is read is answered 2001."""
+    greeting = Gateway.__new__(Gateway)
+    greeting.host, greeting.capabilities = host, (("Auth-Application-Id", 4),)
+    code, application, avps, flags = greeting.cer()
+    first = message(code, application, avps, flags, 1, 1)
+    code, application, avps, flags = ccr(f"{host};{time.monotonic_ns()}", 1, 0, SIXTY, host=host)
+    second = message(code, application, avps, flags, 2, 2)
+    with socket.create_connection(("127.0.0.1", port), 20) as one:
+        if is_reset:
+            one.setsockopt(socket.SOL_SOCKET, socket.SO_LINGER, struct.pack("ii", 1, 0))
+        one.sendall(first)
+        with contextlib.suppress(OSError):
+            read_message(one)
+            one.sendall(second)
+            while came := read_message(one):
+                if came.code == CCR:
+                    return bool(came.result == 2001)
+    return False
+
+
+BEHIND: dict[str, tuple[list[str], int, bool]] = {
+    "one by one": ([f"a{at}.example" for at in range(200)], 1, False),
+    "20 at once": ([f"b{at}.example" for at in range(200)], 20, False),
+    "after a reconnect": (["gw.example"] * 200, 1, False),
+    "after a reset": (["gw.example"] * 200, 1, True),
+    "one host, 20 at once": (["gw.example"] * 200, 20, False),
+}
+
+
+@pytest.mark.parametrize("case", BEHIND)
+def test_requests_right_behind_cea(bridge: Bridge, asked: Stub, case: str) -> None:
+    hosts, at_once, is_reset = BEHIND[case]
+    with concurrent.futures.ThreadPoolExecutor(at_once) as pool:
+        told = list(pool.map(lambda host: answered(bridge.port, host, is_reset), hosts))
+    assert told.count(True) == 200
+    assert len(asked.take()) == 200
+
+
+def vendor_specific(vendor: int) -> Avp:
+    """Application 4 of a vendor."""
+    own: list[Avp] = [("Vendor-Id", vendor), ("Auth-Application-Id", 4)]
+    return ("Vendor-Specific-Application-Id", own)
+
+
+CAPABILITIES: dict[str, tuple[list[Avp], int]] = {
+    "application 4": ([("Auth-Application-Id", 4)], 2001),
+    "application 4 of 3GPP alone": ([vendor_specific(10415)], 2001),
+    "both": (
+        [("Supported-Vendor-Id", 10415), ("Auth-Application-Id", 4), vendor_specific(10415)],
+        2001,
+    ),
+    "a relay": ([("Auth-Application-Id", 0xFFFFFFFF)], 2001),
+    "many": (
+        [("Auth-Application-Id", 4), ("Auth-Application-Id", 1), ("Acct-Application-Id", 3)],
+        2001,
+    ),
+    "none in common": ([("Auth-Application-Id", 1)], 5010),
+}
+
+
+@pytest.mark.parametrize("case", CAPABILITIES)
+def test_capabilities(bridge: Bridge, asked: Stub, case: str) -> None:
+    capabilities, code = CAPABILITIES[case]
+    gateway = Gateway(bridge.port, "caps.example", capabilities)
+    assert gateway.cea.result == code
+    if code == 2001:
+        assert gateway.cea.every("Auth-Application-Id") == [4]
+        assert gateway.ask(ccr("caps", 1, 0, SIXTY, host="caps.example")).result == 2001
+    gateway.close()
+
+
+def test_a_second_connection_of_a_host(bridge: Bridge, asked: Stub) -> None:
+    old, new = Gateway(bridge.port), Gateway(bridge.port)
+    assert new.cea.result == 2001
+    assert [each.ask(ccr("two", 1, 0, SIXTY)).result for each in (old, new, old)] == [2001] * 3
+    new.close()
+    assert old.ask(ccr("two", 1, 0, SIXTY)).result == 2001
+    old.close()
+
+
+def test_a_message_in_pieces_and_a_large_one(bridge: Bridge, asked: Stub) -> None:
+    gateway = Gateway(bridge.port)
+    code, application, avps, flags = ccr("slow", 1, 0, SIXTY)
+    raw = message(code, application, avps, flags, 9001, 9001)
+    gateway.send(raw[:30])
+    time.sleep(2.5)
+    gateway.send(raw[30:])
+    came = gateway.wait(9001)
+    assert came and came.result == 2001
+    large: Avp = ("Service-Information", [((4321, 10415), b"x" * 60000)])
+    assert gateway.ask(ccr("large", 1, 0, SIXTY, large)).result == 2001
+    gateway.close()
+
+
+def test_many_requests_on_one_connection(bridge: Bridge, asked: Stub) -> None:
+    gateway = Gateway(bridge.port)
+    hops = [gateway.begin(ccr(f"pipe{at}", 1, 0, SIXTY)) for at in range(500)]
+    told = [gateway.wait(hop, 30) for hop in hops]
+    assert [each.result for each in told if each] == [2001] * 500
+    gateway.close()
+
+
+def test_watchdog_and_disconnect(bridge: Bridge, asked: Stub) -> None:
+    gateway = Gateway(bridge.port)
+    assert gateway.ask((DWR, 0, gateway.origin(), REQUEST)).result == 2001
+    bye: list[Avp] = [*gateway.origin(), ("Disconnect-Cause", 0)]
+    assert gateway.ask((DPR, 0, bye, REQUEST)).result == 2001
+    gateway.close()
+
+
+@pytest.mark.slow
+def test_a_silent_connection_is_watched(starts: Any, stub: Stub) -> None:
+    bridge = starts(stub.port, watchdog_timer="6000")
+    gateway = Gateway(bridge.port)
+    assert gateway.asked(DWR, seconds=12)
+    assert gateway.ask(ccr("watched", 1, 0, SIXTY)).result == 2001
+    gateway.close()
+
+
+JUNK = {
+    "HTTP": b"GET / HTTP/1.1\r\n\r\n",
+    "an empty message": b"\1\0\0\x14" + b"\0" * 16,
+    "a short length": b"\1\0\0\x08aaaa",
+    "ones": b"\xff" * 4096,
+    "half a greeting": message(257, 0, [("Origin-Host", "x")], 0x80)[:25],
+    "another version": b"\2\0\0\x14" + b"\0" * 16,
+    "a TLS hello": bytes.fromhex("160301020001"),
+}
+
+
+@pytest.mark.parametrize("case", JUNK)
+def test_garbage_harms_nobody_else(bridge: Bridge, asked: Stub, case: str) -> None:
+    gateway = Gateway(bridge.port)
+    for _ in range(40):
+        with socket.create_connection(("127.0.0.1", bridge.port)) as one:
+            one.sendall(JUNK[case])
+    assert gateway.ask(ccr("beside", 1, 0, SIXTY)).result == 2001
+    gateway.close()
+
+
+def test_a_wrong_length_ends_its_connection(bridge: Bridge, asked: Stub) -> None:
+    gateway = Gateway(bridge.port, "bad.example")
+    gateway.send(b"\1\0\0\x1d\xc0\0\1\x10\0\0\0\4" + b"\0" * 17)
+    with gateway.changed:
+        assert gateway.changed.wait_for(lambda: gateway.is_closed, 5)
+
+
+def test_the_order_within_a_session(bridge: Bridge, asked: Stub) -> None:
+    def slow(body: dict[str, Any]) -> tuple[int, Any]:
+        time.sleep(0.02 if body["CC-Request-Number"] % 2 == 0 else 0)
+        return good(body)
+
+    gateway = Gateway(bridge.port)
+    asked.plan = slow
+    part = service(10, seconds(5), [seconds(1)])
+    hops = [gateway.begin(ccr(f"ord{at}", 2, n, part)) for n in range(20) for at in range(10)]
+    assert all(gateway.wait(hop, 30) for hop in hops)
+    seen: dict[str, list[int]] = {}
+    for body in asked.take():
+        seen.setdefault(body["Session-Id"], []).append(body["CC-Request-Number"])
+    assert list(seen.values()) == [list(range(20))] * 10
+    gateway.close()
+
+
+def test_other_sessions_dont_wait(bridge: Bridge, asked: Stub) -> None:
+    def slow(body: dict[str, Any]) -> tuple[int, Any]:
+        time.sleep(3 if body["Session-Id"] == "slow" else 0)
+        return good(body)
+
+    asked.plan = slow
+    gateway = Gateway(bridge.port)
+    first = gateway.begin(ccr("slow", 2, 1, SIXTY))
+    began = time.monotonic()
+    assert gateway.ask(ccr("fast", 2, 1, SIXTY)).result == 2001
+    assert time.monotonic() - began < 1
+    assert gateway.wait(first)
+    gateway.close()
+
+
+def test_peers_by_name(starts: Any, stub: Stub) -> None:
+    bridge = starts(stub.port, peers='["gw.example", "GW2.example"]')
+    for host, code in (("gw.example", 2001), ("gw2.example", 2001), ("gw3.example", 3010)):
+        gateway = Gateway(bridge.port, host)
+        assert gateway.cea.result == code
+        if code == 2001:
+            assert gateway.ask(ccr(f"by-{host}", 1, 0, SIXTY, host=host)).result == 2001
+        gateway.close()
+    assert bridge.measure('peers_refused_total{reason="name"}') == 1
