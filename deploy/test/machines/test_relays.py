@@ -1,0 +1,74 @@
+"""Requests go from a machine's doors to a shard by its relay, at the address that moves with it:
+real HAProxy, real shard, in a machine's namespaces. Both machines' doors are the one HAProxy
+here."""
+from __future__ import annotations
+
+import pathlib
+
+from support.world import BOOK, program
+
+from machines.office import TWO, file, on
+
+MORE = '[haproxy]\nuser = ""\nsockets = "/mnt"\n[cluster]'
+# The shard listens as its unit has it; its address comes when the lines say so.
+SERVED = """\
+mkdir /var/lib/ocs/01
+{program} init /var/lib/ocs/01/01.db {book} > /mnt/told
+{program} serve /var/lib/ocs/01/01.db --port 8101 --connections 100000 > /mnt/told 2>&1 & shard=$!
+$office --file {file} doors > /mnt/haproxy.cfg
+haproxy -db -f /mnt/haproxy.cfg > /mnt/log 2>&1 & haproxy=$!
+ask() {{ curl -sS --max-time 60 -o - -w ' %{{http_code}}\\n' "$@" 2>&1; }}
+until ask http://127.0.0.1:8081/office | grep -q ' 200$'; do sleep 0.1; done
+"""
+ENDED = "kill $haproxy $shard; wait"
+# An account of shard 01, of two.
+ACCOUNT = "49152"
+
+
+def answers(tmp_path: pathlib.Path, lines: str) -> list[str]:
+    """What the lines print, with a shard and HAProxy that are up on m1."""
+    path = file(tmp_path, TWO, "[cluster]", MORE)
+    begin = SERVED.format(program=program(), book=BOOK, file=path)
+    return on("m1", f"{begin}{lines}\n{ENDED}").splitlines()
+
+
+def test_a_request_reaches_the_shard_by_its_relay(tmp_path: pathlib.Path) -> None:
+    told = answers(
+        tmp_path,
+        "ip addr add 10.51.0.101/24 dev eth1\n"
+        f"for i in 1 2; do ask -X PUT -d '' http://127.0.0.1:8081/accounts/{ACCOUNT}; done\n"
+        "grep -c '^{' /mnt/log",
+    )
+    assert told == ['{"Result-Code":2001} 200', '{"Refusal":"O1"} 200', "3"]
+
+
+def test_an_address_that_moves_is_waited_for(tmp_path: pathlib.Path) -> None:
+    told = answers(
+        tmp_path,
+        f"ask -X PUT -d '' http://127.0.0.1:8081/accounts/{ACCOUNT} & asked=$!\n"
+        "sleep 3; echo before; ip addr add 10.51.0.101/24 dev eth1; wait $asked",
+    )
+    assert told == ["before", '{"Result-Code":2001} 200']
+
+
+def test_a_shard_that_starts_is_waited_for_behind_its_address(tmp_path: pathlib.Path) -> None:
+    told = answers(
+        tmp_path,
+        "ip addr add 10.51.0.101/24 dev eth1; kill -9 $shard\n"
+        f"ask -X PUT -d '' http://127.0.0.1:8081/accounts/{ACCOUNT} & asked=$!\n"
+        f"sleep 3; echo before; {program()} serve /var/lib/ocs/01/01.db --port 8101 "
+        "--connections 1000 > /mnt/told 2>&1 & shard=$!\nwait $asked",
+    )
+    assert told == ["before", '{"Result-Code":2001} 200']
+
+
+def test_a_relay_is_for_the_machines_alone(tmp_path: pathlib.Path) -> None:
+    asked = "http://10.51.0.101:8201/accounts/49151"
+    told = answers(
+        tmp_path,
+        "ip addr add 10.51.0.101/24 dev eth1; ip addr add 10.51.0.66/24 dev eth1\n"
+        f"ask --interface 10.51.0.66 {asked}; ask --interface 127.0.0.1 {asked}\n"
+        f"ask {asked}; ask --interface 10.51.0.11 {asked}",
+    )
+    found = [line[-4:] for line in told]
+    assert [status for status in found if status[1:].isdigit()] == [" 000"] * 2 + [" 200"] * 2
