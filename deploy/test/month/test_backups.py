@@ -1,0 +1,153 @@
+"""Copies each night, kept for some days in two places; a shard that starts from one."""
+from __future__ import annotations
+
+import time
+from collections.abc import Iterator
+
+import pytest
+
+from month.machine import wait_until
+from month.stand import Stand, request, stand
+
+CODES = "code,amount,days,scope\n" + "".join(f"{at:012},5000000,30,\n" for at in range(1, 9))
+FILE = """
+[keeping]
+elsewhere = "/srv/elsewhere"
+days = 3
+"""
+
+
+@pytest.fixture(scope="module", name="office")
+def made() -> Iterator[Stand]:
+    with stand() as office:
+        office.run(f"cat >> /etc/ocs/office.toml <<'END'{FILE}END\nmkdir /srv/elsewhere")
+        office.run("office clearing --write")
+        yield office
+
+
+def at_home(office: Stand, shard: str, first: int, count: int) -> list[str]:
+    """Numbers of accounts that live in a shard, opened with money."""
+    found: list[str] = []
+    for number in range(first, first + 200):
+        if len(found) < count and office.home(str(number)) == shard:
+            found.append(str(number))
+            office.open(str(number), 1_000_000)
+    return found
+
+
+def test_a_night_is_copied_sent_and_measured(office: Stand) -> None:
+    assert office.machine.run("office backups --age", 1).stderr.count("no copies") == 2
+    told = office.machine.run("office backups").stdout.splitlines()
+    night = told[0].rpartition("/")[2]
+    assert told == [f"/var/lib/ocs/copies/{night}", f"/srv/elsewhere/{night}"]
+    for place in ("/var/lib/ocs/copies", "/srv/elsewhere"):
+        assert office.run(f"cd {place}/{night}; sha256sum --check SHA256SUMS").count("OK") == 4
+    ages = office.machine.run("office backups --age").stdout
+    assert ages == "/var/lib/ocs/copies 0.0 h\n/srv/elsewhere 0.0 h\n"
+
+
+def test_old_nights_go_and_the_last_one_stays(office: Stand) -> None:
+    office.run("cd /var/lib/ocs/copies; cp -r 2* 20200101T000000Z; mkdir .20200102T000000Z.part")
+    time.sleep(1)
+    told = office.machine.run("office backups").stdout
+    assert "/var/lib/ocs/copies/20200101T000000Z dropped" in told
+    assert "/srv/elsewhere/20200101T000000Z dropped" in told
+    assert office.run("ls -A /var/lib/ocs/copies").count("\n") == 2
+    office.run("cd /var/lib/ocs/copies; mv $(ls | tail -n 1) /tmp/; mv $(ls) 20200101T000000Z")
+    assert "at most 26 h" in office.machine.run("office backups --age", 1).stderr
+    office.run("cd /var/lib/ocs/copies; mv 2020* $(ls /srv/elsewhere | head -n 1); mv /tmp/2* .")
+
+
+def test_a_place_that_is_away_is_told(office: Stand) -> None:
+    office.run("mv /srv/elsewhere /srv/away")
+    time.sleep(1)
+    told = office.machine.run("office backups", 1)
+    assert "/var/lib/ocs/copies/" in told.stdout and "on this machine alone" in told.stderr
+    office.run("mv /srv/away /srv/elsewhere")
+    time.sleep(1)
+    assert office.machine.run("office backups").stdout.count("/srv/elsewhere/") == 2
+
+
+def test_the_timer_is_one_that_systemd_takes(office: Stand) -> None:
+    office.run("cp deploy/office-backups.* /etc/systemd/system/ && systemctl daemon-reload")
+    office.run("systemd-analyze verify /etc/systemd/system/office-backups.timer")
+    before = office.run("ls /var/lib/ocs/copies").count("\n")
+    time.sleep(1)
+    office.run("systemctl start office-backups.service")
+    assert office.run("ls /var/lib/ocs/copies").count("\n") == before + 1
+
+
+def test_a_copy_is_started_and_no_voucher_spent_twice(office: Stand) -> None:
+    own, other = at_home(office, "02", 500_000, 3), at_home(office, "03", 500_000, 3)
+    office.machine.write("/tmp/02.csv", CODES)
+    office.machine.write("/tmp/03.csv", CODES.replace("00000000000", "00000000010"))
+    office.run("office import --shard 02 /tmp/02.csv; office import --shard 03 /tmp/03.csv")
+    office.run(f"office redeem 000000000001 {own[0]}; office redeem 000000000002 {other[0]}")
+    time.sleep(1)
+    office.run("office backups")
+    # Lost with the shard: a redemption of its own code, a credit, a session; and what has a part
+    # in another shard: its code for the other's account, the other's code for its account.
+    office.run(f"office redeem 000000000003 {own[1]}")
+    office.run(f"office redeem 000000000004 {other[1]}; office redeem 000000000104 {own[1]}")
+    office.ask("POST", f"/accounts/{own[2]}/credits", {"Amount": 77, "Reference": "late"})
+    office.ask("POST", "/ccr", request(own[2], "talk", 1, 0, 10, 600))
+    wait_until(lambda: "talk" in office.run("journalctl --no-pager -u haproxy -o cat"), "the log")
+    had = {account: office.available(account) for account in (*own, *other)}
+    drill = office.machine.run("office restore 02 --drill").stdout
+    assert f"lost credit {own[2]} late 77\n" in drill
+    assert f"lost session {own[2]} talk 0\n" in drill
+    assert f"again 000000000004 is spent for {other[1]}\n" in drill
+    assert f"again 000000000104 is credited to {own[1]}\n" in drill
+    assert "lost credit 1 redemption 1 session 1 amounts 77\n" in drill
+    assert {account: office.available(account) for account in (*own, *other)} == had
+    told = office.machine.run("office restore 02")
+    assert "again 000000000004" in told.stdout and "requests waited" in told.stderr
+    assert "spent" not in office.run("ls /var/lib/ocs")
+    # Its own code is free again, since its account has lost it; the other's isn't.
+    assert office.available(own[1]) == 1_000_000 + 5_000_000
+    assert office.available(other[1]) == had[other[1]]
+    refused = office.machine.run(f"office redeem 000000000004 {own[1]}", 1)
+    assert refused.stdout == '{"Refusal":"O4"}\n'
+    assert "Bucket" in office.run(f"office redeem 000000000003 {own[1]}")
+    assert "Bucket" in office.run(f"office redeem 000000000004 {other[1]}")
+    assert office.available(other[1]) == had[other[1]]
+    assert office.is_up("02")
+
+
+def test_a_shard_whose_file_is_gone_starts_from_its_copy(office: Stand) -> None:
+    office.run("systemctl stop ocs@02; rm /var/lib/ocs/02.db*; systemctl start ocs@02", None)
+    told = office.machine.run("office restore 02")
+    assert "02 starts from" in told.stdout
+    wait_until(lambda: office.is_up("02"), "the start")
+    assert office.ask("POST", "/sweep", shard="02")["Result-Code"] == 2001
+
+
+def test_a_copy_that_lacks_what_was_answered_before_it_is_refused(office: Stand) -> None:
+    own = at_home(office, "04", 700_000, 1)
+    office.ask("POST", f"/accounts/{own[0]}/credits", {"Amount": 5, "Reference": "gone"})
+    time.sleep(1)
+    office.run("office backups")
+    night = office.run("ls /var/lib/ocs/copies | tail -n 1").strip()
+    place = f"/var/lib/ocs/copies/{night}"
+    office.run(f"sqlite3 {place}/04.db \"DELETE FROM answers WHERE name = 'gone'\"")
+    assert "aren't those that were made" in office.machine.run("office restore 04", 1).stderr
+    office.run(f"cd {place}; sha256sum *.db > SHA256SUMS")
+    told = office.machine.run("office restore 04 --drill", 1)
+    assert f"lost credit {own[0]} gone 5" in told.stderr and "1 answers of before it" in told.stderr
+    office.run("office restore 04 --drill --lacking")
+    office.run("office restore 04 --night yesterday", 2)
+
+
+@pytest.mark.slow
+def test_a_restore_that_is_killed_leaves_a_shard(office: Stand) -> None:
+    account = at_home(office, "01", 800_000, 1)[0]
+    office.run("office backups")
+    for seconds in (0.3, 0.6, 0.9, 1.2, 1.5, 1.8):
+        word = office.started("office restore 01")
+        time.sleep(seconds)
+        office.kill(word)
+        wait_until(lambda: office.is_up("01"), "the start")
+        wait_until(lambda: office.home(account) == "01", "the shard")
+        assert office.available(account) == 1_000_000
+    office.run("office restore 01")
+    assert office.available(account) == 1_000_000

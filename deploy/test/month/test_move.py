@@ -1,0 +1,116 @@
+"""Accounts that move while all are asked: nothing is lost, and nothing is done twice."""
+from __future__ import annotations
+
+import json
+import time
+from collections.abc import Iterator
+
+import pytest
+
+from month.machine import wait_until
+from month.stand import PRICE, Stand, doors, request, stand
+
+FIRST, COUNT = 49_200, 48
+
+
+@pytest.fixture(scope="module", name="office")
+def made() -> Iterator[Stand]:
+    with stand() as office:
+        rows = "".join(f"{at},9000000\n" for at in range(FIRST, FIRST + COUNT))
+        office.machine.write("/tmp/new.csv", "account,amount\n" + rows)
+        office.run("office load /tmp/new.csv; office clearing --write > /dev/null")
+        doors(office.machine, 1)
+        assert "has the books of 01: 1" in office.run("office new-shard 05")
+        office.run("systemctl start ocs@05")
+        wait_until(lambda: office.is_up("05"), "the new shard")
+        yield office
+
+
+def of_shard(office: Stand, shard: str) -> list[str]:
+    """The accounts of the test that live in a shard."""
+    return [one for one in map(str, range(FIRST, FIRST + COUNT)) if office.home(one) == shard]
+
+
+def test_one_account_moves_with_what_it_has(office: Stand) -> None:
+    own = of_shard(office, "02")
+    one = own[0]
+    office.debit(one, "s1")
+    office.ask("POST", f"/accounts/{one}/allowances", {"Blocks": 7, "Scope": 10, "Reference": "a"})
+    office.ask("POST", "/ccr", request(own[1], "live", 1, 0, 10, 600))
+    office.run(f"office bar {one}")
+    had = office.ask("GET", f"/accounts/{one}")["Buckets"]
+    assert office.machine.run(f"office move --from 02 --to 05 {one} --dry-run").stdout.startswith(
+        "1 "
+    )
+    told = office.machine.run(f"office move --from 02 --to 05 {one} {own[1]}", 1)
+    assert told.stdout == "moved 1 stay 1\n" and f"{own[1]} stays: live session" in told.stderr
+    assert office.home(one) == "05" and office.home(own[1]) == "02"
+    found = office.ask("GET", f"/accounts/{one}")
+    assert found["Barred"] is True
+    assert [(each["Available"], each["From"], each["Until"]) for each in found["Buckets"]] == [
+        (each["Available"], each["From"], each["Until"]) for each in had if each["Available"]
+    ]
+    assert office.run("cat /etc/ocs/moved") == f"{one} 05\n"
+    office.run(f"office unbar {one}")
+    office.run("office audit")
+    again = office.machine.run(f"office move --from 02 --to 05 {one}")
+    assert again.stdout == "moved 0 stay 0\n"
+
+
+def test_an_account_moves_back_only_where_it_has_no_rows(office: Stand) -> None:
+    one = of_shard(office, "05")[0]
+    told = office.machine.run(f"office move --from 05 --to 02 {one}", 1)
+    assert "it has rows in shard 02 already" in told.stderr and office.home(one) == "05"
+    assert office.debit(one, "still")["Result-Code"] == 2001
+
+
+@pytest.mark.slow
+def test_half_a_shard_moves_while_all_are_asked(office: Stand) -> None:
+    everyone = list(map(str, range(FIRST, FIRST + COUNT)))
+    before = {account: office.available(account) for account in everyone}
+    own = of_shard(office, "03")
+    asks = office.asks(FIRST, COUNT, 12, "half")
+    told = office.machine.run("office move --from 03 --to 05 --half --batch 3")
+    done, again = asks.communicate(timeout=300)[0].split()
+    assert told.stdout == f"moved {len(own) // 2} stay 0\n"
+    assert int(done) == 12 * COUNT
+    assert {account: office.available(account) for account in everyone} == {
+        account: amount - 12 * PRICE for account, amount in before.items()
+    }
+    assert sorted(of_shard(office, "03") + own[1::2]) == sorted(own)
+    office.run("office audit")
+
+
+@pytest.mark.slow
+def test_a_move_that_is_killed_is_ended(office: Stand) -> None:
+    everyone = list(map(str, range(FIRST, FIRST + COUNT)))
+    before = {account: office.available(account) for account in everyone}
+    kills = (("01", 3), ("01", 6), ("04", 9), ("04", 13), ("04", 18), ("01", 24))
+    show = "echo 'show map /etc/ocs/moved' | socat stdio /run/haproxy/admin.sock"
+    for turn, (shard, tenths) in enumerate(kills):
+        asks = office.asks(FIRST, COUNT, 1, f"kill{turn}-")
+        word = office.started(f"office move --from {shard} --to 05 --all --batch 4")
+        time.sleep(tenths / 10)
+        office.kill(word)
+        assert int(asks.communicate(timeout=300)[0].split()[0]) == COUNT
+        wait_until(lambda: "moving" not in office.run(show), "the guard")
+        assert "move.json" not in office.run("ls /var/lib/ocs")
+    for shard in ("01", "04"):
+        office.run(f"office move --from {shard} --to 05 --all", None)
+        assert of_shard(office, shard) == []
+    office.run("office audit")
+    assert {account: office.available(account) for account in everyone} == {
+        account: amount - len(kills) * PRICE for account, amount in before.items()
+    }
+
+
+@pytest.mark.slow
+def test_the_doors_go_by_the_file_after_a_restart(office: Stand) -> None:
+    own = of_shard(office, "05")
+    assert len(own) > COUNT // 2
+    office.run("systemctl restart haproxy")
+    wait_until(lambda: office.home(own[0]) == "05", "the doors")
+    assert of_shard(office, "05") == own
+    moved = dict(row.split() for row in office.run("cat /etc/ocs/moved").splitlines())
+    assert sorted(moved) == sorted(own) and set(moved.values()) == {"05"}
+    assert json.dumps(office.debit(own[0], "after")).count("2001") == 2
