@@ -10,6 +10,7 @@ import json
 import os
 import pathlib
 import shutil
+import socket
 import subprocess
 import sys
 import tempfile
@@ -17,6 +18,7 @@ import time
 
 TOP = pathlib.Path(__file__).resolve().parent.parent
 DEPLOY = TOP / "deploy"
+OFFICE = DEPLOY / "bin/office"
 BOOK = TOP / "examples/book.toml"
 SECONDS = 120
 
@@ -85,16 +87,52 @@ def started(words, port, **more):
         stop(process)
 
 
+FILE = """
+[office]
+shards = {shards}
+more = {more}
+first-port = {first}
+databases = "{place}"
+moved = "{moved}"
+clearing = "{place}/clearing"
+page = "{page}"
+owner = ""
+[haproxy]
+user = ""
+sockets = "{place}"
+[[door]]
+name = "operators"
+role = "operator"
+at = "127.0.0.1:{port}"
+hosts = ["127.0.0.1:{port}"]
+[[door]]
+name = "scripts"
+role = "script"
+at = "{place}/office.sock"
+"""
+
+
+def office_file(place, shards, first, port, more=0, moved=None):
+    """The file of an office in a folder: operators come by a port, scripts by a socket."""
+    told = {"place": place, "shards": shards, "first": first, "port": port, "more": more}
+    told |= {"moved": moved or f"{place}/moved", "page": DEPLOY / "office.html"}
+    path = pathlib.Path(place) / "office.toml"
+    path.write_text(FILE.format(**told))
+    return path
+
+
 @contextlib.contextmanager
-def balancer(words, port):
-    """HAProxy with the configuration that deploy/haproxy-cfg prints for these words."""
+def balancer(shards, first, port, more=0, moved=None):
+    """HAProxy before these shards, on a port for operators; gives the path of the scripts' socket
+    while it is up."""
     with tempfile.TemporaryDirectory() as place:
+        file = office_file(place, shards, first, port, more, moved)
         path = pathlib.Path(place) / "haproxy.cfg"
-        made = [DEPLOY / "haproxy-cfg", *map(str, words), "--port", str(port)]
         with path.open("w") as out:
-            subprocess.run(made, stdout=out, check=True)
-        with started(["haproxy", "-db", "-f", path], port, stderr=subprocess.PIPE) as process:
-            yield process
+            subprocess.run([OFFICE, "--file", file, "doors"], stdout=out, check=True)
+        quiet = {"stdout": subprocess.DEVNULL, "stderr": subprocess.DEVNULL}
+        with started(["haproxy", "-db", "-f", path], port, **quiet):
+            yield pathlib.Path(place) / "office.sock"
 
 
 def serve_words(database, port, connections=1_000_000, at=None):
@@ -113,11 +151,28 @@ def ran(*words, place=None):
     return ended.stdout
 
 
-class Client:
-    """A keep-alive connection to a port of 127.0.0.1, made anew when it ends."""
+class SocketConnection(http.client.HTTPConnection):
+    """HTTP over a socket of the file system."""
 
-    def __init__(self, port, seconds=60):
-        self.opened = http.client.HTTPConnection("127.0.0.1", port, timeout=seconds)
+    def __init__(self, path, seconds):
+        super().__init__("office", timeout=seconds)
+        self.path = path
+
+    def connect(self):
+        self.sock = socket.socket(socket.AF_UNIX)
+        self.sock.settimeout(self.timeout)
+        self.sock.connect(str(self.path))
+
+
+class Client:
+    """A keep-alive connection to a port of 127.0.0.1 or to a socket's path, made anew when it
+    ends."""
+
+    def __init__(self, place, seconds=60):
+        if isinstance(place, pathlib.Path):
+            self.opened = SocketConnection(place, seconds)
+        else:
+            self.opened = http.client.HTTPConnection("127.0.0.1", place, timeout=seconds)
 
     def ask(self, method, path, body=None, **fields):
         """The status, the fields and the body of the answer."""
@@ -126,6 +181,8 @@ class Client:
         if body is None and method in ("POST", "PUT"):
             body = ""
         named = {name.replace("_", "-"): value for name, value in fields.items()}
+        if method == "POST":
+            named.setdefault("Content-Type", "application/json")
         try:
             self.opened.request(method, path, body, named)
             answer = self.opened.getresponse()
