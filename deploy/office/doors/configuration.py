@@ -22,6 +22,8 @@ OWN = dict.fromkeys((400, 401, 403, 404, 405, 408, 413, 429), EMPTY)
 OWN |= dict.fromkeys((500, 502, 503, 504), UNABLE)
 # A shard is handed the request line and these fields, nothing else of what a client sent.
 STRANGE = "'^(?!(?i:host|content-length|content-type)$)'"
+# A shard's connection: one, which goes where nothing was asked for a second or two.
+ONE = "maxconn 1 pool-max-conn 1 pool-purge-delay 1s"
 
 
 def text(settings: Settings) -> str:
@@ -54,7 +56,8 @@ def process(settings: Settings) -> list[str]:
         "    ssl-default-bind-options ssl-min-ver TLSv1.2",
         f"    stats socket {proxy.sockets}/admin.sock mode 600 level admin",
         "    # A process that was replaced ends its requests, and then lets its shards go.",
-        f"    hard-stop-after {longest(settings) + 5}s",
+        f"    hard-stop-after {overlap(settings)}s",
+        "    set-var proc.begun date()",
     ]
     made += waits_for_moves(settings)
     return made + ([f"    user {proxy.user}", f"    group {proxy.user}"] if proxy.user else [])
@@ -66,6 +69,18 @@ def longest(settings: Settings) -> int:
     waits = settings.waits
     alone = waits.queue + waits.start + waits.answer
     return alone + waits.start + waits.answer + 5 if settings.machines else alone
+
+
+def overlap(settings: Settings) -> int:
+    """The seconds for which a process that was replaced may be beside the one that replaced it."""
+    return longest(settings) + 5
+
+
+def shared(settings: Settings) -> list[str]:
+    """How a shard's one connection is used. A shard serves one connection after another, so one
+    that is kept keeps away another process: while a reload may leave two, each lets its go."""
+    two = f"{{ stopping }} || {{ date,sub(proc.begun) lt {overlap(settings)} }}"
+    return ["    http-reuse always", f"    http-request set-header Connection close if {two}"]
 
 
 def logged() -> list[str]:
@@ -189,7 +204,7 @@ def backend(settings: Settings) -> list[str]:
         "backend shards",
         "    balance hash var(txn.account)",
         "    hash-type consistent sdbm avalanche",
-        "    http-reuse always",
+        *shared(settings),
         *lines.of_answer(),
         f"    http-response set-var-fmt(txn.counted) {counted}",
         "    http-response track-sc1 var(txn.counted) table counted",
@@ -203,8 +218,7 @@ def backend(settings: Settings) -> list[str]:
     for shard in shards.of(settings):
         weight = "" if shard.is_hashed else " weight 0"
         made.append(
-            f"    server {shard} {place(settings, shard)} id {int(shard.number)} "
-            f"maxconn 1 pool-max-conn 1{weight}"
+            f"    server {shard} {place(settings, shard)} id {int(shard.number)} " f"{ONE}{weight}"
         )
     return made
 
@@ -241,9 +255,9 @@ def relays(settings: Settings) -> list[str]:
             f"    tcp-request connection reject if !{{ src {' '.join(ours)} }}",
             f"    default_backend here{shard}",
             f"backend here{shard}",
-            "    http-reuse always",
+            *shared(settings),
             f"    timeout queue {settings.waits.answer}s",
-            f"    server {shard} 127.0.0.1:{shard.port} maxconn 1 pool-max-conn 1",
+            f"    server {shard} 127.0.0.1:{shard.port} {ONE}",
             "",
         ]
     return made[:-1]

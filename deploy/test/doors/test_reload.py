@@ -2,14 +2,17 @@
 from __future__ import annotations
 
 import http.client
+import json
 import threading
 import time
 from collections.abc import Callable
 
 from support.callers import Caller, Connection, asked, charges, debit, opened
+from support.waiting import until
 from support.world import World
 
 GATEWAYS, RELOADS = 6, 4
+JSON = {"Content-Type": "application/json"}
 
 
 class Gateway(threading.Thread):
@@ -59,5 +62,38 @@ def test_a_reload_in_the_middle(world: World, at: Callable[..., Caller]) -> None
     for gateway in gateways:
         gateway.join(60)
     assert [gateway.wrong for gateway in gateways] == [[]] * GATEWAYS
-    assert all(gateway.done > 50 for gateway in gateways)
+    assert all(gateway.done for gateway in gateways)
     assert [charges(script, account) for account in accounts] == [one.done for one in gateways]
+
+
+def test_a_request_of_the_process_before_has_its_turn(
+    world: World, at: Callable[..., Caller]
+) -> None:
+    """It waited while HAProxy was reloaded, its shard had no connection for it, and the new
+    process asks that shard without a pause."""
+    script, told = at("scripts"), list[int]()
+    account = opened(script, "70310", 10**12)
+    home = int(script.ask("GET", f"/accounts/{account}").shard)
+    late = threading.Thread(target=lambda: told.append(debited(at, account, "late")), daemon=True)
+    with world.still(home):
+        first = at("here").connection()
+        first.request("POST", "/ccr", json.dumps(debit(account, "first")), JSON)
+        until(lambda: world.asked(home) == 1, "a request in the shard's hands")
+        late.start()
+        until(lambda: world.waiting() == 1, "a request that waits")
+        world.reload()
+        after = threading.Thread(target=debited, args=(at, account, "after"), daemon=True)
+        after.start()
+        until(lambda: world.asked(home) == 1, "a request of the new process")
+        first.close()
+    asked_since = 0
+    while not told:
+        assert debited(at, account, f"since-{asked_since}") == 200
+        asked_since += 1
+    assert told == [200]
+    after.join(60)
+
+
+def debited(at: Callable[..., Caller], account: str, session: str) -> int:
+    """The status of a debit's answer."""
+    return at("here").patient(60).ask("POST", "/ccr", debit(account, f"turn-{session}")).status

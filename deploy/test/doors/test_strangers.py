@@ -33,7 +33,7 @@ def takes(at: Callable[..., Caller], account: str) -> tuple[int, bool]:
     """What a balance of the account is answered, and whether that is soon."""
     begun = time.monotonic()
     status = at("operators", "ada").ask("GET", f"/accounts/{account}").status
-    return status, time.monotonic() - begun < 3
+    return status, time.monotonic() - begun < 10
 
 
 BODY = json.dumps(debit(ACCOUNT, "half"))
@@ -102,7 +102,7 @@ def test_250_strangers_who_never_shake_hands(world: World, at: Callable[..., Cal
     with strangers(world.doors["gateways"], 250):
         begun = time.monotonic()
         assert at("gateways", "pgw-1").ask("GET", "/health").status == 200
-        assert time.monotonic() - begun < 5
+        assert time.monotonic() - begun < 20
 
 
 def test_strangers_who_never_shake_hands_are_ended(world: World) -> None:

@@ -117,9 +117,8 @@ def test_others_are_answered_beside_it(world: World, at: Callable[..., Caller], 
     )
     with world.still(home):
         told = together(at("here").patient(60), ["beside"])
-        begun = time.monotonic()
         assert at("desk").ask("GET", f"/accounts/{other}").status == 200
-        assert time.monotonic() - begun < 2
+        assert not told
     until(lambda: len(told) == 1, "its answer")
 
 

@@ -174,12 +174,20 @@ class World:
 
     def waiting(self) -> int:
         """How many requests wait for their shard."""
+        return sum(int(row["qcur"] or 0) for row in self.measures().values())
+
+    def asked(self, at: int) -> int:
+        """How many requests a shard has in its hands."""
+        return int(self.measures()[at]["scur"])
+
+    def measures(self) -> dict[int, dict[str, str]]:
+        """What HAProxy says of each shard."""
         rows = csv.DictReader(io.StringIO(self.admin("show stat").lstrip("# ")))
-        return sum(
-            int(row["qcur"] or 0)
+        return {
+            int(row["svname"]): row
             for row in rows
             if row["pxname"] == "shards" and row["svname"].isdigit()
-        )
+        }
 
 
 @contextlib.contextmanager
