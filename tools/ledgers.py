@@ -6,6 +6,7 @@ switch is looked for minute by minute, and rows are made anew from all facts.
 Zone, Book and Shelf have the periods, the prices and the civil time of a moment. Office answers
 commands, and gives the rows of the tables, balances, statements and exports."""
 import datetime
+import functools
 import json
 import re
 import tomllib
@@ -73,6 +74,7 @@ class Zone:
         return int(hours) * 3600 + int(minutes or 0) * 60 if text else 7200
 
     @staticmethod
+    @functools.cache
     def on(year, rule):
         """The seconds since 1970 that a clock shows at a rule's change."""
         month, week, day, seconds = rule
