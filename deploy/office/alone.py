@@ -7,6 +7,7 @@ guard starts the shard. It costs two starts of the unit, each of which reads all
 from __future__ import annotations
 
 import contextlib
+import dataclasses
 import fcntl
 import os
 import pathlib
@@ -33,8 +34,15 @@ exec systemctl start "$2"
 LISTENING = "0A"
 
 
+@dataclasses.dataclass
+class Pause:
+    """How long the requests of a shard waited; known once it is up again."""
+
+    seconds: float = 0.0
+
+
 @contextlib.contextmanager
-def alone(settings: Settings, shard: Shard) -> Iterator[None]:
+def alone(settings: Settings, shard: Shard) -> Iterator[Pause]:
     """The shard stands still meanwhile; how long its requests waited is said on standard error. A
     shard that wasn't up stays so. With two machines Pacemaker has to leave its unit alone."""
     if settings.machines and units.is_active(shard) and not pacemaker.leaves(shard):
@@ -44,8 +52,9 @@ def alone(settings: Settings, shard: Shard) -> Iterator[None]:
         )
     with held(settings, shard) as lock:
         places.settle(settings, shard)
+        pause = Pause()
         if not units.is_active(shard):
-            yield
+            yield pause
             return
         # It is up, so it may come up again, by whatever clock this is.
         clock.mean(shard)
@@ -53,13 +62,14 @@ def alone(settings: Settings, shard: Shard) -> Iterator[None]:
         begun = time.monotonic()
         try:
             units.systemctl("stop", shard.unit)
-            yield
+            yield pause
         finally:
             with units.undisturbed():
                 units.systemctl("start", shard.unit)
                 units.systemctl("stop", guard)
         wait_until_up(shard)
-        print(f"{shard}: requests waited {time.monotonic() - begun:.1f} s", file=sys.stderr)
+        pause.seconds = time.monotonic() - begun
+        print(f"{shard}: requests waited {pause.seconds:.1f} s", file=sys.stderr)
 
 
 @contextlib.contextmanager

@@ -39,6 +39,10 @@ class Zone:
         """The civil month of a moment, YYYYMM."""
         return self.at(moment).strftime("%Y%m")
 
+    def day(self, moment: int) -> str:
+        """The civil day of a moment, YYYY-MM-DD."""
+        return self.at(moment).strftime("%Y-%m-%d")
+
     def shown(self, moment: int) -> str:
         """A moment as people read it, with its offset."""
         return self.at(moment).strftime("%a %Y-%m-%d %H:%M %z")

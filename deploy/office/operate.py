@@ -18,7 +18,7 @@ import time
 
 from office import options, program, shards
 from office.alone import alone
-from office.client import Client
+from office.client import Answer, Client
 from office.faults import Refused, Unanswered, Unread
 from office.progress import shown
 from office.settings import Settings
@@ -76,13 +76,20 @@ def on_shard(settings: Settings, shard: Shard, word: str, those: list[str]) -> i
     failed = 0
     with alone(settings, shard):
         is_now(shard, last_moment(shard))
+        by = os.environ.get("SUDO_USER") or getpass.getuser()
         for account in shown(f"{word} {shard}", those):
-            ended = program.run(settings, word, shard.database, account)
-            told = (ended.stdout + ended.stderr).strip()
+            told = carried_out(settings, shard, word, account, by)
             print(f"{shard} {account} {told}", flush=True)
-            record(word, shard, account, told)
             failed |= told != DONE
     return failed
+
+
+def carried_out(settings: Settings, shard: Shard, word: str, account: str, by: str) -> str:
+    """What the program says to a word for an account of a shard that is stopped."""
+    ended = program.run(settings, word, shard.database, account)
+    told = (ended.stdout + ended.stderr).strip()
+    record(word, shard, account, told, by)
+    return told
 
 
 def accounts(arguments: argparse.Namespace) -> list[str]:
@@ -102,23 +109,25 @@ def accounts(arguments: argparse.Namespace) -> list[str]:
 
 
 def located(settings: Settings, told: list[str]) -> list[Found | str]:
-    """Each account where it lives, or a line that says why it is none. The doors are asked, which
-    know who answers; where none answers, the hash and the file of moved accounts say it."""
-    found: list[Found | str] = []
-    homes = shards.Homes(settings)
+    """Each account where it lives, or a line that says why it is none."""
     with Client(settings) as client:
-        for account in shown("find", told):
-            try:
-                answer = client.ask("GET", f"/accounts/{account}")
-            except Unanswered:
-                found.append(Found(account, homes.home(account)))
-                continue
-            if "Account" not in answer.body:
-                found.append(f"{account} {answer.compact()}")
-                continue
-            shard = shards.named(settings, answer.shard)
-            found.append(Found(account, shard, answer.body["Barred"], answer.body["Moment"]))
-    return found
+        each = [(account, find(settings, client, account)) for account in shown("find", told)]
+    return [
+        one if isinstance(one, Found) else f"{account} {one.compact()}" for account, one in each
+    ]
+
+
+def find(settings: Settings, client: Client, account: str) -> Found | Answer:
+    """An account where it lives, or the answer that refuses it. The doors are asked, which know who
+    answers; where none answers, the hash and the file of moved accounts say it."""
+    try:
+        answer = client.ask("GET", f"/accounts/{account}")
+    except Unanswered:
+        return Found(account, shards.Homes(settings).home(account))
+    if "Account" not in answer.body:
+        return answer
+    shard = shards.named(settings, answer.shard)
+    return Found(account, shard, answer.body["Barred"], answer.body["Moment"])
 
 
 def last_moment(shard: Shard) -> int:
@@ -137,8 +146,7 @@ def is_now(shard: Shard, moment: int) -> None:
         )
 
 
-def record(word: str, shard: Shard, account: str, told: str) -> None:
+def record(word: str, shard: Shard, account: str, told: str, by: str) -> None:
     """A line in the journal: the tables keep nothing of who barred whom, and when."""
-    by = os.environ.get("SUDO_USER") or getpass.getuser()
     syslog.openlog("office", facility=syslog.LOG_AUTH)
     syslog.syslog(syslog.LOG_NOTICE, f"{word} {account} in shard {shard} by {by}: {told}")

@@ -12,6 +12,7 @@ from collections.abc import Sequence
 from typing import Protocol
 
 from office import cluster, schema
+from office.agent.table import Agent
 from office.bridges import Diameter
 from office.cluster import Cluster, Machine
 from office.faults import Unread
@@ -195,6 +196,7 @@ class Settings:
     keeping: Keeping = schema.one(Keeping)
     tls: Tls = schema.one(Tls)
     measures: Measures = schema.one(Measures)
+    agent: Agent = schema.one(Agent)
     diameter: Diameter = schema.one(Diameter)
     cluster: Cluster = schema.one(Cluster)
     # Without one, `first_doors`: on this machine alone, without certificates.

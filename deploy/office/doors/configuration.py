@@ -17,6 +17,8 @@ BUFFER = 81920
 # (net.core.wmem_max bounds it).
 SENT = 4_194_304
 EMPTY, UNABLE = "{}", '{"Result-Code":5012}'
+# Seconds for an answer of the agent; and for one for which it stops and starts a shard.
+AGENT_ANSWER, AGENT_PAUSE = 120, 900
 # HAProxy's own answers, beside those of rules.
 OWN = dict.fromkeys((400, 401, 403, 404, 405, 408, 413, 429), EMPTY)
 OWN |= dict.fromkeys((500, 502, 503, 504), UNABLE)
@@ -31,7 +33,7 @@ def text(settings: Settings) -> str:
     made = [*process(settings), "", "defaults", *logged(), *defaults(settings)]
     for door in settings.doors:
         made += ["", *frontend(settings, door)]
-    made += ["", *backend(settings), "", *tables()]
+    made += ["", *backend(settings), "", *tables(), "", *agent(settings)]
     if settings.machines:
         made += ["", *relays(settings)]
     named = rules.by_password(settings)
@@ -156,7 +158,7 @@ def bind(settings: Settings, door: Door) -> str:
 
 def to_shard(settings: Settings, door: Door) -> list[str]:
     """Which shard is asked, and what it is handed of the request."""
-    made = []
+    made: list[str] = []
     if has_moved(settings):
         moved = f"var(txn.account),map_str({settings.office.moved})"
         is_moving = "if { var(txn.shard) -m str moving } !{ req.fhdr(Office-Shard) -m found }"
@@ -176,9 +178,26 @@ def to_shard(settings: Settings, door: Door) -> list[str]:
         *rules.refused(404, "shard", f"if {{ var(txn.shard) -m found }} !{is_shard}"),
         f"    http-request del-header {STRANGE} -m reg",
         "    http-response wait-for-body time 1s",
-        "    http-response set-header Office-Shard %s",
+        *(to_agent(settings) if door.role == "operator" else ()),
+        "    http-response set-header Office-Shard %s unless { var(txn.agent) -m found }",
         "    default_backend shards",
     ]
+
+
+def to_agent(settings: Settings) -> list[str]:
+    """The agent is told who asks, and whether that is somebody who only reads; what a client said of
+    it has been taken away."""
+    is_agent = f"if {{ path_beg {routes.AGENT}/ }}"
+    made = [
+        f"    http-request set-var(txn.agent) bool(true) {is_agent}",
+        f"    http-request set-header Office-Caller %[var(txn.who)] {is_agent}",
+        f"    http-request set-header X-Request-Id %[unique-id] {is_agent}",
+    ]
+    if any(operator.only == "read" for operator in settings.operators):
+        readers = [operator.name for operator in settings.operators if operator.only == "read"]
+        made += rules.listed("looks", readers)
+        made.append(f"    http-request set-header Office-May read {is_agent} looks")
+    return [*made, f"    use_backend agent {is_agent}"]
 
 
 def has_moved(settings: Settings) -> bool:
@@ -221,6 +240,19 @@ def backend(settings: Settings) -> list[str]:
             f"    server {shard} {place(settings, shard)} id {int(shard.number)} " f"{ONE}{weight}"
         )
     return made
+
+
+def agent(settings: Settings) -> list[str]:
+    """The service `office agent`. A bar takes as long as two starts of a shard."""
+    pauses = " ".join(f"{routes.AGENT}/{word}/" for word in ("bar", "unbar"))
+    return [
+        "backend agent",
+        f"    timeout server {AGENT_ANSWER}s",
+        f"    http-request set-timeout server {AGENT_PAUSE}s if {{ path_beg {pauses} }}",
+        "    http-response wait-for-body time 1s",
+        *lines.of_agent(),
+        f"    server agent unix@{settings.agent.socket} maxconn 16",
+    ]
 
 
 def place(settings: Settings, shard: shards.Shard) -> str:

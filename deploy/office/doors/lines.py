@@ -4,6 +4,8 @@
 member is one reading of the body."""
 from __future__ import annotations
 
+from office.doors.routes import AGENT
+
 # HAProxy writes a number of more than six digits wrong unless it is asked for as a whole one.
 # Member of the line, where it is in the body of a request, and whether that is one of /ccr.
 REQUEST = (
@@ -27,7 +29,7 @@ ANSWER = (
 )
 
 
-def of_request() -> list[str]:
+def of_request(role: str) -> list[str]:
     """Rules that take what the line says of a request, before anything of it is refused."""
     account = "    http-request set-var(txn.account)"
     data = "req.body,json_query('$.Subscription-Id.Subscription-Id-Data')"
@@ -39,6 +41,10 @@ def of_request() -> list[str]:
     for name, place, is_ccr in REQUEST:
         where = "{ path /ccr }" if is_ccr else "METH_POST !{ path /ccr }"
         made.append(f"    http-request set-var(txn.{name}) req.body,json_query({place}) if {where}")
+    if role == "operator":
+        named = " ".join(f"{AGENT}/{word}/" for word in ("account", "bar", "unbar"))
+        made.append(f"{account} path,field(5,/) if {{ path_beg {named} }}")
+        made.append(f"{account} req.body,json_query('$.Account') if {{ path {AGENT}/redeem }}")
     return made
 
 
@@ -49,3 +55,12 @@ def of_answer() -> list[str]:
         where = " if { var(txn.session) -m found }" if is_ccr else ""
         made.append(f"    http-response set-var(txn.{name}) res.body,json_query({place}){where}")
     return made
+
+
+def of_agent() -> list[str]:
+    """The same of an answer of the agent."""
+    rows = (row for row in ANSWER if row[0] in ("code", "refusal"))
+    return [
+        f"    http-response set-var(txn.{name}) res.body,json_query({place})"
+        for name, place, _ in rows
+    ]

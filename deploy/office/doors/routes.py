@@ -11,6 +11,13 @@ ACCOUNT = "/accounts/[0-9]{1,15}"
 HEAD, BODY = 8000, 65536
 
 
+# The service `office agent`, behind the operators' doors alone.
+AGENT = "/office/agent"
+# What may stand behind a target of the agent's, which judges it.
+MORE = "([?][-a-zA-Z0-9=&,:]{1,120})?"
+JSON = "application/json"
+
+
 @dataclasses.dataclass(frozen=True)
 class Route:
     """A method and a target, as a regular expression, with the roles that may ask it."""
@@ -18,6 +25,10 @@ class Route:
     method: str
     target: str
     roles: tuple[str, ...]
+    # What the body of a POST is called; no page of another site can send one of these unasked.
+    kind: str = JSON
+    # Whether a POST changes nothing, so that an operator who only reads may ask it.
+    only_reads: bool = False
 
 
 OFFICE = ("operator", "script")
@@ -35,6 +46,16 @@ ROUTES = (
     Route("GET", "/health", ("gateway", "operator", "watcher")),
     Route("GET", "/health/[0-9]{2}", ("watcher",)),
     Route("GET", "/metrics", ("watcher",)),
+    # These the agent answers.
+    Route("GET", AGENT + "/account/[0-9]{1,15}" + MORE, ("operator",)),
+    Route("POST", AGENT + "/bar/[0-9]{1,15}", ("operator",)),
+    Route("POST", AGENT + "/unbar/[0-9]{1,15}", ("operator",)),
+    Route("POST", AGENT + "/redeem", ("operator",)),
+    Route("GET", AGENT + "/books", ("operator",)),
+    Route("POST", AGENT + "/trial" + MORE, ("operator",), "application/toml", True),
+    Route("POST", AGENT + "/vouchers/check", ("operator",), "text/csv", True),
+    Route("GET", AGENT + "/sums" + MORE, ("operator",)),
+    Route("GET", AGENT + "/shards", ("operator",)),
 )
 
 

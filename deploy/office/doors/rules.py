@@ -23,7 +23,6 @@ TWICE = "(?s)(" + "|".join(f"{name}.*{name}" for name in ONCE) + ")"
 DISGUISED = r"\\u00[2-7]"
 # REFUND_ACCOUNT of RFC 8506, wherever it is in the body.
 REFUND = r'"Requested-Action"\s*:\s*1(?![0-9])'
-JSON = r"^application/json\s*(;|$)"
 
 
 def of(settings: Settings, door: Door) -> list[str]:
@@ -31,7 +30,8 @@ def of(settings: Settings, door: Door) -> list[str]:
     made = whole(settings)
     if door.role == "watcher":
         return [*made, *nameless("watcher"), *kept_out(door), *watched()]
-    made += lines.of_request() + who(settings, door) + kept_out(door) + may(settings, door)
+    made += lines.of_request(door.role) + who(settings, door) + kept_out(door)
+    made += may(settings, door)
     if door.role == "operator":
         made.append(page.rule(settings.office.page))
     if door.role in ("gateway", "operator"):
@@ -162,12 +162,28 @@ def may(settings: Settings, door: Door) -> list[str]:
     made = []
     if door.role == "operator" and door.tls:
         readers = [operator.name for operator in settings.operators if operator.only == "read"]
-        made += listed("reads", readers) + refused(403, "read", "if reads !METH_GET")
-    if door.role != "script":
-        made += refused(
-            415, "type", f"if METH_POST !{{ req.fhdr(Content-Type) -i -m reg '{JSON}' }}"
-        )
-    return made
+        only = [route for route in routes.of(door.role) if route.only_reads]
+        made += listed("reads", readers)
+        made.append(f"    acl only-reads var(txn.what) -m reg '{routes.pattern(only)}'")
+        made += refused(403, "read", "if reads !METH_GET !only-reads")
+    return made if door.role == "script" else made + typed(door)
+
+
+def typed(door: Door) -> list[str]:
+    """The body of a POST is called what its route takes."""
+    made, own = [], [route for route in routes.of(door.role) if route.method == "POST"]
+    others = sorted({route.kind for route in own} - {routes.JSON})
+    for at, kind in enumerate(others):
+        pattern = routes.pattern([route for route in own if route.kind == kind])
+        made.append(f"    acl typed-{at} var(txn.what) -m reg '{pattern}'")
+        made += refused(415, "type", f"if typed-{at} !{called(kind)}")
+    is_other = "".join(f" !typed-{at}" for at in range(len(others)))
+    return made + refused(415, "type", f"if METH_POST{is_other} !{called(routes.JSON)}")
+
+
+def called(kind: str) -> str:
+    """The condition that a body is called so."""
+    return f"{{ req.fhdr(Content-Type) -i -m reg '^{kind}\\s*(;|$)' }}"
 
 
 def turns(settings: Settings, door: Door) -> list[str]:

@@ -5,7 +5,9 @@ written out."""
 from __future__ import annotations
 
 import datetime
+import re
 
+from office.doors.routes import AGENT
 from office.log_line import NONE, Answered
 
 # CC-Request-Type (RFC 8506, 8.3).
@@ -67,6 +69,8 @@ REASONS = {
     "avps": "an AVP doesn't fit",
 }
 COMMANDS = {"credits": "credit", "allowances": "allowance", "redeem": "redemption"}
+# Of the agent.
+BARS = re.compile(f"{AGENT}/(bar|unbar)/")
 READ = {"GET": "reading", "PUT": "opening"}
 # A wait that is worth a word, in milliseconds.
 WAIT = 100
@@ -87,6 +91,9 @@ def asked(line: Answered) -> str:
     if line.session != NONE:
         return f"{TYPES.get(line.type, 'request')} {line.number} of session {line.session}"
     method, _, target = line.what.partition(" ")
+    bars = BARS.match(target)
+    if bars:
+        return bars[1]
     last = target.rpartition("/")[2]
     if last in COMMANDS:
         amount = "" if line.amount == NONE else f" of {line.amount}"

@@ -11,10 +11,9 @@ from __future__ import annotations
 import argparse
 import re
 
-from office import log_line
 from office.faults import Refused, Unread
 from office.progress import shown
-from office.seen import log, sentences
+from office.seen import sentences, traced
 from office.settings import Settings
 
 
@@ -31,12 +30,9 @@ def run(settings: Settings, arguments: argparse.Namespace) -> int:
     account = str(arguments.account)
     if not re.fullmatch("[0-9]{1,15}", account):
         raise Unread(f"ACCOUNT is 1 to 15 digits, not {account!r}")
-    found, first = 0, log.seconds(arguments.since)
-    for text in shown("trace", log.since(settings, arguments.since, f'"account":"{account}"')):
-        line = log_line.read(text)
-        if not isinstance(line, log_line.Answered) or line.account != account:
-            continue
-        if line.moment < first or arguments.session not in (None, line.session):
+    found = 0
+    for text, line in shown("trace", traced.lines(settings, account, arguments.since)):
+        if arguments.session not in (None, line.session):
             continue
         print(text.rstrip("\n") if arguments.json else sentences.sentence(line))
         found += 1

@@ -35,7 +35,7 @@ def test_each_key_is_in_the_example(name: str) -> None:
 
 def test_its_values_are_the_defaults() -> None:
     told, usual = settings.read(FILE), settings.Settings()
-    for name in ("office", "haproxy", "waits", "tls", "keeping", "measures", "diameter"):
+    for name in ("office", "haproxy", "waits", "tls", "keeping", "measures", "agent", "diameter"):
         assert getattr(told, name) == getattr(usual, name)
 
 
