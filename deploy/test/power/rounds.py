@@ -1,0 +1,114 @@
+"""Cuts of the power of a shard's disk, one after another.
+
+At a random moment under load, or while a book is added, the power is cut; then there is power again,
+the file system replays its journal, and what has to be true of the shard is `served`'s."""
+from __future__ import annotations
+
+import contextlib
+import pathlib
+import random
+import time
+from collections.abc import Iterator
+from typing import Protocol
+
+from support.served import Host, Layout, Served
+from support.turns import Turns
+from support.volatile import FATES, Disk
+
+SIZE = 400 << 20
+# Each third cut comes while a book is added.
+BOOK = 3
+
+
+class Powered(Protocol):
+    """What has a disk with a shard, and can lose its power."""
+
+    layout: Layout
+    turns: Turns
+
+    @property
+    def host(self) -> Host:
+        """Where the shard is served."""
+
+    @property
+    def where(self) -> str:
+        """Where it is asked."""
+
+    def start(self, disk: Disk) -> str:
+        """Gives all power; the disk's device."""
+
+    def cut(self, disk: Disk, fate: str, seed: int) -> int:
+        """Cuts all power; how many writes the disk hadn't flushed."""
+
+
+def rounds(place: pathlib.Path, powered: Powered, kind: str, count: int) -> None:
+    """So many cuts, and in the end each acknowledged command is asked again."""
+    with standing(place, powered, kind) as drill:
+        for at in range(1, count + 1):
+            drill.begin()
+            drill.add_book() if at % BOOK == 0 else drill.ask()
+            print(f"{kind}: cut {at}: {drill.cut(drill.chance.choice(FATES))}", flush=True)
+        drill.begin()
+        gateways = drill.served.gateways
+        assert gateways.repeat() == gateways.answered
+        told = f"{drill.served.counts()}, {drill.unflushed} writes that weren't flushed"
+        print(f"{kind}: {count} cuts, {told}", flush=True)
+
+
+class Drill:
+    """A disk, the shard on it, and what happens to it."""
+
+    def __init__(self, place: pathlib.Path, powered: Powered, kind: str) -> None:
+        self.powered, self.disk = powered, Disk(place / "disk.img")
+        self.served = Served(place, powered.turns, powered.layout, kind)
+        self.chance, self.unflushed = random.Random(kind), 0
+
+    def make(self) -> None:
+        """The disk has a file system with a new shard."""
+        with self.disk.file.open("wb") as made:
+            made.truncate(SIZE)
+        device = self.powered.start(self.disk)
+        self.served.make(self.powered.host, device)
+        self.powered.cut(self.disk, "lost", 0)
+
+    def begin(self) -> None:
+        """There is power again: what the disk has is right, and is served."""
+        device = self.powered.start(self.disk)
+        self.served.begin(self.powered.host, device, self.powered.where)
+
+    def ask(self) -> None:
+        """The gateways ask for a while, and half of the time another process writes to the same
+        file system, so that more is under way than the shard's log."""
+        self.served.gateways.start()
+        time.sleep(self.chance.uniform(1, 6))
+        if self.chance.random() < 0.5:
+            other = f"{self.powered.layout.place}/other"
+            line = f"dd if=/dev/zero of={other} bs=64k count=400; rm -f {other}"
+            self.powered.host.sh(f"({line}) > /dev/null 2>&1 < /dev/null &")
+            time.sleep(self.chance.uniform(0, 2))
+
+    def add_book(self) -> None:
+        """The shard is stopped, and a book is being added."""
+        self.served.stop(self.powered.host)
+        self.served.add(self.powered.host)
+        time.sleep(self.chance.uniform(0, 0.5))
+
+    def cut(self, fate: str) -> str:
+        """The power is cut; what is told of it."""
+        lost = self.powered.cut(self.disk, fate, self.chance.randrange(2**32))
+        self.served.turns.end()
+        self.served.gateways.end()
+        self.unflushed += lost
+        return f"{self.served.gateways.answered} answered, {lost} writes not flushed and {fate}"
+
+
+@contextlib.contextmanager
+def standing(place: pathlib.Path, powered: Powered, kind: str) -> Iterator[Drill]:
+    """A drill that is made; its parts go in the end."""
+    drill = Drill(place, powered, kind)
+    try:
+        drill.make()
+        yield drill
+    finally:
+        drill.served.end()
+        drill.disk.end()

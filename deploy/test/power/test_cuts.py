@@ -1,0 +1,45 @@
+"""The power of a shard's disk is cut while it is served, on ext4 and on XFS, by this machine's own
+kernel, on a disk whose cache goes with the power: of what it wasn't told to flush all, nothing or
+some sectors are left. The disk alone loses its power; no kernel ends.
+
+OFFICE_CUTS has another number of cuts."""
+from __future__ import annotations
+
+import os
+import pathlib
+
+import pytest
+from power.here import Here
+from power.rounds import rounds, standing
+from support.served import MAKE
+
+CUTS, QUICK = int(os.environ.get("OFFICE_CUTS", "20")), 3
+
+
+@pytest.mark.parametrize("count", [QUICK, pytest.param(CUTS, marks=pytest.mark.slow)])
+@pytest.mark.parametrize("kind", MAKE)
+def test_what_was_answered_outlives_the_power(
+    tmp_path: pathlib.Path, kind: str, count: int
+) -> None:
+    here = Here(tmp_path)
+    try:
+        rounds(tmp_path, here, kind, count)
+    finally:
+        here.end()
+
+
+def test_a_disk_that_lies_is_found(tmp_path: pathlib.Path) -> None:
+    here = Here(tmp_path)
+    try:
+        with standing(tmp_path, here, "ext4") as drill:
+            drill.begin()
+            drill.disk.lie()
+            before = drill.served.gateways.answered
+            drill.ask()
+            drill.cut("lost")
+            assert drill.served.gateways.answered > before
+            with pytest.raises(AssertionError) as fault:
+                drill.begin()
+            assert fault.traceback[-1].name == "assert_same"
+    finally:
+        here.end()
