@@ -1,6 +1,6 @@
 """Redeems a voucher for an account, whichever shard its code is in.
 
-The word `redeem` calls this. A code of the account's own shard is one request. Any other takes two:
+The word `redeem` and the agent call this. A code of the account's own shard is one request. Any other takes two:
 it is redeemed onto the clearing account of its shard, and then the account is credited the same
 amount, until the same end and of the same scope. Each has a reference that names the code, so that
 both may be made again: stopped anywhere and made again, the account is credited once. What it costs
@@ -8,7 +8,7 @@ is a request a shard until the code is found."""
 from __future__ import annotations
 
 import pathlib
-from collections.abc import Sequence
+from collections.abc import Iterable
 
 from office.client import Answer, Client
 from office.faults import Refused
@@ -17,16 +17,21 @@ from office.settings import Settings
 UNKNOWN = {"Refusal": "O3"}
 
 
-def redeem(client: Client, code: str, account: str, clearings: Sequence[str]) -> Answer:
+def redeem(
+    client: Client, code: str, account: str, clearings: Iterable[str], reference: str = ""
+) -> Answer:
     """The answer that says whether the account has the amount of the code: a `Bucket`, or a
-    refusal."""
-    answer = redeemed(client, code, account, f"redeem-{code}")
+    refusal. The reference is that of a code of the account's own shard; the clearing accounts are
+    asked for where it is in another one."""
+    answer = redeemed(client, code, account, reference or f"redeem-{code}")
+    if answer.body != UNKNOWN:
+        return answer
     for clearing in clearings:
-        if answer.body != UNKNOWN:
-            break
         answer = redeemed(client, code, clearing, f"voucher-{code}-{account}")
         if "Bucket" in answer.body:
             return credited(client, code, account, clearing, answer.body["Bucket"])
+        if answer.body != UNKNOWN:
+            return answer
     return answer
 
 

@@ -24,6 +24,10 @@ class Office:
         self.pauses = {one.number: threading.Lock() for one in shards.of(settings)}
 
 
+class Pairs(list[tuple[str, Any]]):
+    """The members of a JSON object as they stand there, also one that comes twice."""
+
+
 @dataclasses.dataclass(frozen=True)
 class Asked:
     """A request, with who asks as the doors say it."""
@@ -61,10 +65,10 @@ class Asked:
     def object(self, *names: str) -> dict[str, str]:
         """The body as a JSON object of texts, with these names and no others."""
         try:
-            pairs = json.loads(self.text(), object_pairs_hook=list)
-        except ValueError as fault:
+            pairs = json.loads(self.text(), object_pairs_hook=Pairs)
+        except (ValueError, RecursionError) as fault:
             raise Unread(f"the body is no JSON: {fault}") from fault
-        if not isinstance(pairs, list) or not all(isinstance(one, tuple) for one in pairs):
+        if not isinstance(pairs, Pairs):
             raise Unread("the body is no JSON object")
         told = dict(pairs)
         if len(told) < len(pairs) or set(told) != set(names):

@@ -5,7 +5,7 @@ import dataclasses
 import re
 from collections.abc import Callable
 
-from office.agent import accounts, bars
+from office.agent import accounts, bars, redeem
 from office.agent.asked import Asked, Body, Office
 from office.doors.routes import AGENT
 
@@ -26,6 +26,7 @@ ROUTES = (
     Route("GET", "/account" + NUMBER, accounts.account),
     Route("POST", "/bar" + NUMBER, bars.bar, True),
     Route("POST", "/unbar" + NUMBER, bars.unbar, True),
+    Route("POST", "/redeem", redeem.redeem, True),
 )
 
 

@@ -2,16 +2,17 @@
 from __future__ import annotations
 
 import json
-import os
 import pathlib
 import subprocess
 from typing import Any
+
+from office import settings, shards
 
 from doors.conftest import CLIENTS, DOORS, file_of
 from support import ports
 from support.callers import Caller
 from support.waiting import until
-from support.world import OFFICE, World
+from support.world import OFFICE, World, done, program
 
 AGENT = """
 [agent]
@@ -24,6 +25,9 @@ archive = "{place}/archive"
 copies = "{place}/copies"
 """
 COME = ("ada", "audit", "shop-8", "pgw-2")
+# Codes of the first shard and of the last one, beside those of every office of tests.
+OF_FIRST = [f"30000000{at:04}" for at in range(20)]
+OF_LAST = [f"20000000{at:04}" for at in range(60)]
 TLS = ("gateways", "shops", "operators")
 
 
@@ -34,16 +38,20 @@ class Agent:
         self.world = world
         self.socket = world.place / "agent.sock"
         self.out = world.place / "agent.log"
+        self.homes = shards.Homes(settings.read(world.file))
         self.process: subprocess.Popen[bytes] | None = None
 
-    def start(self, **more: str) -> None:
-        """Starts the agent; further words are variables of its environment."""
+    def start(self, file: pathlib.Path | None = None) -> None:
+        """Starts the agent, over the office's file or another one."""
         with self.out.open("ab") as out:
-            words = [str(OFFICE), "--file", str(self.world.file), "agent"]
-            self.process = subprocess.Popen(
-                words, env=os.environ | more, stdin=subprocess.DEVNULL, stdout=out, stderr=out
-            )
+            words = [str(OFFICE), "--file", str(file or self.world.file), "agent"]
+            self.process = subprocess.Popen(words, stdin=subprocess.DEVNULL, stdout=out, stderr=out)
         until(self.is_up, "the agent")
+
+    def ensure(self, file: pathlib.Path) -> None:
+        """Starts the agent over this file where a test left none."""
+        if self.process is None or self.process.poll() is not None:
+            self.start(file)
 
     def is_up(self) -> bool:
         """Whether it listens; fails where it has ended."""
@@ -68,6 +76,10 @@ class Agent:
         if self.process:
             self.kill()
         self.world.end()
+
+    def home(self, account: str) -> str:
+        """The shard of an account."""
+        return self.homes.home(account).number
 
     def at(self, door: str, name: str | None = None) -> Caller:
         """Who asks at a door."""
@@ -101,8 +113,20 @@ def made(place: pathlib.Path) -> Agent:
         world.command("certificate", CLIENTS[name], name)
     (place / "clearing").touch()
     world.make()
+    imported(world, 1, OF_FIRST)
+    imported(world, 4, OF_LAST)
     world.balance()
     world.command("clearing", "--write")
     one = Agent(world)
     one.start()
     return one
+
+
+def imported(world: World, at: int, codes: list[str]) -> None:
+    """Puts vouchers of 5.00 and 30 days into a shard, every second one for group 10 alone."""
+    rows = [f"{code},5000000,30,{'10' if int(code) % 2 else ''}\n" for code in codes]
+    path = world.place / f"vouchers-{at}.csv"
+    path.write_text("code,amount,days,scope\n" + "".join(rows))
+    world.kill(at)
+    done(program(), "import", world.database(at), path)
+    world.start(at)
