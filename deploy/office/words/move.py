@@ -12,6 +12,8 @@ minutes: its gateway may repeat. And one that has rows in the other shard alread
 stay in their shard, and so do clearing accounts; charges and answers too, so a repeat of a request of
 before is answered anew, but for credits of live buckets.
 
+With two machines it is refused: the doors of the other one have a map of moved accounts of their own.
+
 The file of moved accounts ([office] moved) says where each lives then; HAProxy goes by it at once.
 Killed anywhere, -9 as well, what was begun is ended by a unit of systemd's. `office new-shard` makes
 the database of a shard that has none.
@@ -48,6 +50,11 @@ def add(parser: argparse.ArgumentParser) -> None:
 
 def run(settings: Settings, arguments: argparse.Namespace) -> int:
     """Moves the accounts; 1 where one stays."""
+    if settings.machines:
+        raise Refused(
+            "the doors of the other machine have a map of moved accounts of their own, which nobody "
+            "here reaches: they would go on asking the shard that an account has left"
+        )
     with Client(settings, patience=PATIENCE) as client:
         if arguments.finish:
             with moving.under_way(settings):

@@ -137,3 +137,8 @@ def backends(text: str) -> str:
     wanted = re.findall(r"^    server .*\n", text[: text.index("backend callers")], re.M)
     relays = text[text.index("\nfrontend relay01") :] if "frontend relay01" in text else ""
     return "".join(wanted) + relays
+
+
+def test_no_account_moves_while_two_machines_have_doors(tmp_path: pathlib.Path) -> None:
+    told = office(file(tmp_path), "move", "--from", "01", "--to", "02", "49151")
+    assert told.returncode == 1 and "the doors of the other machine" in told.stderr
