@@ -1,8 +1,8 @@
 """Accounts that move from a shard to another one while both are served.
 
 The word `move` calls `move`. Some accounts at a time are `moving` in HAProxy's map: their requests wait,
-all others go on. What was asked for before has been answered (a shard's queue is first in, first out);
-a copy of the shard tells what they have; the requests of the plan are noted, and then sent to the other
+all others go on. What was asked for before has left the shard's queue, and has been answered; a copy of
+the shard tells what they have; the requests of the plan are noted, and then sent to the other
 shard; both are compared; the file of moved accounts names the new shard, and HAProxy goes by it.
 
 Killed before the note is written, nothing has happened; after it, the guard sends the same requests
@@ -20,7 +20,7 @@ import pathlib
 import time
 from collections.abc import Iterator
 
-from office import copies, operate, program, units
+from office import copies, operate, program, proxy, units
 from office.alone import alone
 from office.carry import repeats, runtime
 from office.carry.plan import Plan, Request
@@ -33,8 +33,8 @@ from office.tables import opened
 
 THERE, DONE = {"Refusal": "O1"}, 2001
 PATIENCE = 60.0
-# How many accounts may be told of one that can't move; seconds for another move's end.
-FEW, WAIT = 3, 15.0
+# Seconds: for another move's end, and between two looks at a queue.
+WAIT, EACH = 15.0, 0.005
 
 
 @dataclasses.dataclass(frozen=True)
@@ -140,6 +140,7 @@ def held(
     try:
         for account in those:
             runtime.put(settings, account, runtime.MOVING, there)
+        drain(settings, source)
         for account in those:
             client.ask("GET", f"/accounts/{account}", shard=str(source))
             if "Account" in client.ask("GET", f"/accounts/{account}", shard=str(target)).body:
@@ -159,6 +160,17 @@ def held(
         raise
     runtime.settle(settings, [account for account in those if account not in note.accounts])
     return note, list(why.values())
+
+
+def drain(settings: Settings, source: Shard) -> None:
+    """Waits until nothing is left in a shard's queue of what came before the accounts were held: who
+    asks little goes first there, so a request of this word would pass those of a busy gateway. What
+    has waited for `[waits] queue` has left it."""
+    end = time.monotonic() + settings.waits.queue + 1
+    while int(proxy.shards_state(settings)[str(source)]["qcur"]):
+        if time.monotonic() > end:
+            break
+        time.sleep(EACH)
 
 
 def noted(plan: Plan, source: Shard, target: Shard, those: list[str]) -> Note:

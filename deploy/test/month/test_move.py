@@ -2,6 +2,7 @@
 from __future__ import annotations
 
 import json
+import subprocess
 import time
 from collections.abc import Iterator
 
@@ -65,13 +66,50 @@ def test_an_account_moves_back_only_where_it_has_no_rows(office: Stand) -> None:
 
 
 @pytest.mark.slow
+def test_what_waits_in_the_queue_is_charged_before_the_move(office: Stand) -> None:
+    *others, one = of_shard(office, "04")[:4]
+    had = office.available(one)
+    process = office.run("systemctl show --property MainPID --value ocs@04").strip()
+    office.run(f"kill -STOP {process}")
+    asks = [at_the_gateways_door(office, each, count) for count, each in enumerate([*others, one])]
+    # One more than waits is under way in the shard that stands still.
+    word = office.started(f"office move --from 04 --to 05 {one}")
+    show = "echo 'show map /etc/ocs/moved' | socat stdio /run/haproxy/admin.sock"
+    wait_until(lambda: f" {one} moving" in office.run(show), "the move's begin")
+    time.sleep(2)
+    office.run(f"kill -CONT {process}")
+    answers = [each.communicate(timeout=600)[0] for each in asks]
+    assert all('"Result-Code":2001' in each for each in answers), answers
+    assert "moved 1 stay 0" in word.communicate(timeout=600)[0]
+    assert office.home(one) == "05" and office.available(one) == had - PRICE
+    office.run("office audit")
+
+
+def at_the_gateways_door(office: Stand, account: str, waiting: int) -> subprocess.Popen[str]:
+    """A debit of an event, which waits behind so many that a gateway has asked for already."""
+    body = request(account, "queued", 4, 0, 30, -1)
+    body["Multiple-Services-Credit-Control"][0]["Requested-Service-Unit"] = {
+        "CC-Service-Specific-Units": 1
+    }
+    asked = office.machine.started(
+        f"curl -sS --max-time 300 -H 'Content-Type: application/json' -d '{json.dumps(body)}' "
+        "http://127.0.0.1:8080/ccr"
+    )
+    state = (
+        "echo 'show stat' | socat stdio /run/haproxy/admin.sock | grep ^shards,04, | cut -d, -f3"
+    )
+    wait_until(lambda: int(office.run(state)) >= waiting, "the queue")
+    return asked
+
+
+@pytest.mark.slow
 def test_half_a_shard_moves_while_all_are_asked(office: Stand) -> None:
     everyone = list(map(str, range(FIRST, FIRST + COUNT)))
     before = {account: office.available(account) for account in everyone}
     own = of_shard(office, "03")
     asks = office.asks(FIRST, COUNT, 12, "half")
     told = office.machine.run("office move --from 03 --to 05 --half --batch 3")
-    done, again = asks.communicate(timeout=300)[0].split()
+    done, again = asks.communicate(timeout=600)[0].split()
     assert told.stdout == f"moved {len(own) // 2} stay 0\n"
     assert int(done) == 12 * COUNT
     assert {account: office.available(account) for account in everyone} == {
@@ -92,7 +130,7 @@ def test_a_move_that_is_killed_is_ended(office: Stand) -> None:
         word = office.started(f"office move --from {shard} --to 05 --all --batch 4")
         time.sleep(tenths / 10)
         office.kill(word)
-        assert int(asks.communicate(timeout=300)[0].split()[0]) == COUNT
+        assert int(asks.communicate(timeout=600)[0].split()[0]) == COUNT
         wait_until(lambda: "moving" not in office.run(show), "the guard")
         assert "move.json" not in office.run("ls /var/lib/ocs")
     for shard in ("01", "04"):
