@@ -115,7 +115,7 @@ at = "{place}/office.sock"
 def office_file(place, shards, first, port, more=0, moved=None):
     """The file of an office in a folder: operators come by a port, scripts by a socket."""
     told = {"place": place, "shards": shards, "first": first, "port": port, "more": more}
-    told |= {"moved": moved or f"{place}/moved", "page": DEPLOY / "office.html"}
+    told |= {"moved": moved or f"{place}/moved", "page": DEPLOY / "console/console.html"}
     path = pathlib.Path(place) / "office.toml"
     path.write_text(FILE.format(**told))
     return path

@@ -54,8 +54,8 @@ class Office:
     moved: str = schema.text("/etc/ocs/moved", *PATH)
     # An account of each shard, onto which codes of other shards are redeemed.
     clearing: str = schema.text("/etc/ocs/clearing", *PATH)
-    # What the operators' doors return at /office.
-    page: str = schema.text("/usr/local/share/ocs/office.html", *PATH)
+    # What the doors for people return at /office; its script and its style lie beside it.
+    page: str = schema.text("/usr/local/share/ocs/console/console.html", *PATH)
 
 
 @dataclasses.dataclass(frozen=True, kw_only=True)
@@ -129,6 +129,10 @@ class Door:
     def is_here(self) -> bool:
         """Whether it can be reached from this machine alone."""
         return self.is_socket() or self.at.startswith("127.")
+
+    def is_for_people(self) -> bool:
+        """Whether the page is here; at a shops' door it is where the door says its hosts."""
+        return self.role == "operator" or (self.role == "shop" and bool(self.hosts))
 
 
 class Named(Protocol):

@@ -6,6 +6,8 @@ from __future__ import annotations
 
 import dataclasses
 
+from office.settings import Door
+
 ACCOUNT = "/accounts/[0-9]{1,15}"
 # What the program takes: a head of 8,192 bytes, of which HAProxy hands on some, and a body.
 HEAD, BODY = 8000, 65536
@@ -30,8 +32,16 @@ class Route:
     # Whether a POST changes nothing, so that an operator who only reads may ask it.
     only_reads: bool = False
 
+    def is_of_page(self) -> bool:
+        """Whether it is for a browser."""
+        return self.target.startswith("/office")
+
 
 OFFICE = ("operator", "script")
+# Who may come with a browser: a shop at a door that says its hosts.
+PEOPLE = ("shop", "operator")
+# Who asks, and what that one may do.
+ASKER = "/office/me"
 ROUTES = (
     Route("POST", "/ccr", ("gateway", *OFFICE)),
     Route("GET", ACCOUNT, ("shop", *OFFICE)),
@@ -42,7 +52,9 @@ ROUTES = (
     Route("POST", "/vouchers/[0-9]{12}/redeem", ("shop", *OFFICE)),
     Route("POST", "/sweep", ("script",)),
     # These HAProxy answers itself, but for a shard's health.
-    Route("GET", "/office", ("operator",)),
+    Route("GET", "/office", PEOPLE),
+    Route("GET", r"/office/console\.(js|css)", PEOPLE),
+    Route("GET", ASKER, PEOPLE),
     Route("GET", "/health", ("gateway", "operator", "watcher")),
     Route("GET", "/health/[0-9]{2}", ("watcher",)),
     Route("GET", "/metrics", ("watcher",)),
@@ -62,6 +74,11 @@ ROUTES = (
 def of(role: str) -> list[Route]:
     """What a role may ask."""
     return [route for route in ROUTES if role in route.roles]
+
+
+def at(door: Door) -> list[Route]:
+    """What may be asked at a door: of its role, and of the page where that is."""
+    return [one for one in of(door.role) if door.is_for_people() or not one.is_of_page()]
 
 
 def targets() -> str:

@@ -32,8 +32,8 @@ def of(settings: Settings, door: Door) -> list[str]:
         return [*made, *nameless("watcher"), *kept_out(door), *watched()]
     made += lines.of_request(door.role) + who(settings, door) + kept_out(door)
     made += may(settings, door)
-    if door.role == "operator":
-        made.append(page.rule(settings.office.page))
+    if door.is_for_people():
+        made += page.rules(settings, door)
     if door.role in ("gateway", "operator"):
         made.append(answered("if { path /health }"))
     return [*made, *turns(settings, door), *account(), *refunds(settings, door)]
@@ -123,7 +123,7 @@ def kept_out(door: Door) -> list[str]:
     if door.hosts:
         hosts = " ".join(door.hosts)
         made += refused(421, "host", f"unless {{ req.fhdr(Host) -i -m str {hosts} }}")
-    made += same_origin(door) if door.role == "operator" else no_browser()
+    made += same_origin(door) if door.is_for_people() else no_browser()
     if door.role != "script":
         made += refused(403, "shard", "if { req.fhdr(Office-Shard) -m found }")
     return made + on_route(door)
@@ -132,7 +132,8 @@ def kept_out(door: Door) -> list[str]:
 def on_route(door: Door) -> list[str]:
     """A target and a method that some role has (404, 405), and this one (403)."""
     what = "var(txn.what) -m reg"
-    own, every = routes.pattern(routes.of(door.role)), routes.pattern(list(routes.ROUTES))
+    own = routes.pattern(routes.at(door))
+    every = routes.pattern(list(routes.ROUTES))
     return [
         f"    acl own {what} '{own}'",
         *refused(404, "target", f"if !own !{{ {what} '{routes.targets()}' }}"),

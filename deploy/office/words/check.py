@@ -66,7 +66,7 @@ def described(settings: Settings, door: Door) -> str:
     """What a door lets in, and what that may ask."""
     names = [caller.name for caller in settings.callers(door.role)] if door.tls else []
     shown = ", ".join(names) or ("nobody" if door.tls else "whoever reaches it")
-    may = ", ".join(f"{route.method} {route.target}" for route in routes.of(door.role))
+    may = ", ".join(f"{route.method} {route.target}" for route in routes.at(door))
     return (
         f"{door.name} ({door.role}) at {door.at}: {way(settings, door)}\n    for {shown}\n    {may}"
     )

@@ -122,7 +122,7 @@ SECRET = "correct-horse-41"
 def file_of(doors: dict[str, int]) -> str:
     """The office's file, with these ports of its doors."""
     hashed = done("openssl", "passwd", "-5", "-salt", "rounds=1000$abc", SECRET).strip()
-    text = FILE.replace("{page}", str(DEPLOY / "office.html")).replace("{hash}", hashed)
+    text = FILE.replace("{page}", str(DEPLOY / "console/console.html")).replace("{hash}", hashed)
     for name, port in doors.items():
         text = text.replace("{" + name + "}", str(port))
     return text

@@ -20,6 +20,9 @@ TARGETS = {
     "/vouchers/999999999999/redeem": ("POST",),
     "/sweep": ("POST",),
     "/office": ("GET",),
+    "/office/console.js": ("GET",),
+    "/office/console.css": ("GET",),
+    "/office/me": ("GET",),
     "/health": ("GET",),
     "/health/01": ("GET",),
     "/metrics": ("GET",),
@@ -28,6 +31,7 @@ TARGETS = {
     "/": (),
 }
 METHODS = ("GET", "POST", "PUT", "DELETE", "HEAD", "OPTIONS", "PATCH")
+PAGE = {("GET", target) for target in TARGETS if target.startswith("/office")}
 OPERATOR = {
     ("POST", "/ccr"),
     ("GET", f"/accounts/{ACCOUNT}"),
@@ -36,13 +40,17 @@ OPERATOR = {
     ("POST", f"/accounts/{ACCOUNT}/credits"),
     ("POST", f"/accounts/{ACCOUNT}/allowances"),
     ("POST", "/vouchers/999999999999/redeem"),
-    ("GET", "/office"),
+    *PAGE,
     ("GET", "/health"),
 }
-OWN = {("GET", "/office"), ("GET", "/health")}
+OWN = {*PAGE, ("GET", "/health")}
 MAY = {
     "gateway": {("POST", "/ccr"), ("GET", "/health")},
-    "shop": {("GET", f"/accounts/{ACCOUNT}"), ("POST", "/vouchers/999999999999/redeem")},
+    "shop": {("GET", f"/accounts/{ACCOUNT}"), ("POST", "/vouchers/999999999999/redeem"), *PAGE},
+    "shop without a page": {
+        ("GET", f"/accounts/{ACCOUNT}"),
+        ("POST", "/vouchers/999999999999/redeem"),
+    },
     "operator": OPERATOR,
     "reader": {(method, target) for method, target in OPERATOR if method == "GET"},
     "script": OPERATOR - OWN | {("POST", "/sweep")},
@@ -53,7 +61,7 @@ CALLERS = {
     "gateway by certificate": ("gateway", "gateways", "pgw-2"),
     "gateway of this machine": ("gateway", "here", None),
     "shop by certificate": ("shop", "shops", "shop-8"),
-    "shop of this machine": ("shop", "counter", None),
+    "shop of this machine": ("shop without a page", "counter", None),
     "operator by certificate": ("operator", "operators", "ada"),
     "operator of this machine": ("operator", "desk", None),
     "reader by certificate": ("reader", "operators", "audit"),

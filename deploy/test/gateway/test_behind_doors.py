@@ -28,7 +28,7 @@ first-port = {first}
 databases = "{place}"
 moved = "{place}/moved"
 owner = ""
-page = "{top}/deploy/office.html"
+page = "{top}/deploy/console/console.html"
 clearing = "{place}/clearing"
 [haproxy]
 user = ""

@@ -61,7 +61,7 @@ def file(place: pathlib.Path, text: str = TWO, old: str = "", new: str = "") -> 
     """The office's file in a folder, with a text in place of another."""
     assert old in text
     made = place / "office.toml"
-    text = text.replace("{page}", str(DEPLOY / "office.html"))
+    text = text.replace("{page}", str(DEPLOY / "console/console.html"))
     made.write_text(text.replace(old, new, 1) if old else text)
     return made
 

@@ -16,7 +16,7 @@ SET_UP = f"""
 set -e
 useradd --system --home-dir /var/lib/ocs ocs
 install -m 644 deploy/ocs@.service /etc/systemd/system/
-install -D -m 644 deploy/office.html /usr/local/share/ocs/office.html
+install -D -m 644 -t /usr/local/share/ocs/console deploy/console/*
 install -d -o ocs -g ocs -m 750 /var/lib/ocs && install -d /etc/ocs /run/haproxy /etc/haproxy
 ln -s /srv/ocs/deploy/bin/office /usr/local/bin/office
 printf '[office]\\nsynchronised = false\\n' > /etc/ocs/office.toml

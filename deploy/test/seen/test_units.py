@@ -24,7 +24,7 @@ LINES = 64_000
 SET_UP = """
 useradd --system --home-dir /var/lib/ocs ocs
 install -m 755 crates/ocs/out/ocs /usr/local/bin/ocs
-install -D -m 644 deploy/office.html /usr/local/share/ocs/office.html
+install -D -m 644 -t /usr/local/share/ocs/console deploy/console/*
 mkdir -p /usr/local/lib/ocs && cp -r deploy/office deploy/bin /usr/local/lib/ocs/
 ln -sf /usr/local/lib/ocs/bin/office /usr/local/bin/office
 install -d -m 750 -o ocs -g ocs /var/lib/ocs && install -d -m 700 /etc/ocs

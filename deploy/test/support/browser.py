@@ -1,6 +1,7 @@
-"""Headless Chromium with one page, driven over its two pipes."""
+"""Headless Chromium with one page, driven over its two pipes, by keys and by a pointer."""
 from __future__ import annotations
 
+import base64
 import contextlib
 import fcntl
 import json
@@ -17,6 +18,13 @@ WORDS = (
     *("--no-first-run", "--disable-extensions", "--no-proxy-server", "--hide-scrollbars"),
 )
 SECONDS = 60
+# Keys that aren't letters: their codes, and the text that they bring.
+KEYS = {
+    **{"Tab": (9, ""), "Enter": (13, "\r"), "Escape": (27, ""), " ": (32, " ")},
+    **{"End": (35, ""), "Home": (36, ""), "ArrowLeft": (37, ""), "ArrowUp": (38, "")},
+    **{"ArrowRight": (39, ""), "ArrowDown": (40, ""), "Backspace": (8, "")},
+}
+SHIFT = 8
 
 
 class Browser:
@@ -37,6 +45,8 @@ class Browser:
         os.close(self.said[1])
         self.out, self.kept, self.number, self.session = words[1], b"", 0, ""
         self.events: list[dict[str, Any]] = []
+        # Whom the browser says that it is, where a door asks for a name and a password.
+        self.person: tuple[str, str] | None = None
         until(self.pages, "a page of the browser")
         attached = self.do("Target.attachToTarget", targetId=self.pages()[0], flatten=True)
         self.session = attached["sessionId"]
@@ -62,18 +72,47 @@ class Browser:
     def do(self, method: str, **words: Any) -> dict[str, Any]:
         """What the browser answers to a command; what it reports meanwhile is kept."""
         self.number += 1
-        asked: dict[str, Any] = {"id": self.number, "method": method, "params": words}
+        number = self.number
+        asked: dict[str, Any] = {"id": number, "method": method, "params": words}
         if self.session:
             asked["sessionId"] = self.session
         os.write(self.out, json.dumps(asked).encode() + b"\0")
         while True:
             answer = self.message()
-            if answer.get("id") != self.number:
+            if answer.get("id") != number:
                 self.events.append(answer)
+                self.reply(answer)
                 continue
             if "error" in answer:
                 raise OSError(f"{method}: {answer['error']}")
             return dict(answer["result"])
+
+    def reply(self, event: dict[str, Any]) -> None:
+        """Lets a request go on that waits for us, or says who asks."""
+        method, told = event.get("method"), event.get("params", {})
+        if method == "Fetch.requestPaused":
+            self.tell("Fetch.continueRequest", requestId=told["requestId"])
+        if method == "Fetch.authRequired":
+            answer: dict[str, str] = {"response": "CancelAuth"}
+            if self.person:
+                name, password = self.person
+                answer = {"response": "ProvideCredentials", "username": name, "password": password}
+            self.tell(
+                "Fetch.continueWithAuth",
+                requestId=told["requestId"],
+                authChallengeResponse=answer,
+            )
+
+    def tell(self, method: str, **words: Any) -> None:
+        """A command whose answer isn't waited for."""
+        self.number += 1
+        asked = {"id": self.number, "method": method, "params": words, "sessionId": self.session}
+        os.write(self.out, json.dumps(asked).encode() + b"\0")
+
+    def sign_in(self, name: str, password: str) -> None:
+        """From now on a name and a password are given where they are asked for."""
+        self.person = (name, password)
+        self.do("Fetch.enable", handleAuthRequests=True)
 
     def value(self, text: str) -> Any:
         """The value of an expression in the page, once it is there."""
@@ -94,6 +133,44 @@ class Browser:
             return not is_blank and self.value("document.readyState") == "complete"
         return False
 
+    def look(self, width: int, scheme: str = "light", height: int = 900) -> None:
+        """Makes the window so wide, in light or in dark."""
+        shape = {"width": width, "height": height, "deviceScaleFactor": 1, "mobile": False}
+        self.do("Emulation.setDeviceMetricsOverride", **shape)
+        features = [{"name": "prefers-color-scheme", "value": scheme}]
+        self.do("Emulation.setEmulatedMedia", features=features)
+
+    def press(self, key: str, is_shifted: bool = False) -> None:
+        """Presses a key: a letter, or one of `KEYS`."""
+        code, text = KEYS.get(key, (ord(key[0].upper()), key))
+        held = {"key": key, "code": key, "windowsVirtualKeyCode": code}
+        held["modifiers"] = SHIFT if is_shifted else 0
+        self.do("Input.dispatchKeyEvent", type="keyDown", text=text, **held)
+        self.do("Input.dispatchKeyEvent", type="keyUp", **held)
+
+    def write(self, text: str) -> None:
+        """Writes a text where the keys go."""
+        self.do("Input.insertText", text=text)
+
+    def click(self, selector: str) -> None:
+        """Presses the pointer's button on an element, which has to be what is seen there."""
+        place = self.value(POINT.replace("SELECTOR", json.dumps(selector)))
+        if not place:
+            raise ValueError(f"nothing to click at {selector!r}")
+        held = {"x": place[0], "y": place[1], "button": "left", "clickCount": 1}
+        self.do("Input.dispatchMouseEvent", type="mousePressed", **held)
+        self.do("Input.dispatchMouseEvent", type="mouseReleased", **held)
+
+    def picture(self, path: pathlib.Path, selector: str = "main", most: float = 1e9) -> None:
+        """Leaves a picture of a part of the page, the window's width and at most so high."""
+        place = f"document.querySelector({json.dumps(selector)}).getBoundingClientRect()"
+        top, bottom, width = self.value(
+            f"[{place}.top + scrollY, {place}.bottom + scrollY, innerWidth]"
+        )
+        clip = {"x": 0, "y": top, "width": width, "height": min(bottom - top, most), "scale": 1}
+        words = {"format": "png", "captureBeyondViewport": True, "clip": clip}
+        path.write_bytes(base64.b64decode(self.do("Page.captureScreenshot", **words)["data"]))
+
     def reported(self, word: str) -> bool:
         """Whether the browser has reported something with this word."""
         return any(word in json.dumps(event) for event in self.events)
@@ -107,6 +184,17 @@ class Browser:
             return
         self.process.kill()
         self.process.wait()
+
+
+# Where the middle of an element is, once it is in the window, if nothing else is before it.
+POINT = """(() => {
+    const element = document.querySelector(SELECTOR);
+    if (!element) return null;
+    element.scrollIntoView({block: 'center'});
+    const {left, top, width, height} = element.getBoundingClientRect();
+    const point = [left + width / 2, top + height / 2], seen = document.elementFromPoint(...point);
+    return seen && (element.contains(seen) || seen.contains(element)) ? point : null;
+})()"""
 
 
 def pipes() -> tuple[list[int], list[int]]:

@@ -56,6 +56,8 @@ class World:
 
     def __init__(self, place: pathlib.Path, text: str, doors: dict[str, int]) -> None:
         self.place, self.doors = place, doors
+        # The moment at which the shards stand; None: the machine's clock.
+        self.moment: int | None = None
         self.first = ports.free(SHARDS + 1)
         self.shards: dict[int, subprocess.Popen[bytes]] = {}
         self.haproxy: subprocess.Popen[bytes] | None = None
@@ -96,6 +98,7 @@ class World:
         """Starts a shard."""
         port = self.first + at
         words = [program(), "serve", self.database(at), "--port", port, "--connections", 1000000]
+        words += [] if self.moment is None else ["--at", self.moment]
         errors = (self.place / "errors").open("ab")
         self.shards[at] = subprocess.Popen(list(map(str, words)), stderr=errors, **QUIET)
         errors.close()

@@ -38,7 +38,7 @@ at = "{place}/office.sock"
 @pytest.fixture(scope="package")
 def world(tmp_path_factory: pytest.TempPathFactory) -> Iterator[World]:
     """Two shards behind HAProxy."""
-    desk, page = ports.free(), str(DEPLOY / "office.html")
+    desk, page = ports.free(), str(DEPLOY / "console/console.html")
     text = FILE.replace("{desk}", str(desk)).replace("{page}", page)
     one = World(tmp_path_factory.mktemp("words"), text, {"desk": desk})
     one.make(2)

@@ -16,7 +16,7 @@ def test_check_says_what_each_door_lets_in(world: World) -> None:
 def test_check_says_what_is_missing(world: World) -> None:
     text = world.file.read_text()
     try:
-        world.file.write_text(text.replace("office.html", "nothing.html"))
+        world.file.write_text(text.replace("console.html", "nothing.html"))
         told = world.office("check")
         assert (told.returncode, "nothing.html" in told.stderr) == (1, True)
         world.file.write_text(text.replace('role = "operator"', 'role = "operator"\ntls = true'))

@@ -1,0 +1,140 @@
+"""How the page looks: at each width, light and dark: nothing wider than the window, each text with a
+contrast of 4.5 or more, each field with a name, each thing large enough to be hit."""
+from __future__ import annotations
+
+import itertools
+from typing import Any
+
+import pytest
+
+from console.office import ACCOUNT, BARRED, NOBODY
+from console.person import Person
+
+WIDTHS, SCHEMES = (320, 400, 1200, 1600), ("light", "dark")
+SEEN = """(() => {
+    const parts = colour => colour.match(/[\\d.]+/g).map(Number);
+    const light = ([red, green, blue]) => [red, green, blue].map(one => (one /= 255) <= .03928 ? one / 12.92 : ((one + .055) / 1.055) ** 2.4)
+        .reduce((sum, one, at) => sum + one * [.2126, .7152, .0722][at], 0);
+    const over = ([red, green, blue, share = 1], back) => [red, green, blue].map((one, at) => one * share + back[at] * (1 - share));
+    const back = element => {
+        const found = [];
+        for (; element; element = element.parentElement) found.push(parts(getComputedStyle(element).backgroundColor));
+        return found.reverse().reduce((under, colour) => over(colour, under), [255, 255, 255]);
+    };
+    const low = [];
+    for (const element of document.querySelectorAll('body *')) {
+        const style = getComputedStyle(element), isText = [...element.childNodes].some(one => one.nodeType === 3 && one.textContent.trim());
+        const isField = /^(INPUT|SELECT)$/.test(element.tagName);
+        if (!element.getClientRects().length || style.visibility !== 'visible' || element.closest('.off') || !(isText || isField)) continue;
+        const under = back(element), colour = element.namespaceURI.endsWith('svg') ? style.fill : style.color;
+        const [one, other] = [light(over(parts(colour), under)), light(under)];
+        const ratio = (Math.max(one, other) + .05) / (Math.min(one, other) + .05);
+        if (ratio < 4.5) low.push(`${element.tagName} ${element.textContent.slice(0, 20)} ${ratio.toFixed(2)}`);
+    }
+    const fields = [...document.querySelectorAll('input, select, button')];
+    const unnamed = fields.filter(one => !(one.labels && one.labels.length) && !one.textContent.trim() && !one.getAttribute('aria-label'));
+    const small = fields.filter(one => one.offsetParent && one.getBoundingClientRect().height < 24);
+    const wide = [...document.querySelectorAll('main *')].filter(one => one.offsetParent && !one.closest('.scroll, .off') && one.getBoundingClientRect().right > innerWidth + 1);
+    return {low, unnamed: unnamed.map(one => one.id || one.name), small: small.map(one => one.id || one.textContent),
+        wide: wide.map(one => one.tagName + ' ' + (one.id || one.className)), scroll: document.documentElement.scrollWidth,
+        titles: document.querySelectorAll('h1').length, language: document.documentElement.lang};
+})()"""
+# What is looked at: an account, its forms, what is refused, what isn't there.
+PLACES: dict[str, tuple[str, str, dict[str, str]]] = {
+    "an account": (ACCOUNT, "", {}),
+    "a refusal": (ACCOUNT, "credit", {"amount": "x"}),
+    "an allowance": (ACCOUNT, "allow", {"blocks": "5", "scope": "77"}),
+    "a voucher": (ACCOUNT, "redeem", {"code": "1"}),
+    "a price": (ACCOUNT, "price", {"scope": "30", "count": "2", "unit": "events"}),
+    "a barred account": (BARRED, "", {}),
+    "no account": (NOBODY, "", {}),
+    "a wrong number": ("x", "", {}),
+    "all accounts": ("office", "", {}),
+}
+
+
+def looked_at(person: Person, width: int, scheme: str) -> Any:
+    """What is wrong with what the page looks like."""
+    person.look(width, scheme)
+    return person.value(SEEN)
+
+
+@pytest.mark.parametrize("place", list(PLACES))
+def test_it_fits_and_can_be_read(operator: Person, place: str) -> None:
+    what, form, fields = PLACES[place]
+    operator.look(1200)
+    operator.show(what)
+    if form:
+        operator.tab(form)
+        operator.fill(form, **fields)
+        operator.send(form)
+    if place == "an account":
+        operator.value("document.getElementById('past-box').open = true")
+    try:
+        for width, scheme in itertools.product(WIDTHS, SCHEMES):
+            seen = looked_at(operator, width, scheme)
+            where = (place, width, scheme)
+            assert (where, seen["low"], seen["wide"]) == (where, [], [])
+            assert seen["scroll"] <= width, where
+            assert (seen["unnamed"], seen["small"]) == ([], []), where
+            assert (seen["titles"], seen["language"]) == (1, "en")
+    finally:
+        operator.look(1200)
+
+
+@pytest.mark.parametrize("width", [320, 1200])
+def test_the_shops_page_fits(shop: Person, width: int) -> None:
+    shop.show(ACCOUNT)
+    for scheme in SCHEMES:
+        seen = looked_at(shop, width, scheme)
+        assert (seen["low"], seen["wide"], seen["scroll"] <= width) == ([], [], True)
+    shop.look(1200)
+
+
+def test_keys_come_to_everything(operator: Person) -> None:
+    """The key Tab comes to each field, list and button that can be seen, and to the chosen tab."""
+    operator.show(ACCOUNT)
+    can = """[...document.querySelectorAll('a[href], button, input, select, summary')].filter(
+        one => one.offsetParent && one.tabIndex >= 0).length"""
+    wanted, mark = operator.value(can), "document.activeElement.dataset.been = 1"
+    operator.value("document.activeElement.blur()")
+    for _ in range(wanted + 20):
+        operator.press("Tab")
+        operator.value(mark)
+    assert operator.value("document.querySelectorAll('main [data-been]').length") == wanted
+
+
+def test_tabs_go_round_by_arrows(operator: Person) -> None:
+    operator.show(ACCOUNT)
+    operator.value("document.getElementById('tab-credit').focus()")
+    seen = []
+    for key in ("ArrowRight", "ArrowLeft", "ArrowLeft", "Home", "End"):
+        operator.press(key)
+        seen.append(operator.value("document.activeElement.id"))
+    assert seen == ["tab-allow", "tab-credit", "tab-price", "tab-credit", "tab-price"]
+    assert operator.is_seen("#price") and not operator.is_seen("#credit")
+    names = "[...document.querySelectorAll('[role=tab]')].map(one => [one.getAttribute('aria-selected'), one.tabIndex])"
+    assert [one for one in operator.value(names) if one[0] == "true"] == [["true", 0]]
+
+
+def test_a_screen_reader_hears_it(operator: Person) -> None:
+    """Names, roles and live regions as the browser's tree for readers has them."""
+    operator.show(ACCOUNT)
+    operator.do("Accessibility.enable")
+    nodes = operator.do("Accessibility.getFullAXTree")["nodes"]
+    found = [
+        (node["role"]["value"], node.get("name", {}).get("value", ""))
+        for node in nodes
+        if not node.get("ignored") and "role" in node
+    ]
+    assert ("textbox", "Account number") in found
+    assert ("tablist", "Do") in found and ("tab", "Credit") in found
+    assert ("combobox", "Month") in found and ("button", "Month before") in found
+    assert ("heading", f"Account {ACCOUNT}") in found
+    assert any(role == "status" for role, _ in found)
+    unnamed = [
+        one
+        for one in found
+        if one[0] in ("button", "textbox", "combobox", "image", "img") and not one[1]
+    ]
+    assert unnamed == []
