@@ -27,7 +27,7 @@ const STATUSES = {
 // Who asks, the account that is shown, its month, and the command that was sent last.
 let me = {Name: "", Role: "", Changes: false, Seconds: 70};
 let asked = 0, account = "", balance = null, month = "", charges = [], toDate = {}, last = null;
-let hasLost = false, isBusy = false, hasAgent = false;
+let hasLost = false, hasCovered = false, isBusy = false, hasAgent = false;
 
 /** A fault that is told as it is. */
 class Told extends Error {}
@@ -223,8 +223,8 @@ function readStatement(text) {
   const end = lines.findIndex(words => words[0] === "TOTAL");
   if (lines[0][0] !== "ACCOUNT" || end < 2) throw new Told("The statement isn't one that this page reads.");
   toDate = Object.fromEntries(lines.filter(words => words[1] === "TO").map(words => [words[0], words[3]]));
-  charges = lines.slice(2, end).map(([moment, group, blocks, rated, collected, uncollected]) =>
-    ({day: time(moment).slice(0, 10), at: time(moment).slice(11), group, blocks, rated, collected, uncollected}));
+  charges = lines.slice(2, end).map(([moment, group, blocks, rated, collected, uncollected], number) =>
+    ({number, day: time(moment).slice(0, 10), at: time(moment).slice(11), group, blocks, rated, collected, uncollected}));
 }
 
 /** The days of a month, and those beside it that the zone of the book counts into it. */
@@ -323,6 +323,7 @@ function showMonth(path) {
   if (toDate.COVERED !== undefined) figures.push(["Covered by allowances to date", blocks(toDate.COVERED)]);
   showFigures(at("figures"), figures);
   hasLost = lost > 0n;
+  hasCovered = false;
   showCharges();
   at("caption").textContent = `Charges of ${month} by day, the newest first`;
   at("chart-title").textContent = `${month} by day`;
@@ -330,7 +331,8 @@ function showMonth(path) {
 }
 
 const sumsOf = rows => Object.fromEntries(["rated", "collected", "uncollected"].map(part => [part, total(rows, part)]));
-const wholeRow = child => made("tr", "", Object.assign(made("td", "", child), {colSpan: 6}));
+const coveredOf = row => row.covered ? count(row.covered) : "";
+const wholeRow = child => made("tr", "", Object.assign(made("td", "", child), {colSpan: 7}));
 
 /** A row of the table of charges: its name, its group, its blocks and its money. */
 function chargeRow(head, group, many, row, kind) {
@@ -338,7 +340,9 @@ function chargeRow(head, group, many, row, kind) {
   const lost = cell(isLost ? money(row.uncollected) : "", isLost ? "lost missing" : "lost");
   head.scope = "row";
   lost.hidden = !hasLost;
-  return made("tr", kind, head, cell(group), cell(many), cell(money(row.rated), "wide-only"), cell(money(row.collected)), lost);
+  row.cell = cell(coveredOf(row), "covered");
+  row.cell.hidden = !hasCovered;
+  return made("tr", kind, head, cell(group), cell(many), row.cell, cell(money(row.rated), "wide-only"), cell(money(row.collected)), lost);
 }
 
 /** The charges by day, the newest first; a day opens and closes. */
@@ -347,6 +351,7 @@ function showCharges() {
   const days = [...Map.groupBy(charges, row => row.day)].sort(([one], [other]) => one < other ? 1 : -1);
   const isAll = charges.length <= ALL_OPEN;
   at("charges").querySelector("th.lost").hidden = !hasLost;
+  at("charges").querySelector("th.covered").hidden = !hasCovered;
   at("charges").append(...days.map(([day, rows], place) => dayOf(day, rows.toReversed(), isAll || place === 0)));
   if (!days.length) at("charges").append(made("tbody", "", wholeRow("No charge in this month.")));
   at("charges").append(made("tfoot", "", chargeRow(made("th", "", "Month"), "", "", sumsOf(charges), "")));
@@ -439,7 +444,7 @@ async function send(command) {
   if (told.kind !== "unknown") keep(unanswered().filter(isOther(command)));
   if (told.kind === "good" && (command.account === account || command.kind === "open")) {
     await show(command.account, month);
-    if (at(command.kind).elements.reference?.value === command.reference) renew(command.kind);
+    if (command.reference && at(command.kind).elements.reference.value === command.reference) renew(command.kind);
   }
   sayDone(told.line, told.kind === "good" ? "good" : "fault");
   if (at("do").hidden || at("sheet").hidden) say(told.line, told.kind !== "good");
@@ -611,22 +616,61 @@ function tableOf(rows, name) {
   return made("div", "scroll", made("table", "", made("thead", "", head), body));
 }
 
+/** A table of columns, each a title, a text of a row, and a kind of its cells. */
+function columnsOf(rows, name, columns) {
+  if (!rows.length) return made("p", "", `No ${name}.`);
+  const body = made("tbody", "");
+  const head = made("tr", "", ...columns.map(([title]) => Object.assign(made("th", "", title), {scope: "col"})));
+  const row = one => made("tr", "", ...columns.map(([, text, kind]) => made("td", kind || "", text(one))));
+  const wrap = button => made("tr", "", Object.assign(made("td", "", button), {colSpan: columns.length}));
+  listed(body, rows, row, 100, name, wrap);
+  const place = made("div", "scroll", made("table", "", made("thead", "", head), body));
+  place.dataset.part = name;
+  return place;
+}
+
+const heldOf = one => one.is_blocks ? `allowance ${one.bucket}: ${blocks(one.amount)}` : `bucket ${one.bucket}: ${money(one.amount)}`;
+const SESSIONS = [
+  ["Session", one => one.session, "words"], ["Touched", one => time(one.touched)], ["Ends", one => time(one.ends)],
+  ["Group", one => one.group ? String(one.group.rating_group) : ""], ["Used", one => one.group ? count(one.group.used) : ""],
+  ["Held", one => one.group ? one.group.held.map(heldOf).join(", ") : ""],
+];
+const LINES = [
+  ["Time", one => time(one.moment)], ["Who", one => one.who], ["Asked", one => one.asked, "words"],
+  ["Answered", one => one.answered, "words"], ["Request", one => one.id.slice(0, 8)],
+];
+
 /** Shows what the agent tells of the account, or that it tells nothing here. */
 async function showAgent(mine) {
-  if (me.Role !== "operator") return;
   let told = null, line = "";
-  try { told = await read(`${AGENT}/account/${account}`); } catch (fault) {
-    line = `Open sessions, what covered a charge, and the doors' log are not here: ${fault.message}`;
+  if (me.Role !== "operator") return;
+  try { told = await read(`${AGENT}/account/${account}?month=${month.replace("-", "")}`); } catch (fault) {
+    line = `Open sessions, what covered a charge, the doors' log and bars are not here: ${fault.message}`;
   }
   if (mine !== asked) return;
   hasAgent = told !== null;
   offer({credit: me.Changes, allow: me.Changes, redeem: me.Changes, price: me.Changes, bar: me.Changes && hasAgent});
   at("agent-none").textContent = line;
   at("agent-moment").textContent = told ? `as of ${time(told.as_of)}` : "";
-  const parts = [["sessions", "Open sessions"], ["charges", "Charges, and what covered them"], ["log", "The doors' log"]];
-  at("agent-parts").replaceChildren(...(told ? parts : []).filter(([key]) => Array.isArray(told[key])).flatMap(([key, name]) =>
-    [made("h3", "", name), tableOf(told[key], key === "log" ? "lines" : key)]));
+  at("agent-parts").replaceChildren();
+  if (told) showBehind(told);
   counted("behind");
+}
+
+function showBehind(told) {
+  const sessions = told.sessions.flatMap(one => one.groups.length ? one.groups.map(group => ({...one, group})) : [one]);
+  const more = told.lines_before ? `, ${count(told.lines_before)} older ones left out` : "";
+  at("agent-parts").append(
+    made("h3", "", "Open sessions"), columnsOf(sessions, "open sessions", SESSIONS),
+    made("h3", "", `The doors' log since ${time(told.lines_since)}${more}`), columnsOf(told.lines.toReversed(), "lines", LINES));
+  told.charges.forEach((one, place) => {
+    const row = charges[place];
+    if (!row || row.number !== place || row.group !== String(one.rating_group) || row.blocks !== String(one.blocks)) return;
+    row.covered = one.covered;
+    if (row.cell) row.cell.textContent = coveredOf(row);
+  });
+  hasCovered = charges.some(row => row.covered);
+  for (const one of at("charges").querySelectorAll(".covered")) one.hidden = !hasCovered;
 }
 
 // What is shown.
@@ -710,7 +754,7 @@ async function showOffice(wanted) {
     try { told = await read(`${AGENT}/${path}`); } catch (fault) { faults.push(`${id}: ${fault.message}`); }
     if (mine !== asked) return;
     at(id).hidden = told === null;
-    if (told) at(id + "-parts").replaceChildren(...partsOf(told));
+    if (told) at(id + "-parts").replaceChildren(...(id === "books" ? shelvesOf(told) : partsOf(told)));
   }
   pickMonths(at("sums-month"), monthsOf(monthAfter(shownMonth, -24), new Date().toISOString().slice(0, 7), shownMonth), shownMonth);
   at("office-none").hidden = !faults.length;
@@ -718,6 +762,22 @@ async function showOffice(wanted) {
   at("office").hidden = false;
   say("");
   counted("shown");
+}
+
+const tierOf = one => one.upto === null ? money(one.price) : `${money(one.price)} up to ${count(one.upto)}`;
+const PRICES = [
+  ["Group", one => String(one.rating_group)], ["Counts", one => one.unit], ["Block", one => count(one.block)],
+  ["Cycle", one => one.cycle], ["Period", one => one.period], ["Price of a block", one => one.tiers.map(tierOf).join(", then "), "words"],
+];
+
+/** The books that hold and those that come, with their prices; one shelf where all shards have the same. */
+function shelvesOf(told) {
+  return told.shelves.flatMap(shelf => shelf.books.flatMap(book => {
+    const since = book.starts_shown ? ` from ${book.starts_shown}` : "", where = told.shelves.length > 1 ? ` (shards ${shelf.shards.join(", ")} alone)` : "";
+    const rows = book.groups.flatMap(group => group.prices.map(price => ({...group, ...price})));
+    return [made("h3", "", `${book.holds ? "Holds" : "Comes"}${since}${where}`),
+      made("p", "quiet", `Currency ${book.currency}, zone ${book.zone}`), columnsOf(rows, "groups", PRICES)];
+  }));
 }
 
 /** The parts of an answer: each list as a table, other members as figures. */

@@ -16,6 +16,8 @@ SHARDS, DOORS = 2, ("desk", "counter", "operators")
 MOMENT, MONTH, BEGIN, DAY = 1769695380, "202601", 1767225600, 86400
 ACCOUNT, BARRED, EMPTY, NOBODY = "49151", "49152", "49153", "777000"
 CODES = ("123456789012", "123456789013", "123456789014", "123456789015", "123456789016")
+# Codes of another shard than the first account's.
+FAR = ("223456789012", "223456789013", "223456789014")
 FILE = """
 [office]
 shards = 2
@@ -35,6 +37,13 @@ request = 5
 start = 2
 queue = 4
 answer = 6
+[agent]
+socket = "{place}/agent.sock"
+redeemed = "{place}/redeemed.db"
+[keeping]
+locks = "{place}/locks"
+archive = "{place}/archive"
+copies = "{place}/copies"
 [tls]
 authority = "{place}/authority"
 certificate = "{place}/tls/office.pem"
@@ -87,7 +96,9 @@ def made(place: pathlib.Path) -> World:
     history(world)
     for at in range(1, SHARDS + 1):
         world.start(at)
+    (place / "clearing").touch()
     world.balance()
+    world.command("clearing", "--write")
     return world
 
 
@@ -111,14 +122,21 @@ def history(world: World) -> None:
     lines = database.with_suffix(".in")
     lines.write_text("".join(requests()))
     done(program(), "replay", database, lines)
-    vouchers = world.place / "vouchers.csv"
-    rows = "".join(f"{code},5000000,30,\n" for code in CODES)
-    vouchers.write_text("code,amount,days,scope\n" + rows)
-    done(program(), "import", database, vouchers, "--at", MOMENT - DAY)
+    here = home(world, ACCOUNT)
+    imported(world, here, CODES)
+    imported(world, 1 + here % SHARDS, FAR)
     for account in (BARRED, EMPTY):
         place = world.database(home(world, account))
         done(program(), "open", place, account, "--at", BEGIN)
     done(program(), "bar", world.database(home(world, BARRED)), BARRED, "--at", BEGIN)
+
+
+def imported(world: World, at: int, codes: tuple[str, ...]) -> None:
+    """Vouchers of 5.00 are in a shard that isn't served."""
+    vouchers = world.place / "vouchers.csv"
+    rows = "".join(f"{code},5000000,30,\n" for code in codes)
+    vouchers.write_text("code,amount,days,scope\n" + rows)
+    done(program(), "import", world.database(at), vouchers, "--at", MOMENT - DAY)
 
 
 KINDS = ((10, "CC-Time", 1500), (20, "CC-Total-Octets", 90_000_000))

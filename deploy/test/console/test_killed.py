@@ -12,7 +12,7 @@ from support.callers import opened
 from support.waiting import until
 from support.world import World
 
-from console.office import ACCOUNT, balance, home, script
+from console.office import ACCOUNT, balance, home, imported, script
 from console.person import Person
 
 NUMBERS = itertools.count(90000)
@@ -38,13 +38,9 @@ def account(world: World, operator: Person) -> Iterator[str]:
 
 def code_of(world: World) -> str:
     """A new voucher's code."""
-    from support.world import done, program
-
     code, here = f"{next(NUMBERS):012}", home(world, ACCOUNT)
-    file = world.place / "more.csv"
-    file.write_text(f"code,amount,days,scope\n{code},5000000,30,\n")
     world.kill(here)
-    done(program(), "import", world.database(here), file, "--at", world.moment)
+    imported(world, here, (code,))
     world.start(here)
     return code
 

@@ -8,7 +8,7 @@ import pytest
 from support.callers import opened
 from support.world import World
 
-from console.office import ACCOUNT, CODES, NOBODY, balance, charges, home, script
+from console.office import ACCOUNT, CODES, FAR, NOBODY, balance, charges, home, script
 from console.person import Person
 
 NUMBERS = map(str, range(80000, 90000))
@@ -37,6 +37,13 @@ def test_a_shop_sees_a_balance_and_redeems(
     assert shop.send("redeem").startswith("Redeemed the voucher as bucket 2")
     assert balance(world, account)["Buckets"][1]["Credited"] == 5_000_000
     assert shop.text("#available") == "6.00"
+
+
+def test_a_shop_is_told_where_was_looked(shop: Person, account: str) -> None:
+    shop.show(account)
+    shop.fill("redeem", code=FAR[0])
+    told = shop.send("redeem")
+    assert "there is no such voucher (O3). Only the codes of this account's shard" in told
 
 
 def test_a_shop_opens_no_account(shop: Person) -> None:

@@ -101,15 +101,16 @@ def test_the_charges_by_day(world: World, operator: Person) -> None:
         mine = [row for row in rows if utc(row[0], "%Y-%m-%d") == day]
         rated, collected, lost = (sum(row[at] for row in mine) for at in (3, 4, 5))
         wanted.append(
-            ["day", day, "", "", money(rated), money(collected), money(lost) if lost else ""]
+            ["day", day, "", "", "", money(rated), money(collected), money(lost) if lost else ""]
         )
         for moment, group, many, rated, collected, lost in reversed(mine):
             amounts = [money(rated), money(collected), money(lost) if lost else ""]
-            wanted.append(["", utc(moment, "%H:%M:%S"), str(group), f"{many:,}", *amounts])
+            wanted.append(["", utc(moment, "%H:%M:%S"), str(group), f"{many:,}", "", *amounts])
     assert seen["rows"] == wanted
     sums = [sum(row[at] for row in rows) for at in (3, 4, 5)]
     assert seen["sums"] == [
         "Month",
+        "",
         "",
         "",
         *map(money, sums[:2]),

@@ -1,0 +1,146 @@
+"""Bars and open sessions on the page. A small server answers in the agent's place, and bars by the
+program's own word: the agent itself stops units of systemd for it (test/agent)."""
+from __future__ import annotations
+
+import http.server
+import json
+import os
+import socketserver
+import threading
+from collections.abc import Iterator
+from typing import Any
+
+import pytest
+from support.callers import opened
+from support.waiting import until
+from support.world import World, done, program
+
+from console.office import ACCOUNT, MOMENT, balance, home, script
+from console.person import Person
+from console.test_behind import behind, rows_of
+
+HELD = [
+    {"bucket": 5, "amount": 3, "is_blocks": True},
+    {"bucket": 2, "amount": 1_000_000, "is_blocks": False},
+]
+GROUPS = [
+    {"rating_group": 10, "used": 1234, "reserved": True, "held": HELD},
+    {"rating_group": 30, "used": 0, "reserved": False, "held": []},
+]
+NAME = "<img src=x onerror=document.title='got_in'>"
+SESSIONS = [
+    {"session": NAME, "last_number": 4, "touched": MOMENT, "ends": MOMENT + 3600, "groups": GROUPS}
+]
+
+
+class Agent(http.server.BaseHTTPRequestHandler):
+    """Answers as the office's agent does."""
+
+    world: World
+    dies = False
+
+    def do_GET(self) -> None:
+        told = {"sessions": SESSIONS, "charges": [], "lines": [], "lines_before": 0}
+        self.answer(told | {"as_of": MOMENT, "lines_since": MOMENT - 86400})
+
+    def do_POST(self) -> None:
+        word, account = self.path.split("/")[-2:]
+        at = home(self.world, account)
+        self.world.kill(at)
+        done(program(), word, self.world.database(at), account, "--at", MOMENT)
+        self.world.start(at)
+        if Agent.dies:
+            return
+        self.answer({"account": account, "Result-Code": 2001, "changed": True, "waited": 1.25})
+
+    def answer(self, body: dict[str, Any]) -> None:
+        """Writes an answer."""
+        data = json.dumps(body).encode()
+        self.send_response(200)
+        self.send_header("Content-Type", "application/json")
+        self.send_header("Content-Length", str(len(data)))
+        self.end_headers()
+        self.wfile.write(data)
+
+    def address_string(self) -> str:
+        """A socket of the file system has no address."""
+        return "doors"
+
+    def log_message(self, *_: object) -> None:
+        """Prints nothing."""
+
+
+class Server(socketserver.ThreadingMixIn, socketserver.UnixStreamServer):
+    """The server, at the agent's socket."""
+
+    daemon_threads = True
+
+
+@pytest.fixture(scope="module", autouse=True)
+def agent(world: World) -> Iterator[None]:
+    """A small server is in the agent's place."""
+    Agent.world = world
+    place = str(world.place / "agent.sock")
+    with Server(place, Agent) as server:
+        os.chmod(place, 0o666)
+        threading.Thread(target=server.serve_forever, daemon=True).start()
+        yield
+        server.shutdown()
+    os.unlink(place)
+
+
+@pytest.fixture
+def account(world: World) -> str:
+    """A new account."""
+    return opened(script(world), "55501", 1_000_000)
+
+
+@pytest.mark.parametrize("way", ["keys", "pointer"])
+def test_a_stolen_sim_is_barred_and_unbarred(
+    world: World, operator: Person, account: str, way: str
+) -> None:
+    behind(operator, account)
+    operator.way = way
+    for word, is_barred in (("Bar", True), ("Unbar", False)):
+        until(lambda: operator.is_seen("#tab-bar"), "the tab of bars")
+        operator.tab("bar")
+        assert operator.text("#bar-button") == word
+        told = operator.send("bar")
+        assert told.startswith(f"{word}red; others of its shard waited 1.25 seconds")
+        assert balance(world, account)["Barred"] is is_barred
+        assert operator.is_seen("#barred") is is_barred
+    operator.way = "pointer"
+
+
+def test_a_bar_whose_answer_is_lost_is_asked_again(
+    world: World, operator: Person, account: str
+) -> None:
+    behind(operator, account)
+    operator.tab("bar")
+    Agent.dies = True
+    assert operator.send("bar").startswith("No answer.")
+    Agent.dies = False
+    assert operator.texts("#unanswered span") == [f"Bar for account {account}"]
+    assert operator.again().startswith("Barred")
+    assert balance(world, account)["Barred"] and not operator.is_seen("#waiting")
+
+
+def test_who_only_reads_bars_nobody(world: World, reader: Person) -> None:
+    behind(reader, ACCOUNT)
+    assert not reader.is_seen("#do")
+    before = reader.counted("done")
+    reader.value("sendBar()")
+    reader.is_counted("done", before)
+    assert "rosa may not do that here (403)" in reader.outcome() + reader.told()
+    assert balance(world)["Barred"] is False
+
+
+def test_open_sessions_and_what_they_hold(operator: Person) -> None:
+    behind(operator, ACCOUNT)
+    times = ["2026-01-29 14:03:00", "2026-01-29 15:03:00"]
+    assert rows_of(operator, "[data-part='open sessions']") == [
+        [NAME, *times, "10", "1,234", "allowance 5: 3 blocks, bucket 2: 1.00"],
+        [NAME, *times, "30", "0", ""],
+    ]
+    assert operator.value("document.querySelectorAll('main img').length") == 0
+    assert operator.value("document.title") == "Office"
