@@ -4,6 +4,7 @@ Lines are those of the doors' log now; the rest is of a copy. It costs a look at
 moment, and the account's rows of a month."""
 from __future__ import annotations
 
+import collections
 import re
 import time
 from collections.abc import Iterator
@@ -46,16 +47,18 @@ def account(office: Office, asked: Asked, number: str) -> Body:
     if not re.fullmatch("[0-9]{1,10}", since):
         raise Unread(f"since={since!r} is no moment: seconds since 1970")
     month = month_of(told["month"]) if "month" in told else ""
-    lines_as_of = time.time()
-    lines = list(traced.lines(office.settings, number, f"@{since}"))
+    lines_as_of, count = time.time(), 0
+    last = collections.deque[Answered](maxlen=LINES)
+    for count, (_, line) in enumerate(traced.lines(office.settings, number, f"@{since}"), 1):
+        last.append(line)
     shard = shards.Homes(office.settings).home(number)
     with office.kept.opened(shard) as copy:
         kept = of_copy(copy, number, month)
     return kept | {
         "account": number,
         "shard": shard.number,
-        "lines": [line_of(line) for _, line in lines[-LINES:]],
-        "lines_before": max(0, len(lines) - LINES),
+        "lines": [line_of(line) for line in last],
+        "lines_before": count - len(last),
         "lines_since": int(since),
         "lines_as_of": round(lines_as_of, 3),
     }

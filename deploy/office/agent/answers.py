@@ -32,7 +32,7 @@ def answer(office: Office, asked: Asked) -> tuple[int, str]:
     told = {name: body[name] for name in TOLD if name in body}
     seconds = round(time.monotonic() - begun, 3)
     write(asked, {"status": status, "seconds": seconds, "changes": changes} | told)
-    return status, json.dumps(body, ensure_ascii=False, separators=(",", ":"))
+    return status, json.dumps(body, separators=(",", ":"))
 
 
 def made(

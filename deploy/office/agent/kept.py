@@ -12,7 +12,8 @@ import threading
 import time
 from collections.abc import Iterator
 
-from office import copies, shards
+from office import copies, program, shards
+from office.scratch import scratch
 from office.settings import Settings
 from office.shards import Shard
 from office.tables import Database, opened
@@ -49,6 +50,18 @@ class Kept:
         """Copies of all shards."""
         with contextlib.ExitStack() as held:
             yield [held.enter_context(self.opened(one)) for one in shards.of(self.settings)]
+
+    @contextlib.contextmanager
+    def twin(self, shard: Shard) -> Iterator[pathlib.Path]:
+        """A copy that the program may open, and write to; it goes in the end."""
+        with scratch(pathlib.Path(self.settings.office.databases), ".twin-") as folder:
+            program.give(self.settings, folder)
+            made = folder / f"{shard}.db"
+            with self.locks[shard.number]:
+                self.fresh(shard)
+                copies.cloned(self.path(shard), made)
+            program.give(self.settings, made)
+            yield made
 
     def fresh(self, shard: Shard) -> float:
         """The moment of a shard's copy, which is made anew where it is too old."""

@@ -5,7 +5,7 @@ import dataclasses
 import re
 from collections.abc import Callable
 
-from office.agent import accounts, bars, redeem
+from office.agent import accounts, bars, codes, prices, redeem, state, sums
 from office.agent.asked import Asked, Body, Office
 from office.doors.routes import AGENT
 
@@ -27,6 +27,11 @@ ROUTES = (
     Route("POST", "/bar" + NUMBER, bars.bar, True),
     Route("POST", "/unbar" + NUMBER, bars.unbar, True),
     Route("POST", "/redeem", redeem.redeem, True),
+    Route("GET", "/books", prices.shelf),
+    Route("POST", "/trial", prices.trial),
+    Route("POST", "/vouchers/check", codes.check),
+    Route("GET", "/sums", sums.sums),
+    Route("GET", "/shards", state.state),
 )
 
 

@@ -8,27 +8,22 @@ from __future__ import annotations
 import concurrent.futures
 import contextlib
 import dataclasses
-import http.client
-import json
-import os
 import pathlib
 import re
 import time
 from collections.abc import Iterator
-from typing import Any
 
 from prometheus_client.core import CounterMetricFamily, GaugeMetricFamily, Metric
 from prometheus_client.registry import Collector
 
-from office import clock, nights, proxy, redemption, sweeps, tables
-from office.client import SocketConnection
+from office import clock, nights, proxy
 from office.faults import Fault
 from office.machines import watched
-from office.seen import starts
+from office.seen import looks, starts
 from office.seen.certificates import Ends
 from office.seen.turned_away import TurnedAway
 from office.settings import Settings
-from office.shards import Homes, Shard, of
+from office.shards import Shard, of
 
 # A row of HAProxy's table of answers, whose key is caller, code, service and refusal.
 ROW = re.compile(r"key=(?P<key>.*?) use=.*gpc0=(?P<count>[0-9]+)")
@@ -58,7 +53,7 @@ class Measures(Collector):
     def collect(self) -> Iterator[Metric]:
         """The measures of each shard, and of the office."""
         shards = of(self.settings)
-        clearing = clearing_accounts(self.settings)
+        clearing = looks.clearing_accounts(self.settings)
         with concurrent.futures.ThreadPoolExecutor(len(shards)) as pool:
             told = list(pool.map(lambda shard: self.of_shard(shard, clearing), shards))
         values = dict(zip((shard.number for shard in shards), told))
@@ -72,15 +67,7 @@ class Measures(Collector):
 
     def of_shard(self, shard: Shard, clearing: dict[str, str]) -> dict[str, float | None]:
         """The measures of a shard, by their names; None where one isn't known."""
-        told: dict[str, float | None] = files(shard)
-        took = probed(self.settings, shard)
-        told |= {"up": 0 if took is None else 1, "probe_seconds": took}
-        account = clearing.get(shard.number)
-        seen = None if took is None or not account else balance_moment(self.settings, account)
-        copy = last_copy(self.settings, shard)
-        told["ahead_seconds"] = ahead(seen, copied_moment(copy))
-        told["copied_timestamp_seconds"] = moment_of(copy)
-        told["swept_timestamp_seconds"] = moment_of(sweeps.mark(shard))
+        told = looks.of_shard(self.settings, shard, clearing)
         start = self.starts.of(shard)
         if start:
             size = int(told["bytes"] or 0)
@@ -124,83 +111,6 @@ def of_shards(name: str, text: str, told: dict[str, dict[str, float | None]]) ->
     return made
 
 
-def probed(settings: Settings, shard: Shard) -> float | None:
-    """Seconds until a shard answered; None where it didn't in time."""
-    watched = [door.at for door in settings.doors if door.role == "watcher"]
-    begun = time.monotonic()
-    if watched:
-        told = asked(settings, watched[0], f"/health/{shard}")
-    else:
-        told = asked(settings, settings.scripts(), "/accounts/0", shard.number)
-    return None if told is None else time.monotonic() - begun
-
-
-def balance_moment(settings: Settings, account: str) -> int | None:
-    """The moment of an account's balance: never before the last accepted command of its shard."""
-    told = asked(settings, settings.scripts(), f"/accounts/{account}")
-    moment = told.get("Moment") if told else None
-    return moment if isinstance(moment, int) else None
-
-
-def asked(settings: Settings, door: str, path: str, shard: str = "") -> dict[str, Any] | None:
-    """The JSON object of an answer 200 within the seconds of a probe; None without one."""
-    connection = connection_to(door, settings.measures.probe)
-    try:
-        connection.request("GET", path, headers={"Office-Shard": shard} if shard else {})
-        answer = connection.getresponse()
-        told = json.loads(answer.read()) if answer.status == 200 else None
-    except (OSError, ValueError, http.client.HTTPException):
-        return None
-    finally:
-        connection.close()
-    return told if isinstance(told, dict) else None
-
-
-def connection_to(door: str, seconds: float) -> http.client.HTTPConnection:
-    """A connection to a door: a port or a socket's path."""
-    if door.startswith("/"):
-        return SocketConnection(door, seconds)
-    return http.client.HTTPConnection(door, timeout=seconds)
-
-
-def files(shard: Shard) -> dict[str, float | None]:
-    """The bytes of a shard's files, and the room on their disk; none where it has no database."""
-    try:
-        free = os.statvfs(shard.database)
-    except OSError:
-        return {}
-    log = size_of(shard.database.with_name(shard.database.name + "-wal"))
-    room = float(free.f_bavail * free.f_frsize)
-    return {"bytes": starts.size(shard), "log_bytes": log, "room_bytes": room}
-
-
-def size_of(path: pathlib.Path) -> int:
-    """The bytes of a file; 0 where it isn't there."""
-    return path.stat().st_size if path.exists() else 0
-
-
-def moment_of(path: pathlib.Path) -> float | None:
-    """When a file was last written; None where it isn't there."""
-    return path.stat().st_mtime if path.exists() else None
-
-
-def ahead(*moments: int | None) -> float | None:
-    """How far the latest of these is ahead of the clock; None where none is known."""
-    known = [moment for moment in moments if moment is not None]
-    return max(0.0, max(known) - time.time()) if known else None
-
-
-def last_copy(settings: Settings, shard: Shard) -> pathlib.Path:
-    """A shard's newest copy: of the last night (`office backups`), or one beside its database
-    (`office backup`); the latter where there is none."""
-    alone = shard.database.with_name(f"backup-{shard}.db")
-    try:
-        night = nights.last(settings) / f"{shard}.db"
-    except Fault:
-        return alone
-    return max(alone, night, key=lambda path: moment_of(path) or 0.0)
-
-
 def elsewhere(settings: Settings) -> Metric:
     """When the copies in the other place were made; 0 where it has none."""
     text = "When the last copies in the other place were made"
@@ -209,24 +119,6 @@ def elsewhere(settings: Settings) -> Metric:
         found = list(nights.nights(pathlib.Path(settings.keeping.elsewhere)))
         made.add_metric([], nights.moment(found[-1]) if found else 0.0)
     return made
-
-
-def copied_moment(path: pathlib.Path) -> int | None:
-    """The last moment in a copy, which is one of its shard's; None without a copy of this version."""
-    try:
-        with tables.opened(path, is_still=True) as copy:
-            return copy.last_moment
-    except Fault:
-        return None
-
-
-def clearing_accounts(settings: Settings) -> dict[str, str]:
-    """A clearing account of each shard, by the shard's number; none where there is no file."""
-    homes = Homes(settings)
-    try:
-        return {homes.home(account).number: account for account in redemption.clearings(settings)}
-    except Fault:
-        return {}
 
 
 def answers(settings: Settings) -> Metric:

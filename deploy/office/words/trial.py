@@ -12,140 +12,37 @@ Where a group or a price isn't in a book, it is `none`."""
 from __future__ import annotations
 
 import argparse
-import contextlib
-import dataclasses
-import json
 import pathlib
-import re
-import sqlite3
 import sys
 from collections.abc import Iterator
 
-from office import books, copies, program, shards, shelves
-from office.books import Book
-from office.faults import Refused, Unread
+from office import shards, trials
 from office.settings import Settings
-from office.tables import opened
-
-WEEK, MINUTE = 7 * 86_400, 60
-BLOCKS = "1,10,100,1000"
-# Where the search for an account that nobody has begins.
-ACCOUNT = 999_999_999_990_000
-# The most that an enquiry asks for, in units of time and of anything else.
-MOST = {"CC-Time": 4_294_967_295}
-MOST_UNITS = 10**15
-
-
-@dataclasses.dataclass(frozen=True)
-class Asked:
-    """A price that is asked of both books."""
-
-    group: books.Group
-    period: str
-    moment: int
-    blocks: int
+from office.trials import Tried
 
 
 def add(parser: argparse.ArgumentParser) -> None:
     """Adds the word's arguments."""
     parser.add_argument("book", type=pathlib.Path, metavar="BOOK")
     parser.add_argument("--from", dest="moment", required=True, metavar="MOMENT")
-    parser.add_argument("--blocks", default=BLOCKS, metavar="N,..", help="%(default)s")
+    parser.add_argument("--blocks", default=trials.BLOCKS, metavar="N,..", help="%(default)s")
     parser.add_argument("--shard", default="01", metavar="NN", help="whose copy (%(default)s)")
 
 
 def run(settings: Settings, arguments: argparse.Namespace) -> int:
     """Tries the book on a copy; 1 where it may not follow."""
-    counts = numbers(arguments.blocks)
+    counts = trials.numbers(arguments.blocks)
     shard = shards.named(settings, arguments.shard)
-    with copies.made(settings, [shard]) as made:
-        old, new = made[0], twin(settings, made[0])
-        book = shelves.later(old, arguments.book, arguments.moment)
-        print(book.shown(), file=sys.stderr)
-        fault = shelves.judged(settings, new, book)
-        if fault:
-            raise Refused(fault)
-        with opened(new) as database:
-            account, added = unknown(list(database.rows("SELECT account FROM accounts"))), database
-            asked = list(questions(books.shelf(added)[-1], book.moment, counts))
-        pair = [prices(settings, copy, asked, account) for copy in (old, new)]
-    print("\n".join(table(asked, *pair)))
+    tried = trials.tried(settings, shard, arguments.book, arguments.moment, counts)
+    print(tried.book.shown(), file=sys.stderr)
+    print("\n".join(table(tried)))
     return 0
 
 
-def numbers(text: str) -> list[int]:
-    """The numbers of --blocks."""
-    if not re.fullmatch(r"[1-9]\d{0,8}(,[1-9]\d{0,8})*", text):
-        raise Unread(f"--blocks takes numbers with commas between, not {text!r}")
-    return [int(each) for each in text.split(",")]
-
-
-def twin(settings: Settings, copy: pathlib.Path) -> pathlib.Path:
-    """A second copy beside the first."""
-    made = copy.with_name("new.db")
-    with (
-        contextlib.closing(sqlite3.connect(f"file:{copy}?mode=ro", uri=True)) as source,
-        contextlib.closing(sqlite3.connect(made)) as target,
-    ):
-        source.backup(target)
-    program.give(settings, made)
-    return made
-
-
-def unknown(rows: list[dict[str, str]]) -> str:
-    """The number of an account that isn't there."""
-    there = {row["account"] for row in rows}
-    return next(str(at) for at in range(ACCOUNT, 10**15) if str(at) not in there)
-
-
-def questions(book: Book, since: int, counts: list[int]) -> Iterator[Asked]:
-    """What is asked: each group in each period of the week behind a moment."""
-    found: dict[str, int] = {}
-    for moment in range(since + -since % MINUTE, since + WEEK, MINUTE):
-        found.setdefault(book.period(moment), moment)
-    for group in book.groups.values():
-        most = MOST.get(group.member, MOST_UNITS)
-        for period, moment in found.items():
-            yield from (
-                Asked(group, period, moment, count)
-                for count in counts
-                if count * group.block <= most
-            )
-
-
-def prices(
-    settings: Settings, copy: pathlib.Path, asked: list[Asked], account: str
-) -> list[int | None]:
-    """The prices that a copy's books give; none where one has no such group."""
-    program.done(settings, "open", copy, account, "--at", 0)
-    file = copy.with_name("enquiries.in")
-    file.write_text("".join(line(one, account) + "\n" for one in asked), encoding="utf-8")
-    answers = map(json.loads, program.done(settings, "replay", copy, file).splitlines())
-    return [
-        one["Cost-Information"]["Unit-Value"]["Value-Digits"] if "Cost-Information" in one else None
-        for one in answers
-    ]
-
-
-def line(one: Asked, account: str) -> str:
-    """A price enquiry as a line of `replay`."""
-    units = {one.group.member: one.blocks * one.group.block}
-    service = {"Rating-Group": one.group.number, "Requested-Service-Unit": units}
-    request = {
-        "Session-Id": f"trial-{one.group.number}-{one.moment}-{one.blocks}",
-        "CC-Request-Type": 4,
-        "CC-Request-Number": 0,
-        "Requested-Action": 3,
-        "Subscription-Id": {"Subscription-Id-Type": 0, "Subscription-Id-Data": account},
-        "Multiple-Services-Credit-Control": [service],
-    }
-    return f"{one.moment} {json.dumps(request, separators=(',', ':'))}"
-
-
-def table(asked: list[Asked], old: list[int | None], new: list[int | None]) -> Iterator[str]:
+def table(tried: Tried) -> Iterator[str]:
     """The prices side by side."""
     yield f"{'group':>10} {'period':>16} {'blocks':>9} {'old':>16} {'new':>16} {'change':>8}"
-    for one, was, now in zip(asked, old, new):
+    for one, was, now in zip(tried.asked, tried.old, tried.new):
         change = f"{100 * (now - was) / was:+.1f}%" if was and now is not None else "-"
         told = [str(value) if value is not None else "none" for value in (was, now)]
         yield (
