@@ -14,14 +14,23 @@ from month.stand import Stand, stand
 DESK = "http://127.0.0.1:8081"
 JSON = "-H 'Content-Type: application/json'"
 ACCOUNTS = ("49151", "49152", "49153")
-# The program's word waits, so that the agent is killed in the middle of it.
+# The program stands still at the step that /run/mode says, so that the agent is killed there.
 SLOW = """#!/bin/sh
-if [ "$1" = bar ]; then
-    echo $$ > /run/slow
-    sleep 60
-fi
+step="$(cat /run/mode)-$1"
+case $step in
+    stopped-bar) touch /run/there; sleep 61 ;;
+    starts-serve) sleep 9 ;;
+    done-bar) /usr/local/bin/ocs-kept "$@"; touch /run/there; sleep 61 ;;
+esac
 exec /usr/local/bin/ocs-kept "$@"
 """
+# Each step with how it is seen to be reached, and whether the account is barred afterwards.
+STEPS = {
+    "asks": ("49161", "grep -q bar/49161.*begins /run/lines", False),
+    "stopped": ("49162", "test -e /run/there", False),
+    "done": ("49163", "test -e /run/there", True),
+    "starts": ("49164", "pgrep -x sleep", True),
+}
 
 
 class Desk:
@@ -116,25 +125,38 @@ def test_two_at_once_have_the_shard_one_after_the_other(desk: Desk) -> None:
     assert desk.office.is_up(desk.office.home("49152"))
 
 
-def test_a_kill_in_the_middle_leaves_the_shard_up(desk: Desk) -> None:
-    office, home = desk.office, desk.office.home("49153")
-    office.run("mv /usr/local/bin/ocs /usr/local/bin/ocs-kept; install -m 666 /dev/null /run/slow")
-    office.machine.write("/usr/local/bin/ocs", SLOW)
-    office.run("chmod 755 /usr/local/bin/ocs")
+@pytest.fixture(name="slow")
+def slowed(desk: Desk) -> Iterator[None]:
+    """The program stands still where it is told to."""
+    desk.office.run("mv /usr/local/bin/ocs /usr/local/bin/ocs-kept; echo none > /run/mode")
+    desk.office.machine.write("/usr/local/bin/ocs", SLOW)
+    desk.office.run("chmod 755 /usr/local/bin/ocs; rm -f /run/there")
+    yield
+    desk.office.run("mv /usr/local/bin/ocs-kept /usr/local/bin/ocs")
+
+
+@pytest.mark.parametrize("step", STEPS)
+def test_a_kill_at_a_step_leaves_the_shard_up(desk: Desk, slow: None, step: str) -> None:
+    office, (account, there, is_barred) = desk.office, STEPS[step]
+    office.open(account)
+    home = office.home(account)
+    office.run(f"echo {step} > /run/mode")
+    if step == "asks":
+        office.run(f"systemctl kill -s STOP ocs@{home}")
+        there = f"journalctl -u office-agent -o cat --no-pager > /run/lines; {there}"
     asked = office.machine.started(
         f"curl -sS --max-time 120 -o /dev/null -w '%{{http_code}}' -X POST {JSON} -d '' "
-        f"{DESK}/office/agent/bar/49153"
+        f"{DESK}/office/agent/bar/{account}"
     )
-    wait_until(lambda: office.run("cat /run/slow", None).strip() != "", "the program's word")
-    assert not office.is_up(home)
+    wait_until(lambda: office.machine.run(there, None).returncode == 0, f"the step {step}")
     desk.kill()
+    office.run(f"echo none > /run/mode; systemctl kill -s CONT ocs@{home}", None)
     assert asked.communicate(timeout=120)[0] == "502"
     wait_until(lambda: office.is_up(home), "the start")
-    office.run("mv /usr/local/bin/ocs-kept /usr/local/bin/ocs")
-    assert office.ask("GET", "/accounts/49153")["Barred"] is False
-    status, told = desk.ask("POST", "/bar/49153")
+    assert office.ask("GET", f"/accounts/{account}")["Barred"] is is_barred
+    status, told = desk.ask("POST", f"/bar/{account}")
     assert status == 200, told
-    assert (told["barred"], told["changed"]) == (True, True)
+    assert (told["barred"], told["changed"]) == (True, not is_barred)
     units = "systemctl --no-pager list-units"
     wait_until(lambda: "office-guard" not in office.run(units), "no guard")
 
