@@ -19,6 +19,8 @@ from office.tables import opened
 NONE = log_line.NONE
 # CC-Request-Type of an event (RFC 8506, 8.3), and Result-Code of what is accepted (9).
 EVENT, DONE = "4", "2001"
+# Refunds, checks of a balance and price enquiries: the log doesn't say which.
+EVENTS = "event"
 
 
 @dataclasses.dataclass(frozen=True)
@@ -37,7 +39,7 @@ class Lost:
         if one.what == "POST /ccr":
             if one.type != EVENT:
                 return "session"
-            return "event" if one.granted == NONE else "debit"
+            return EVENTS if one.granted == NONE else "debit"
         if one.what.startswith("PUT "):
             return "account"
         return "redemption" if one.what.startswith("POST /vouchers/") else "credit"
@@ -50,13 +52,16 @@ class Lost:
 
 
 def since(settings: Settings, copy: pathlib.Path, shard: Shard, moment: float) -> Iterator[Lost]:
-    """What a copy lacks of what was accepted from a moment on."""
+    """What a copy lacks of what was answered from a moment on."""
     kept, there = keys(copy)
     for text in log.since(settings, f"@{moment:.0f}", f'"shard":"{shard}"'):
         line = log_line.read(text)
         if isinstance(line, Answered) and line.shard == str(shard) and is_accepted(line):
-            if key(line) not in kept and line.account not in there.get(line.what, ()):
-                yield Lost(line)
+            found, is_kept = Lost(line), key(line) in kept or line.account in there.get(
+                line.what, ()
+            )
+            if found.ended() >= moment and not is_kept:
+                yield found
 
 
 def keys(copy: pathlib.Path) -> tuple[set[tuple[str, str, int]], dict[str, set[str]]]:

@@ -6,14 +6,19 @@ shard goes on with one of the two, whole; `alone` calls `settle` before anything
 right what was left."""
 from __future__ import annotations
 
+import calendar
 import os
 import pathlib
+import re
+import time
 
 from office import copies, program, units
 from office.settings import Settings
 from office.shards import Shard
 
 ENDS = ("-wal", "-shm")
+# An archive's name ends with the moment of its turn.
+FORM, NAME = "%Y%m%dT%H%M%SZ", re.compile(r"\d{8}T\d{6}Z")
 # What an archive is called until the new database is in the old one's place.
 TURNING = ".turning"
 
@@ -82,6 +87,17 @@ def finish(settings: Settings, shard: Shard) -> None:
         made = path.with_name(path.name.removesuffix(TURNING))
         os.replace(path, made)
         print(f"{shard} archive {made}")
+
+
+def carried(settings: Settings, shard: Shard, before: float) -> float:
+    """When a shard was carried last before a moment, in seconds since 1970; 0 where it wasn't. What
+    was answered until then is in its archive."""
+    names = [path.stem for path in pathlib.Path(settings.keeping.archive).glob(f"{shard}-*.db")]
+    told = [name.partition("-")[2] for name in names]
+    moments = [
+        float(calendar.timegm(time.strptime(each, FORM))) for each in told if NAME.fullmatch(each)
+    ]
+    return max((each for each in moments if each <= before), default=0.0)
 
 
 def turning(settings: Settings, shard: Shard) -> list[pathlib.Path]:

@@ -26,7 +26,6 @@ from office.tables import opened
 
 THERE = {"Refusal": "O1"}
 DONE = 2001
-FORM = "%Y%m%dT%H%M%SZ"
 # Findings and hindrances that are told of a database; seconds that a request of the plan takes.
 MOST, EACH = 20, 0.004
 
@@ -48,7 +47,7 @@ def shard(settings: Settings, one: Shard, is_audited: bool, may_wait: bool) -> N
             f"{settings.waits.start} s ([waits] start): --long does it all the same"
         )
     with alone(settings, one):
-        turned(settings, one)
+        turned(settings, one, may_wait)
         places.finish(settings, one)
 
 
@@ -63,9 +62,9 @@ def planned(settings: Settings, one: Shard, database: pathlib.Path, at: int) -> 
     return plan
 
 
-def unrepeated(settings: Settings, one: Shard, copy: pathlib.Path) -> None:
-    """Refuses a copy of which requests may be repeated whose answers didn't arrive."""
-    with opened(copy) as read:
+def unrepeated(settings: Settings, one: Shard, database: pathlib.Path) -> None:
+    """Refuses a database of which requests may be repeated whose answers didn't arrive."""
+    with opened(database) as read:
         those = list(repeats.expected(settings, read))
     if those:
         raise Refused(
@@ -84,8 +83,10 @@ def audited(copy: pathlib.Path) -> None:
         raise Refused(f"the audit has {len(found)} findings (--unaudited carries it):\n  {told}")
 
 
-def turned(settings: Settings, one: Shard) -> None:
-    """Makes the new database of a shard that is stopped, and puts it in the old one's place."""
+def turned(settings: Settings, one: Shard, may_wait: bool) -> None:
+    """Makes the new database of a shard that is stopped, and puts it in the old one's place. A request
+    that the stop cut off may have been accepted, so the log is asked again when the shard stands.
+    """
     new = places.new_of(one)
     places.discard(new)
     try:
@@ -96,6 +97,8 @@ def turned(settings: Settings, one: Shard) -> None:
         differs = plan.differs(found)
         if differs:
             raise Refused(f"the new database of shard {one} has other {differs}")
+        if not may_wait:
+            unrepeated(settings, one, one.database)
         places.ready(settings, one, new)
         archive(settings, one, plan.at)
         places.swap(one, None)
@@ -140,7 +143,7 @@ def archive(settings: Settings, one: Shard, at: int) -> None:
     folder = pathlib.Path(settings.keeping.archive)
     folder.mkdir(mode=0o750, parents=True, exist_ok=True)
     program.give(settings, folder)
-    path = folder / f"{one}-{time.strftime(FORM, time.gmtime(at))}.db{places.TURNING}"
+    path = folder / f"{one}-{time.strftime(places.FORM, time.gmtime(at))}.db{places.TURNING}"
     path.unlink(missing_ok=True)
     copies.make_whole(one.database, path)
     os.chmod(path, 0o440)

@@ -7,7 +7,9 @@
 The copy is served on the spare port, where nobody else asks. Codes of it that were redeemed since for
 accounts of other shards are redeemed there again, or each could be spent twice; its own accounts get
 again what codes of other shards brought them since. It is held against the doors' log: what was
-answered before it was made and isn't in it is told as lacking, and refuses it (--lacking takes it so);
+answered in the day before it was made (since the shard was carried, where that is later) and isn't in
+it is told as lacking, and refuses it (--lacking takes it so), but for events without granted units, of
+which the log doesn't say whether they are refunds, or checks that nothing is kept of;
 what was accepted since is lost, and told: each credit, debit and session by its name, and the sums.
 Then it takes the shard's place. The database that was there stays beside it as NN.db.before-MOMENT.
 
@@ -118,10 +120,13 @@ def compare(
     night: pathlib.Path,
     work: pathlib.Path,
 ) -> None:
-    """Holds the copy against the doors' log: a day before it was made, and since."""
+    """Holds the copy against the doors' log: a day before it was made, where the shard wasn't carried
+    meanwhile, and since."""
     begun = nights.moment(night)
-    found = list(lost.since(settings, work, shard, begun - nights.DAY))
-    lacking = [one for one in found if one.ended() < begun]
+    first = max(begun - nights.DAY, places.carried(settings, shard, begun) + 1)
+    found = list(lost.since(settings, work, shard, first))
+    # A check of a balance is an event too, of which nothing is kept.
+    lacking = [one for one in found if one.ended() < begun and one.kind() != lost.EVENTS]
     since = [one for one in found if one.ended() >= begun]
     for one in since:
         print(one)

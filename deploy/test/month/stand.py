@@ -12,6 +12,7 @@ from month.machine import Machine, machine, wait_until
 
 SOCKET = "/run/haproxy/office.sock"
 BOOK = "examples/book.toml"
+# Its first word is the book of the shards.
 SET_UP = f"""
 set -e
 useradd --system --home-dir /var/lib/ocs ocs
@@ -20,7 +21,7 @@ install -D -m 644 -t /usr/local/share/ocs/console deploy/console/*
 install -d -o ocs -g ocs -m 750 /var/lib/ocs && install -d /etc/ocs /run/haproxy /etc/haproxy
 ln -s /srv/ocs/deploy/bin/office /usr/local/bin/office
 printf '[office]\\nsynchronised = false\\n' > /etc/ocs/office.toml
-for s in 01 02 03 04; do runuser -u ocs -- ocs init /var/lib/ocs/$s.db {BOOK}; done
+for s in 01 02 03 04; do runuser -u ocs -- ocs init /var/lib/ocs/$s.db ${{1:-{BOOK}}}; done
 systemctl daemon-reload
 systemctl start ocs@01 ocs@02 ocs@03 ocs@04
 """
@@ -130,6 +131,11 @@ class Stand:
     def is_up(self, shard: str) -> bool:
         """Whether a shard's unit is active."""
         return self.run(f"systemctl is-active ocs@{shard}", None).strip() == "active"
+
+    def logs(self, text: str, count: int = 1) -> None:
+        """Waits until the doors' log has a text so many times."""
+        line = "journalctl --no-pager --unit haproxy --output cat"
+        wait_until(lambda: self.run(line, None).count(text) >= count, f"{text} in the log")
 
     def table(self, shard: str, query: str) -> list[str]:
         """The rows of a selection over a copy of a shard."""

@@ -5,7 +5,9 @@ import dataclasses
 import json
 import os
 import pathlib
+import signal
 import socket
+import subprocess
 import time
 from collections.abc import Iterator
 
@@ -152,23 +154,82 @@ def test_a_repeat_that_may_come_is_waited_for(office: Stand) -> None:
     one = of_shard(office, "03")[1]
     had = office.available(one)
     body = json.dumps(request(one, "unanswered", 4, 0, 10, 60))
-    process = office.run("systemctl show --property MainPID --value ocs@03").strip()
+    process = process_of(office, "03")
     office.run(f"kill -STOP {process}")
     office.run(
-        "curl -sS --max-time 1 --unix-socket /run/haproxy/office.sock -H 'Content-Type: "
+        "curl -sS --max-time 5 --unix-socket /run/haproxy/office.sock -H 'Content-Type: "
         f"application/json' -d '{body}' http://office/ccr",
         28,
     )
     office.run(f"kill -CONT {process}")
     wait_until(lambda: office.available(one) < had, "the debit")
+    office.logs('"session":"unanswered"')
     told = office.machine.run("office carry 03", 1)
     assert "answers didn't arrive" in told.stderr and f"{one} unanswered 0" in told.stderr
     assert "waited" not in told.stderr
     charged = office.available(one)
     assert office.debit(one, "unanswered")["Result-Code"] == 2001
+    office.logs('"session":"unanswered"', 2)
     assert office.available(one) == charged
     office.run("office carry 03")
     assert office.available(one) == charged
+
+
+@pytest.mark.slow
+def test_a_request_that_was_cut_off_by_the_stop_is_waited_for(office: Stand) -> None:
+    one = of_shard(office, "03")[2]
+    had = office.available(one)
+    word = held_before_the_stop(office, "03")
+    body = json.dumps(request(one, "cut-off", 4, 0, 10, 60))
+    process = process_of(office, "03")
+    office.run(f"kill -STOP {process}")
+    office.run(
+        "curl -sS --max-time 5 --unix-socket /run/haproxy/office.sock -H 'Content-Type: "
+        f"application/json' -d '{body}' http://office/ccr",
+        28,
+    )
+    office.run(f"kill -CONT {process}")
+    wait_until(lambda: office.available(one) < had, "the debit")
+    charged = office.available(one)
+    office.logs('"session":"cut-off"')
+    word.send_signal(signal.SIGCONT)
+    told = word.communicate(timeout=300)[0]
+    assert word.returncode == 1 and f"{one} cut-off 0" in told, told
+    assert "answers didn't arrive" in told and process_of(office, "03") != process
+    assert office.debit(one, "cut-off")["Result-Code"] == 2001
+    office.logs('"session":"cut-off"', 2)
+    assert office.available(one) == charged
+    office.run("office carry 03")
+    assert office.available(one) == charged
+
+
+def held_before_the_stop(office: Stand, shard: str) -> subprocess.Popen[str]:
+    """A carry that stands still behind its checks, before it stops the shard. So does nsenter, which
+    started it, and which hands on the signal that lets it go on."""
+    guards = pathlib.Path(f"/proc/{office.machine.first()}/root/run/systemd/transient")
+    name = f"office-guard-{shard}-*.service"
+    for _ in range(20):
+        wait_until(lambda: not list(guards.glob(name)), "no guard")
+        before, word = process_of(office, shard), office.started(f"office carry {shard}")
+        while not list(guards.glob(name)) and word.poll() is None:
+            time.sleep(0.001)
+        os.kill(child_of(word), signal.SIGSTOP)
+        if process_of(office, shard) == before:
+            return word
+        word.send_signal(signal.SIGCONT)
+        word.communicate(timeout=300)
+    raise AssertionError("the carry was always past the stop")
+
+
+def process_of(office: Stand, shard: str) -> str:
+    """The process that serves a shard; 0 where none does."""
+    return office.run(f"systemctl show --property MainPID --value ocs@{shard}").strip()
+
+
+def child_of(word: subprocess.Popen[str]) -> int:
+    """The one process that nsenter has started."""
+    path = pathlib.Path(f"/proc/{word.pid}/task/{word.pid}/children")
+    return int(path.read_text(encoding="ascii").split()[0])
 
 
 FULL = """
@@ -249,5 +310,5 @@ def test_a_shard_ahead_of_the_clock_is_cured(office: Stand) -> None:
     office.run("office bar " + own[2], 1)
     office.run("office carry 02")
     told = office.ask("GET", f"/accounts/{own[2]}")
-    assert abs(told["Moment"] - now()) < 60 and office.available(own[2]) == had
+    assert abs(told["Moment"] - now()) < 600 and office.available(own[2]) == had
     assert office.debit(own[2], "cured")["Result-Code"] == 2001
