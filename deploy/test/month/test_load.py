@@ -82,6 +82,5 @@ def test_a_load_goes_on_over_a_shard_that_is_stopped(office: Stand) -> None:
     office.machine.write("/tmp/over.csv", lines(900_000))
     word = office.machine.started("office load /tmp/over.csv")
     office.run("systemctl restart ocs@01 ocs@02 ocs@03 ocs@04")
-    assert (
-        word.communicate(timeout=120)[0] == f"opened {COUNT} there 0 credited {COUNT} refused 0\n"
-    )
+    told = word.communicate(timeout=600)[0]
+    assert told == f"opened {COUNT} there 0 credited {COUNT} refused 0\n"

@@ -53,7 +53,7 @@ def test_the_words_write_a_file_an_account(office: Stand) -> None:
     home = office.home("49200")
     text = office.run(f"cat /tmp/out/{home}/49200.txt")
     moment = int(text.split()[5])
-    assert abs(now() - moment) < 60
+    assert abs(now() - moment) < 600
     office.run(f"office backup {home} /tmp/copy.db")
     assert text == office.run(f"ocs statement /tmp/copy.db 49200 {month} --at {moment}")
     again = office.machine.run(f"office statements {month} /tmp/out")
