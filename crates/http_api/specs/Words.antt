@@ -9,3 +9,7 @@ most_requests = 1000
 -- the most bytes that wait to be written together
 abbrev pub most_waiting : ℕ
 most_waiting = 8192
+
+-- the most seconds that a read or a write of a socket takes
+abbrev pub socket_seconds : ℕ
+socket_seconds = 30

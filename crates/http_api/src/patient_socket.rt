@@ -2,9 +2,9 @@
 //! together where more requests have come already.
 
 use crate::joining::{join, write_waiting};
+use crate::patient_stream::PatientStream;
 use std::cell::{Cell, RefCell};
 use std::io::{self, ErrorKind, Read, Write};
-use std::net::TcpStream;
 use std::time::{Duration, Instant};
 
 /// How long the bytes of a request may take from its first ones, in seconds (profile). Of a request
@@ -14,7 +14,7 @@ pub const REQUEST_SECONDS: u64 = 60;
 /// The answers of a socket that aren't written yet, and whether a write of them failed.
 #[derive(Drop)]
 pub(crate) struct JoinedAnswers<'s> {
-    pub(crate) stream: &'s TcpStream,
+    pub(crate) stream: &'s PatientStream<'s>,
     pub(crate) waiting: RefCell<Vec<u8>>,
     pub(crate) failed: Cell<bool>,
 }
@@ -31,8 +31,8 @@ pub(crate) enum Coming {
 }
 
 /// What is read of a socket, with how far a request has come since the last answer. A read fails
-/// once its bytes have taken longer than they may. Most requests come by one read, for which no
-/// clock is asked. The answers that wait are written before a read: the peer may wait for them,
+/// once its bytes have taken longer than they may. Most requests come by one read, whose beginning
+/// isn't noted. The answers that wait are written before a read: the peer may wait for them,
 /// too.
 #[derive(Drop)]
 pub(crate) struct PatientReader<'s, 'b> {

@@ -5,21 +5,19 @@ ghost use Rattle.http_api.specs.Sockets.{ServesSocket};
 use crate::clock::Clock;
 use crate::fault::ServeFault;
 use crate::patient_socket::{Coming, JoinedAnswers, PatientReader, PatientWriter};
+use crate::patient_stream::PatientStream;
 use crate::serving::{Served, serve};
 use keepers::ChargeSource;
 use shelves::TariffShelf;
 use std::cell::{Cell, RefCell};
-use std::io;
 use std::net::TcpStream;
-use std::time::Duration;
-
-/// How long a read or a write of a socket may take, in seconds (profile).
-pub const SOCKET_SECONDS: u64 = 30;
 
 /// Serves the requests of a socket, as `serve`. Answers leave it without delay, and a read or a
 /// write that takes more than 30 seconds is a fault. So is a read 60 seconds after the first bytes
 /// of a request, so that one request that is sent byte by byte keeps the next peer waiting for no
-/// more than 90 seconds, or 120 where its first bytes came together with the request before.
+/// more than 90 seconds, or 120 where its first bytes came together with the request before. And so
+/// is each once all have taken 300 seconds, so that a connection keeps it waiting for no longer,
+/// besides the work of its requests.
 ///
 /// An answer leaves at once where no more bytes have come. Where more requests have come already
 /// (RFC 9112 section 9.3.2) their answers are written together: such an answer waits until the
@@ -38,11 +36,11 @@ pub fn serve_socket<K: ChargeSource, C: Clock>(
 ) -> Result<Served, ServeFault>
     ensures { ServesSocket shelf.now (K.seen keeper.old) (K.seen keeper.new) result }
 {
-    if limit(stream).is_err() {
+    let Ok(patient) = PatientStream::new(rt, stream) else {
         return Err(ServeFault::Read);
-    }
+    };
     let answers = JoinedAnswers {
-        stream,
+        stream: &patient,
         waiting: RefCell::new(Vec::new(rt.alloc())),
         failed: Cell::new(false),
     };
@@ -72,12 +70,4 @@ fn serve_joined<K: ChargeSource, C: Clock>(
         answers,
     };
     serve(rt.alloc(), &mut reader, &mut writer, keeper, shelf, clock)
-}
-
-/// Sets what a socket delays, and how long it waits.
-fn limit(stream: &TcpStream) -> io::Result<()> {
-    let longest = Some(Duration::from_secs(SOCKET_SECONDS));
-    stream.set_nodelay(true)?;
-    stream.set_read_timeout(longest)?;
-    stream.set_write_timeout(longest)
 }
