@@ -1,5 +1,5 @@
 -- Pages of the file.
-use Rattle.std.proofs.Common.{◌≡◌, ◌≢◌, ◌↔◌, ℕ, ◌+◌, ◌-◌, ◌*◌, ◌<◌, List, length, slice_index, Bool, IsTrue, sym, ◌∙◌, ap, arith, add-one, below_more}
+use Rattle.std.proofs.Common.{◌≡◌, ◌≢◌, ◌↔◌, ℕ, ◌+◌, ◌-◌, ◌*◌, ◌<◌, ◌≤◌, List, length, slice_index, Bool, IsTrue, sym, ◌∙◌, ap, arith, add-one, below_more}
 use Rattle.std.specs.Cmp.Lexicographic.{pointwise, bytes_decides}
 use Rattle.std.proofs.Math.Dec.{eqb}
 use Rattle.sqlite_disk.specs.Disk.{Holds}
@@ -7,7 +7,7 @@ use Rattle.sqlite_wal.specs.Format.{part, page_number, content}
 use Rattle.sqlite_wal.specs.Recovery.{frame, frame_at, file_page}
 use Rattle.sqlite_wal.proofs.FileLemmas.{content-frame}
 use Rattle.sqlite_wal.proofs.PartLemmas.{held_is_part, part_within, frames_len-lt, frames_len-suc}
-use Rattle.wal_check.specs.Frames.{IsNewest, IsKept}
+use Rattle.wal_check.specs.Frames.{AreAll, IsNewest, IsKept}
 use Rattle.wal_check.specs.Walks.{AreNumbers}
 
 -- the file ends before the page
@@ -77,6 +77,20 @@ pub place_within : (page_size given i n at most : ℕ) → page_size ≡ given �
 place_within page_size given i n at most same low begins below =
     let ends : frame_at page_size n < most = rw same below in
     omega (arith, frames_len-lt page_size i n low, ends)
+
+-- the end of a frame, where the pages have the same size
+pub end_within : (page_size given i at most : ℕ) → page_size ≡ given → at ≡ frame_at page_size i → frame_at given i + (24 + given) ≤ most
+    → at + (24 + page_size) ≤ most
+end_within page_size given i at most same begins fits =
+    let ends : frame_at page_size i + (24 + page_size) ≤ most = rw same fits in
+    omega (arith, ends)
+
+-- each frame that passes is whole
+pub all_within : (page_size given n : ℕ) (log seen numbers listed : List ℕ) → given ≡ page_size → seen ≡ log → AreAll page_size log n
+    → n ≡ length listed → numbers ≡ listed
+    → (i : ℕ) → i < length numbers → frame_at given i + (24 + given) ≤ length seen
+all_within page_size given n log seen numbers listed size same all count is i low =
+    rw (size, same) (all.each i (omega (arith, ap length is, count, low))).within
 
 -- where the frame behind one begins
 pub place_after : (page_size kept i at : ℕ) → kept ≡ page_size → at ≡ frame_at page_size i → at + (24 + kept) ≡ frame_at kept (i + 1)

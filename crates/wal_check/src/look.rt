@@ -3,6 +3,7 @@
 ghost use Rattle.std.specs.Prelude.{◌≡◌, ◌≢◌, ◌↔◌, ◌+◌, ◌<◌, ◌≤◌, ℕ, length, slice_index, IsTrue, IfOk, MatchOption};
 ghost use Rattle.sqlite_wal.specs.Format.{be32, IsHeader};
 ghost use Rattle.sqlite_wal.specs.Files.{seen_image};
+ghost use Rattle.sqlite_wal.specs.Outcome.{FailsFor, Never};
 ghost use Rattle.sqlite_wal.specs.PageSize.{IsPageSize};
 ghost use Rattle.sqlite_wal.specs.Reads.{IsClean, AreClean, OnlyReads};
 ghost use Rattle.wal_check.specs.Sound.{IsSound, IsWritten, IsWrittenBack, EndsSound};
@@ -26,6 +27,8 @@ pub fn is_sound<D: Disk>(alloc: Global, files: &mut Files<D>) -> Result<bool, Er
     requires log_usable { IsTrue (D.Disk.is_usable files.old.log) }
     requires db_usable { IsTrue (D.Disk.is_usable files.old.db) }
     ensures sound { IfOk result (λ b. AreClean D.Disk files.new.log files.new.db → (IsTrue b ↔ IsSound (seen_image D.Disk files.old.log files.old.db))) }
+    ensures cause { FailsFor result (AreClean D.Disk files.new.log files.new.db)
+        (D.Disk.faults files.old.log + D.Disk.faults files.old.db) (D.Disk.faults files.new.log + D.Disk.faults files.new.db) Never }
     ensures log { OnlyReads D.Disk files.old.log files.new.log }
     ensures db { OnlyReads D.Disk files.old.db files.new.db }
 {
@@ -48,6 +51,7 @@ fn is_written<D: Disk>(alloc: Global, log: &mut D, len: usize) -> Result<bool, E
     requires usable { IsTrue (D.Disk.is_usable log.old) }
     requires len { IsClean D.Disk log.old → len ≡ length (D.Disk.seen log.old) }
     ensures written { IfOk result (λ b. IsClean D.Disk log.new → (IsTrue b ↔ IsWritten (D.Disk.seen log.old))) }
+    ensures cause { FailsFor result (IsClean D.Disk log.new) (D.Disk.faults log.old) (D.Disk.faults log.new) Never }
     ensures same { OnlyReads D.Disk log.old log.new }
 {
     if len < HEADER_LEN {
@@ -73,6 +77,7 @@ fn ends_sound<D: Disk>(alloc: Global, log: &mut D, shape: &Shape) -> Result<bool
     requires shape { IsClean D.Disk log.old → IsShapeOf shape.now (D.Disk.seen log.old) }
     requires size { shape.now.page_size ≤ 65536 }
     ensures ends { IfOk result (λ b. IsClean D.Disk log.new → (IsTrue b ↔ ((n : ℕ) × EndsSound shape.now.page_size (D.Disk.seen log.old) n))) }
+    ensures cause { FailsFor result (IsClean D.Disk log.new) (D.Disk.faults log.old) (D.Disk.faults log.new) Never }
     ensures same { OnlyReads D.Disk log.old log.new }
 {
     let mut buf = vec![in alloc; 0; FRAME_HEADER_LEN + shape.page_size]?;
@@ -90,6 +95,8 @@ fn is_written_back<D: Disk>(alloc: Global, files: &mut Files<D>, len: usize) -> 
     requires db_usable { IsTrue (D.Disk.is_usable files.old.db) }
     requires len { IsClean D.Disk files.old.log → len ≡ length (D.Disk.seen files.old.log) }
     ensures back { IfOk result (λ b. AreClean D.Disk files.new.log files.new.db → (IsTrue b ↔ IsWrittenBack (D.Disk.seen files.old.log) (D.Disk.seen files.old.db))) }
+    ensures cause { FailsFor result (AreClean D.Disk files.new.log files.new.db)
+        (D.Disk.faults files.old.log + D.Disk.faults files.old.db) (D.Disk.faults files.new.log + D.Disk.faults files.new.db) Never }
     ensures log { OnlyReads D.Disk files.old.log files.new.log }
     ensures db { OnlyReads D.Disk files.old.db files.new.db }
 {
@@ -120,6 +127,8 @@ fn have_pages<D: Disk>(alloc: Global, files: &mut Files<D>, shape: &Shape) -> Re
     requires size { (0 < shape.now.page_size) × (shape.now.page_size ≤ 65536) }
     ensures have { IfOk result (λ b. AreClean D.Disk files.new.log files.new.db
         → (IsTrue b ↔ ((n : ℕ) → AreAll shape.now.page_size (D.Disk.seen files.old.log) n → AreInFile shape.now.page_size (D.Disk.seen files.old.log) (D.Disk.seen files.old.db) n))) }
+    ensures cause { FailsFor result (AreClean D.Disk files.new.log files.new.db)
+        (D.Disk.faults files.old.log + D.Disk.faults files.old.db) (D.Disk.faults files.new.log + D.Disk.faults files.new.db) Never }
     ensures log { OnlyReads D.Disk files.old.log files.new.log }
     ensures db { OnlyReads D.Disk files.old.db files.new.db }
 {

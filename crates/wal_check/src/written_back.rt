@@ -1,7 +1,7 @@
 //! Whether the file has what an emptied log had.
 
 ghost use Rattle.std.specs.Prelude.{◌≡◌, ◌↔◌, ◌+◌, ◌^◌, ◌<◌, ◌≤◌, ℕ, ◌≢◌, slice_index, length, IsTrue, IfOk, OnOk};
-ghost use Rattle.sqlite_disk.specs.Disk.{CountsFault};
+ghost use Rattle.sqlite_disk.specs.Disk.{CountsFault, CountsFaultIf};
 ghost use Rattle.sqlite_wal.specs.Format.{part};
 ghost use Rattle.sqlite_wal.specs.Reads.{IsClean, AreClean, OnlyReads};
 ghost use Rattle.sqlite_wal.specs.Recovery.{frame_at, file_page};
@@ -26,6 +26,8 @@ pub(crate) fn are_in_file<D: Disk>(
     requires size { (0 < length page.old) × (length page.old ≤ 65536) × (length copy.old ≡ length page.old) }
     requires fits { frame_at (length page.old) (length numbers.now) < 2 ^ 64 }
     ensures in_file { IfOk result (λ b. AreClean D.Disk files.new.log files.new.db → (IsTrue b ↔ AreInFile (length page.old) (D.Disk.seen files.old.log) (D.Disk.seen files.old.db) (length numbers.now))) }
+    ensures faults { CountsFaultIf (AreClean D.Disk files.new.log files.new.db × ((i : ℕ) → i < length numbers.now → frame_at (length page.old) i + (24 + length page.old) ≤ length (D.Disk.seen files.old.log))) result
+        (D.Disk.faults files.old.log + D.Disk.faults files.old.db) (D.Disk.faults files.new.log + D.Disk.faults files.new.db) }
     ensures log { OnlyReads D.Disk files.old.log files.new.log }
     ensures db { OnlyReads D.Disk files.old.db files.new.db }
 {
@@ -58,6 +60,8 @@ fn is_kept<D: Disk>(
     requires size { (0 < length page.old) × (length page.old ≤ 65536) × (length copy.old ≡ length page.old) }
     ensures kept { IfOk result (λ b. AreClean D.Disk files.new.log files.new.db
         → (IsTrue b ↔ IsKept (length page.old) (D.Disk.seen files.old.log) (D.Disk.seen files.old.db) (length numbers.now) i)) }
+    ensures faults { CountsFaultIf (AreClean D.Disk files.new.log files.new.db × (at + (24 + length page.old) ≤ length (D.Disk.seen files.old.log))) result
+        (D.Disk.faults files.old.log + D.Disk.faults files.old.db) (D.Disk.faults files.new.log + D.Disk.faults files.new.db) }
     ensures log { OnlyReads D.Disk files.old.log files.new.log }
     ensures db { OnlyReads D.Disk files.old.db files.new.db }
 {
@@ -97,6 +101,8 @@ fn is_in_file<D: Disk>(
     requires size { (0 < length page.old) × (length page.old ≤ 65536) × (length copy.old ≡ length page.old) }
     ensures in_file { IfOk result (λ b. AreClean D.Disk files.new.log files.new.db
         → (IsTrue b ↔ file_page (length page.old) (D.Disk.seen files.old.db) number ≡ part (D.Disk.seen files.old.log) (at + 24) (length page.old))) }
+    ensures faults { CountsFaultIf (AreClean D.Disk files.new.log files.new.db × (at + (24 + length page.old) ≤ length (D.Disk.seen files.old.log))) result
+        (D.Disk.faults files.old.log + D.Disk.faults files.old.db) (D.Disk.faults files.new.log + D.Disk.faults files.new.db) }
     ensures log { OnlyReads D.Disk files.old.log files.new.log }
     ensures db { OnlyReads D.Disk files.old.db files.new.db }
 {
@@ -109,6 +115,7 @@ fn read_page<D: Disk>(log: &mut D, at: usize, page: &mut [u8]) -> io::Result<()>
     requires usable { IsTrue (D.Disk.is_usable log.old) }
     requires some { 0 < length page.old }
     ensures read { OnOk result (IsClean D.Disk log.new → part (D.Disk.seen log.old) at (length page.old) ≡ page.new) }
+    ensures faults { CountsFaultIf (IsClean D.Disk log.old → at + length page.old ≤ length (D.Disk.seen log.old)) result (D.Disk.faults log.old) (D.Disk.faults log.new) }
     ensures same { OnlyReads D.Disk log.old log.new }
 {
     log.read_at(at, page)
@@ -126,6 +133,7 @@ fn has_page<D: Disk>(
     requires len { IsClean D.Disk db.old → len ≡ length (D.Disk.seen db.old) }
     requires size { (0 < length page.now) × (length page.now ≤ 65536) × (length copy.old ≡ length page.now) }
     ensures has { IfOk result (λ b. IsClean D.Disk db.new → (IsTrue b ↔ file_page (length page.now) (D.Disk.seen db.old) number ≡ page.now)) }
+    ensures faults { CountsFault result (D.Disk.faults db.old) (D.Disk.faults db.new) }
     ensures same { OnlyReads D.Disk db.old db.new }
 {
     let from = number.saturating_sub(1) as usize * page.len();

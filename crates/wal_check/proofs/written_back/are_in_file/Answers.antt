@@ -1,8 +1,9 @@
 use Rattle.std.proofs.Common.{rules, arith, length}
 use Rattle.std.proofs.lemmas.Bool.{and_from}
+use Rattle.std.proofs.lemmas.Result.{err_from_is_err_and}
 use Rattle.sqlite_wal.proofs.CleanLemmas.{halves}
 use Rattle.sqlite_wal.proofs.PartLemmas.{frames_len-zero}
-use Rattle.wal_check.proofs.Pages.{place_within, place_after, kept_more}
+use Rattle.wal_check.proofs.Pages.{place_within, end_within, place_after, kept_more}
 use Rattle.wal_check.proofs.written_back.are_in_file.Goals as goal
 
 pub loop-i-init : goal.loop-i-init
@@ -12,6 +13,7 @@ loop-i-init g c = (
   search rules,
   search rules,
   omega (arith, frames_len-zero (length c.args.page.now)),
+  omega (arith, c.in_ok-len.ensures.faults),
 )
 
 pub is_kept-requires-clause-at : goal.is_kept-requires-clause-at
@@ -36,4 +38,18 @@ loop-i-preserved g c = (
   search rules,
   search rules,
   place_after _ _ _ _ c.is_kept.auto.page c.loop-i.invariant.4,
+  omega (arith, c.in_ok-is_kept.ensures.faults, c.loop-i.invariant.5),
 )
+
+pub returns-in_err-is_kept-clause-faults : goal.returns-in_err-is_kept-clause-faults
+returns-in_err-is_kept-clause-faults g c =
+    let inv = c.loop-i.invariant in
+    let p = err_from_is_err_and c.from_residual-in_err-is_kept.result c.from_residual-in_err-is_kept.ensures.1 in
+    let counted = c.in_err-is_kept.ensures.faults in
+    rw p.1 (
+      λ known.
+          let whole = known.1 c.loop-i.i c.loop-i-test.true in
+          let within = end_within _ _ _ _ _ c.loop-i.auto.page inv.4 whole in
+          omega (arith, inv.5, counted.0 (known.0, rw inv.1.seen within)),
+      omega (arith, inv.5, counted.1),
+    )

@@ -1,4 +1,4 @@
-use Rattle.std.proofs.Common.{◌≡◌, ◌<◌, ℕ, length}
+use Rattle.std.proofs.Common.{◌≡◌, ◌+◌, ◌<◌, ℕ, length}
 use Rattle.sqlite_wal.specs.Reads.{IsClean, AreClean, OnlyReads}
 use Rattle.sqlite_wal.specs.Recovery.{frame_at}
 use Rattle.wal_check.specs.Frames.{IsKept}
@@ -12,3 +12,4 @@ invariant-loop-i g l =
     × OnlyReads g.D.Disk l.fn.files.db l.files.db
     × (IsClean g.D.Disk l.files.db → l.len ≡ length (g.D.Disk.seen l.fn.files.db))
     × (l.at ≡ frame_at (length l.page) l.i)
+    × (g.D.Disk.faults l.files.log + g.D.Disk.faults l.files.db ≡ g.D.Disk.faults l.fn.files.log + g.D.Disk.faults l.fn.files.db)
