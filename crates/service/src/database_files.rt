@@ -16,8 +16,10 @@ use sqlite_std_file::{FileFrom, OpenError};
 use sqlite_store::FileStore;
 use sqlite_wal::Error as LogError;
 use std::alloc::Global;
+use std::fs::OpenOptions;
 use std::hash::{BuildHasher, RandomState};
-use std::io::ErrorKind;
+use std::io::{self, ErrorKind};
+use std::os::unix::fs::OpenOptionsExt;
 use wal_check::is_sound;
 
 /// The file and the log of a database, which held what `S` says.
@@ -31,6 +33,9 @@ const PAGES: usize = 2000;
 /// After how many pages the log is written back into the file. A longer log makes the mean command
 /// faster; the one that writes it back and a start, which reads it, become slower.
 const CHECKPOINT_FRAMES: usize = 16_000;
+
+/// The rights of a file that is made: its owner reads and writes it, nobody else does.
+const OWNER_ALONE: u32 = 0o600;
 
 const NO_MEMORY: Error = Error::SqliteFailure(ErrorCode::OutOfMemory);
 
@@ -57,6 +62,19 @@ fn files_at<S: Start>(rt: &HostRuntime, path: &str, start: S) -> Result<Files<Fi
     }
 }
 
+/// Makes the file where there is none, for its owner alone. The log gets the rights of its file.
+fn make_private(rt: &HostRuntime, path: &str) -> io::Result<()> {
+    let made = OpenOptions::new()
+        .write(true)
+        .create_new(true)
+        .mode(OWNER_ALONE)
+        .open(rt, path);
+    match made {
+        Err(error) if error.kind() != ErrorKind::AlreadyExists => Err(error),
+        _ => Ok(()),
+    }
+}
+
 /// The same, of a path that may be a database's.
 fn open_pair<S: Start>(rt: &HostRuntime, path: &str, start: S) -> Result<Files<FileFrom<S>>, Error>
     ensures named { IfErr result (λ e. IsTrue (is_open_error e)) }
@@ -64,12 +82,26 @@ fn open_pair<S: Start>(rt: &HostRuntime, path: &str, start: S) -> Result<Files<F
         × IsTrue (file_is_usable S.Start files.db)) }
     ensures fresh { IfOk result (λ files. IsFresh true files.log × IsFresh false files.db) }
 {
+    if let Err(error) = make_private(rt, path) {
+        return Err(fault_of(error));
+    }
     match sqlite_std_file::open(rt, path, start) {
         Ok(files) => Ok(files),
         Err(OpenError::OutOfMemory) => Err(NO_MEMORY),
         Err(OpenError::Busy) => Err(Error::SqliteFailure(ErrorCode::DatabaseBusy)),
-        Err(OpenError::Io(error)) if error.kind() == ErrorKind::OutOfMemory => Err(NO_MEMORY),
-        Err(_) => Err(CANNOT_OPEN),
+        Err(OpenError::Io(error)) => Err(fault_of(error)),
+        Err(OpenError::HotJournal) => Err(CANNOT_OPEN),
+    }
+}
+
+/// The fault of a call of the system.
+fn fault_of(error: io::Error) -> Error
+    ensures { IsTrue (is_open_error result) }
+{
+    if error.kind() == ErrorKind::OutOfMemory {
+        NO_MEMORY
+    } else {
+        CANNOT_OPEN
     }
 }
 
