@@ -22,7 +22,7 @@ import ports
 
 TOP = pathlib.Path(__file__).resolve().parent.parent
 IN_MEMORY = "/dev/shm" if os.access("/dev/shm", os.W_OK) else None
-SECONDS = 60
+SECONDS = 300
 
 Ended = collections.namedtuple("Ended", "status out err")
 

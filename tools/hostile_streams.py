@@ -9,7 +9,7 @@ import threading
 import time
 from dataclasses import dataclass
 
-SECONDS = 60
+SECONDS = 300
 LONGEST_HEAD = 8192
 REFUSED = (5002, 5004, 5005, 5012, 5030)
 # All but 503, which comes if memory is refused, for a store that failed or a clock.
