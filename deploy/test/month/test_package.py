@@ -1,4 +1,4 @@
-"""The Debian package in a fresh Debian: installed, upgraded, purged; data stays."""
+"""The Debian packages in a fresh Debian: installed, upgraded, purged; data stays."""
 from __future__ import annotations
 
 import pathlib
@@ -8,6 +8,7 @@ from collections.abc import Iterator
 import pytest
 
 from month.machine import DEPLOY
+from support import ports
 
 pytestmark = pytest.mark.slow
 DATABASE = "/var/lib/ocs/01.db"
@@ -28,13 +29,12 @@ def run(*words: object, status: int = 0) -> str:
     return told.stdout
 
 
-def built(folder: pathlib.Path, version: str) -> pathlib.Path:
-    """The package of a version, of which lintian says nothing."""
+def built(folder: pathlib.Path, version: str) -> None:
+    """Makes the packages of a version, of which lintian says nothing."""
     told = subprocess.run(
         [DEPLOY / "debian/package", folder, version], capture_output=True, text=True, check=False
     )
     assert (told.returncode, told.stdout) == (0, "lintian: nothing\n"), told.stderr
-    return folder / f"ocs-server_{version}_amd64.deb"
 
 
 class Fresh:
@@ -42,16 +42,24 @@ class Fresh:
 
     def __init__(self, folder: pathlib.Path) -> None:
         self.root = folder / "root"
-        more = "adduser,haproxy,openssl,python3,python3-prometheus-client,sqlite3,systemd"
+        more = "adduser,haproxy,openssl,python3,python3-prometheus-client,sqlite3,systemd,"
+        more += "curl,erlang-base,erlang-diameter,erlang-inets,erlang-jiffy,erlang-ssl"
         run("debootstrap", "--variant=minbase", f"--include={more}", "bookworm", self.root)
         for version in ("0.1.0-1", "0.1.1-1"):
-            made = built(folder / version, version)
-            run("cp", made, self.root / f"{version}.deb")
+            built(folder / version, version)
+            made = folder / version
+            run("cp", made / f"ocs-server_{version}_amd64.deb", self.root / f"{version}.deb")
+            run("cp", made / f"ocs-diameter_{version}_all.deb", self.root / f"bridge-{version}.deb")
         run("cp", "-r", DEPLOY.parent / "examples", self.root / "examples")
 
     def run(self, line: str, status: int = 0) -> str:
         """What a line prints in there."""
-        return run("chroot", self.root, "sh", "-c", line, status=status)
+        return run(*self.words(line), status=status)
+
+    def words(self, line: str) -> list[str]:
+        """Words that run a line in there, with the processes of this machine to be seen."""
+        enter = 'mount -t proc proc "$0/proc" && exec chroot "$0" sh -c "$1"'
+        return ["unshare", "--mount", "sh", "-c", enter, str(self.root), line]
 
 
 @pytest.fixture(scope="module", name="fresh")
@@ -94,3 +102,32 @@ def test_it_is_installed_upgraded_and_purged(fresh: Fresh) -> None:
 def test_it_does_not_take_the_place_of_cscope(fresh: Fresh) -> None:
     listed = fresh.run("dpkg --contents /0.1.1-1.deb")
     assert "./usr/bin/ocs\n" not in listed and "man1/ocs.1" not in listed
+
+
+def test_the_bridge_is_installed_upgraded_and_purged(fresh: Fresh) -> None:
+    fresh.run("dpkg --install /0.1.0-1.deb /bridge-0.1.0-1.deb")
+    own = "/etc/ocs/diameter.config"
+    assert fresh.run(f"ocs-diameter --check {own}") == f"ocs-diameter: {own} is read\n"
+    unit = fresh.run("cat /lib/systemd/system/ocs-diameter.service")
+    assert f"/usr/lib/ocs-diameter/ocs-diameter {own}" in unit
+    assert "/usr/bin/office credited" in fresh.run("cat /lib/systemd/system/ocs-credited.service")
+    fresh.run(f"sed -i 's/ocs.example/ocs1.example/' {own}")
+    fresh.run("dpkg --install --force-confold /0.1.1-1.deb /bridge-0.1.1-1.deb")
+    assert 'origin_host => "ocs1.example"' in fresh.run(f"cat {own}")
+    assert listens(fresh, own)
+    fresh.run("dpkg --purge ocs-diameter ocs-server")
+    names = "-name '*ocs-diameter*' -o -name diameter.config -o -name ocs-credited.service"
+    assert fresh.run(f"find /usr /etc /lib -xdev {names}") == ""
+
+
+def listens(fresh: Fresh, own: str) -> bool:
+    """Whether the bridge that is installed starts on a port and says so; it is told to end then."""
+    port = ports.free(2)
+    fresh.run(f"sed -i 's/port => 3868/port => {port}/; s/9868/{port + 1}/' {own}")
+    words = fresh.words(f"exec ocs-diameter {own}")
+    with subprocess.Popen(words, stdout=subprocess.PIPE, stderr=subprocess.STDOUT) as bridge:
+        assert bridge.stdout
+        told = next((line for line in bridge.stdout if b"listening" in line), b"")
+        bridge.terminate()
+        bridge.stdout.read()
+    return f"127.0.0.1:{port}".encode() in told
