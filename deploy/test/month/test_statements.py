@@ -12,27 +12,29 @@ from office import statements
 from office.tables import opened
 
 
+# Seconds behind the last moment; the later ones are for the slow part.
+LATER = [0, *(pytest.param(after, marks=pytest.mark.slow) for after in (3000, 90_000))]
 SEEDS = [0, *(pytest.param(seed, marks=pytest.mark.slow) for seed in range(1, 8))]
 
 
+@pytest.mark.parametrize("after", LATER)
 @pytest.mark.parametrize("seed", SEEDS)
-def test_each_is_what_the_program_prints(tmp_path: pathlib.Path, seed: int) -> None:
+def test_each_is_what_the_program_prints(tmp_path: pathlib.Path, seed: int, after: int) -> None:
     made = world(tmp_path, seed)
-    compared = 0
-    for moment in (made.moment, made.moment + 3000, made.moment + 90_000):
-        with opened(made.path) as database:
-            texts = dict(statements.statements(database, "202601", moment))
-            exports = dict(statements.exports(database, "202601"))
-            empty = dict(statements.statements(database, "202512", moment))
-        assert sorted(texts) == sorted(exports) == made.accounts
-        for account in made.accounts:
-            words = ("statement", made.path, account)
-            at = ("--at", moment)
-            assert texts[account] == ocs(*words, "202601", *at)
-            assert exports[account] == ocs(*words, "202601", "--csv", *at)
-            assert empty[account] == ocs(*words, "202512", *at)
-            compared += 3
-    assert compared == 72 and sum(text.count("\n") for text in exports.values()) > 30
+    compared, moment = 0, made.moment + after
+    with opened(made.path) as database:
+        texts = dict(statements.statements(database, "202601", moment))
+        exports = dict(statements.exports(database, "202601"))
+        empty = dict(statements.statements(database, "202512", moment))
+    assert sorted(texts) == sorted(exports) == made.accounts
+    for account in made.accounts:
+        words = ("statement", made.path, account)
+        at = ("--at", moment)
+        assert texts[account] == ocs(*words, "202601", *at)
+        assert exports[account] == ocs(*words, "202601", "--csv", *at)
+        assert empty[account] == ocs(*words, "202512", *at)
+        compared += 3
+    assert compared == 24 and sum(text.count("\n") for text in exports.values()) > 30
 
 
 @pytest.fixture(scope="module", name="office")
