@@ -1,7 +1,7 @@
 """What a tariff book would cost beside the prices of now, by two copies of a shard.
 
 The word `trial` and the agent call `tried`. The book is added to one copy by the program's own word,
-which says whether it may follow; then price enquiries ask both. It costs a copy of the shard, and four
+which says whether it may follow; then price enquiries ask both. It costs a second copy, and five
 runs of the program."""
 from __future__ import annotations
 
@@ -13,11 +13,10 @@ import re
 import sqlite3
 from collections.abc import Iterator
 
-from office import books, copies, program, shelves
+from office import books, program, shelves
 from office.books import Book
 from office.faults import Refused, Unread
 from office.settings import Settings
-from office.shards import Shard
 from office.shelves import Later
 from office.tables import opened
 
@@ -52,20 +51,20 @@ class Tried:
 
 
 def tried(
-    settings: Settings, shard: Shard, file: pathlib.Path, typed: str, counts: list[int]
+    settings: Settings, copy: pathlib.Path, file: pathlib.Path, typed: str, counts: list[int]
 ) -> Tried:
-    """A book of a file tried from a moment on, as it was typed; refused where it may not follow."""
-    with copies.made(settings, [shard]) as made:
-        old, new = made[0], twin(settings, made[0])
-        book = shelves.later(old, file, typed)
-        fault = shelves.judged(settings, new, book)
-        if fault:
-            raise Refused(fault)
-        with opened(new) as database:
-            account = unknown(list(database.rows("SELECT account FROM accounts")))
-            last = books.shelf(database)[-1]
-            asked = list(questions(last, book.moment, counts))
-        was, now = (prices(settings, copy, asked, account) for copy in (old, new))
+    """A book of a file tried over a copy, which is written to, from a moment on as it was typed;
+    refused where it may not follow."""
+    new = twin(settings, copy)
+    book = shelves.later(copy, file, typed)
+    fault = shelves.judged(settings, new, book)
+    if fault:
+        raise Refused(fault)
+    with opened(new) as database:
+        account = unknown(list(database.rows("SELECT account FROM accounts")))
+        last = books.shelf(database)[-1]
+        asked = list(questions(last, book.moment, counts))
+    was, now = (prices(settings, each, asked, account) for each in (copy, new))
     return Tried(book, last.currency, asked, was, now)
 
 
@@ -116,6 +115,7 @@ def prices(
     program.done(settings, "open", copy, account, "--at", 0)
     file = copy.with_name("enquiries.in")
     file.write_text("".join(line(one, account) + "\n" for one in asked), encoding="utf-8")
+    program.give(settings, file)
     answers = map(json.loads, program.done(settings, "replay", copy, file).splitlines())
     return [
         one["Cost-Information"]["Unit-Value"]["Value-Digits"] if "Cost-Information" in one else None

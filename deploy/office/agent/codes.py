@@ -70,7 +70,7 @@ def chosen(copies: list[Copy], having: dict[str, set[str]]) -> str:
 
 def by_program(office: Office, shard: str, file: pathlib.Path) -> tuple[Body, list[Body]]:
     """What the program's word says over a copy of the shard: its counts, or its first fault."""
-    with office.kept.twin(shards.named(office.settings, shard)) as twin:
+    with office.kept.twin(shards.named(office.settings, shard)) as (twin, _):
         with program.readable(file) as readable:
             ended = program.run(office.settings, "import", twin, readable)
     told = (ended.stdout + ended.stderr).strip()

@@ -52,16 +52,16 @@ class Kept:
             yield [held.enter_context(self.opened(one)) for one in shards.of(self.settings)]
 
     @contextlib.contextmanager
-    def twin(self, shard: Shard) -> Iterator[pathlib.Path]:
-        """A copy that the program may open, and write to; it goes in the end."""
+    def twin(self, shard: Shard) -> Iterator[tuple[pathlib.Path, float]]:
+        """A copy that the program may open and write to, and its moment; it goes in the end."""
         with scratch(pathlib.Path(self.settings.office.databases), ".twin-") as folder:
             program.give(self.settings, folder)
             made = folder / f"{shard}.db"
             with self.locks[shard.number]:
-                self.fresh(shard)
+                moment = self.fresh(shard)
                 copies.cloned(self.path(shard), made)
             program.give(self.settings, made)
-            yield made
+            yield made, moment
 
     def fresh(self, shard: Shard) -> float:
         """The moment of a shard's copy, which is made anew where it is too old."""

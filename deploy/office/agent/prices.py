@@ -5,7 +5,6 @@ from __future__ import annotations
 
 import pathlib
 import tempfile
-import time
 from collections.abc import Iterator
 
 from office import books, shards, trials
@@ -85,18 +84,17 @@ def trial(office: Office, asked: Asked) -> Body:
     counts = trials.numbers(told.get("blocks", trials.BLOCKS))
     asked.text()
     shard = shards.named(office.settings, told.get("shard", "01"))
-    with tempfile.TemporaryDirectory() as folder:
+    with tempfile.TemporaryDirectory() as folder, office.kept.twin(shard) as (copy, moment):
         file = pathlib.Path(folder) / "book.toml"
         file.write_bytes(asked.body)
-        begun = time.time()
         try:
-            tried = trials.tried(office.settings, shard, file, told["from"], counts)
+            tried = trials.tried(office.settings, copy, file, told["from"], counts)
         except Refused as fault:
             if str(fault).startswith(NO_BOOK):
                 raise Unread(f"the body is no tariff book: {fault} (docs/FORMATS.md)") from fault
             raise
     return {
-        "as_of": round(begun, 3),
+        "as_of": moment,
         "shard": shard.number,
         "from": tried.book.moment,
         "from_shown": tried.book.shown(),

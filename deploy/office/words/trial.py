@@ -16,7 +16,7 @@ import pathlib
 import sys
 from collections.abc import Iterator
 
-from office import shards, trials
+from office import copies, shards, trials
 from office.settings import Settings
 from office.trials import Tried
 
@@ -33,7 +33,8 @@ def run(settings: Settings, arguments: argparse.Namespace) -> int:
     """Tries the book on a copy; 1 where it may not follow."""
     counts = trials.numbers(arguments.blocks)
     shard = shards.named(settings, arguments.shard)
-    tried = trials.tried(settings, shard, arguments.book, arguments.moment, counts)
+    with copies.made(settings, [shard]) as made:
+        tried = trials.tried(settings, made[0], arguments.book, arguments.moment, counts)
     print(tried.book.shown(), file=sys.stderr)
     print("\n".join(table(tried)))
     return 0

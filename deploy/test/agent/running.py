@@ -42,7 +42,8 @@ class Agent:
         self.process: subprocess.Popen[bytes] | None = None
 
     def start(self, file: pathlib.Path | None = None) -> None:
-        """Starts the agent, over the office's file or another one."""
+        """Starts the agent, over the office's file or another one, once the one before is gone."""
+        until(lambda: not self.is_listening(), "the end of the agent before")
         with self.out.open("ab") as out:
             words = [str(OFFICE), "--file", str(file or self.world.file), "agent"]
             self.process = subprocess.Popen(words, stdin=subprocess.DEVNULL, stdout=out, stderr=out)
@@ -56,6 +57,10 @@ class Agent:
     def is_up(self) -> bool:
         """Whether it listens; fails where it has ended."""
         assert self.process and self.process.poll() is None, self.out.read_text()[-2000:]
+        return self.is_listening()
+
+    def is_listening(self) -> bool:
+        """Whether somebody listens at the agent's socket."""
         rows = pathlib.Path("/proc/net/unix").read_text(encoding="utf-8").splitlines()
         return any(row.endswith(f" {self.socket}") and row.split()[3] == "00010000" for row in rows)
 

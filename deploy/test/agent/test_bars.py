@@ -9,7 +9,7 @@ from typing import Any
 import pytest
 
 from month.machine import wait_until
-from month.stand import Stand, stand
+from month.stand import Stand, now, stand
 
 DESK = "http://127.0.0.1:8081"
 JSON = "-H 'Content-Type: application/json'"
@@ -181,6 +181,29 @@ def test_what_its_unit_may(desk: Desk) -> None:
         "curl -sS --max-time 5 --unix-socket /run/ocs-agent/socket http://agent/office/agent/shards"
     )
     desk.office.run(f"runuser -u nobody -- {ask}", 7)
+
+
+def test_each_route_answers_under_its_unit(desk: Desk) -> None:
+    """What the unit may is enough for all of them."""
+    office = desk.office
+    office.run("office clearing --write; office import examples/vouchers.csv")
+    for path in ("/books", "/sums?month=202601", "/account/49151"):
+        assert desk.ask("GET", path)[0] == 200
+    status, told = desk.ask("GET", "/shards")
+    assert [one["unit"] for one in told["shards"]] == ["active"] * 4
+    assert all(one["answers"] and one["waiting"] == 0 for one in told["shards"])
+    asked = f"curl -sS --max-time 120 -w ' %{{http_code}}' {DESK}/office/agent"
+    typed = "-H 'Content-Type: application/toml' --data-binary @examples/later-book.toml"
+    assert office.run(f"{asked}/trial?from={now() + 40 * 86400} {typed}").endswith(" 200")
+    typed = "-H 'Content-Type: text/csv' --data-binary @examples/vouchers.csv"
+    told = json.loads(office.run(f"{asked}/vouchers/check {typed}").rpartition(" ")[0])
+    assert (told["good"], told["present"], told["new"]) == (True, 3, 0)
+    body = '{"Account":"49153","Code":"000000000001","Reference":"v1"}'
+    for _ in range(2):
+        text = office.run(f"{asked}/redeem --json '{body}'")
+        assert '"Result-Code":2001' in text and text.endswith(" 200")
+    assert len(office.ask("GET", "/accounts/49153")["Buckets"]) == 2
+    assert office.run("stat -c '%a %U' /var/lib/ocs/agent.db").split() == ["600", "root"]
 
 
 def test_who_comes_without_the_doors_is_nobody(desk: Desk) -> None:
