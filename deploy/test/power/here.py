@@ -5,6 +5,7 @@ to it, while the kernel and the program go on for a moment; then the program is 
 system, which has no disk, is thrown away with all that it kept in memory."""
 from __future__ import annotations
 
+import dataclasses
 import pathlib
 import signal
 import subprocess
@@ -27,7 +28,7 @@ class Here:
         mounted = place / "mounted"
         mounted.mkdir()
         self.fuse.mkdir()
-        self.layout = Layout(program(), str(mounted), ports.free(), str(place))
+        self.layout = Layout(program(), str(mounted), 0, str(place))
         self.turns = Turns(place)
         for at, book in enumerate(BOOKS):
             (place / f"book{at}.toml").write_text(book)
@@ -43,7 +44,9 @@ class Here:
         return f"127.0.0.1:{self.layout.port}"
 
     def start(self, disk: Disk) -> str:
-        """The disk gets power; the device of the kernel that it is."""
+        """The disk gets power; the device of the kernel that it is. The shard has a port of its own
+        each time."""
+        self.layout = dataclasses.replace(self.layout, port=ports.free())
         source = disk.start().removeprefix("nbd:")
         words = ["nbdfuse", str(self.fuse / "disk"), f"nbd+unix:///?socket={source}"]
         (self.fuse / "disk").touch()
@@ -66,8 +69,7 @@ class Here:
         if process.exists():
             ran("kill", f"-{signal.SIGKILL.value}", process.read_text().strip())
             process.unlink()
-        if ran("mountpoint", "-q", self.layout.place).returncode == 0:
-            until(lambda: ran("umount", self.layout.place).returncode == 0, "the file system", 300)
+        until(self.is_unmounted, "the end of the file system", 300)
         if self.loop:
             done("losetup", "--detach", self.loop)
             self.loop = ""
@@ -76,6 +78,13 @@ class Here:
             self.process.terminate()
             self.process.wait()
             self.process = None
+
+    def is_unmounted(self) -> bool:
+        """Unmounts the file system; whether it isn't mounted any more. The kernel's list is asked:
+        a file system that has lost its disk looks like none."""
+        ran("umount", self.layout.place)
+        mounts = pathlib.Path("/proc/self/mounts").read_text().splitlines()
+        return all(line.split()[1] != self.layout.place for line in mounts)
 
     def sh(self, lines: str, seconds: float = 600) -> str:
         """What lines of bash print; their status has to be 0."""

@@ -11,9 +11,11 @@ import time
 from collections.abc import Iterator
 from typing import Protocol
 
-from support.served import Host, Layout, Served
+from support.filled import Filled
+from support.served import Host, Served
 from support.turns import Turns
 from support.volatile import FATES, Disk
+from support.waiting import until
 
 SIZE = 400 << 20
 # Each third cut comes while a book is added.
@@ -23,7 +25,6 @@ BOOK = 3
 class Powered(Protocol):
     """What has a disk with a shard, and can lose its power."""
 
-    layout: Layout
     turns: Turns
 
     @property
@@ -55,13 +56,27 @@ def rounds(place: pathlib.Path, powered: Powered, kind: str, count: int) -> None
         print(f"{kind}: {count} cuts, {told}", flush=True)
 
 
+def checkpoints(place: pathlib.Path, powered: Powered, kind: str, filled: Filled) -> bool:
+    """A cut while the log is written back; whether that had come to its end."""
+    with standing(place, powered, kind) as drill:
+        drill.fill(filled)
+        drill.begin()
+        before = drill.served.header
+        drill.ask_until_written_back()
+        told = drill.cut(drill.chance.choice(FATES))
+        drill.begin()
+        is_ended = drill.served.header != before
+        print(f"{kind}: {told}, the checkpoint had {'' if is_ended else 'not '}ended", flush=True)
+        return is_ended
+
+
 class Drill:
     """A disk, the shard on it, and what happens to it."""
 
     def __init__(self, place: pathlib.Path, powered: Powered, kind: str) -> None:
         self.powered, self.disk = powered, Disk(place / "disk.img")
-        self.served = Served(place, powered.turns, powered.layout, kind)
-        self.chance, self.unflushed = random.Random(kind), 0
+        self.served = Served(place, powered.turns, kind)
+        self.chance, self.unflushed = random.Random(f"{kind} {place.name}"), 0
 
     def make(self) -> None:
         """The disk has a file system with a new shard."""
@@ -70,6 +85,24 @@ class Drill:
         device = self.powered.start(self.disk)
         self.served.make(self.powered.host, device)
         self.powered.cut(self.disk, "lost", 0)
+
+    def fill(self, filled: Filled) -> None:
+        """The disk has a shard whose log is almost full."""
+        filled.give(self.served)
+        device = self.powered.start(self.disk)
+        names = [f"{self.powered.host.layout.folder}/filled{end}" for end in ("", "-wal")]
+        for name, data in zip(names, filled.files):
+            pathlib.Path(name).write_bytes(data)
+        self.served.put(self.powered.host, device, names)
+        self.powered.cut(self.disk, "lost", 0)
+
+    def ask_until_written_back(self) -> None:
+        """The gateways ask until the log is being written into the database."""
+        database = pathlib.Path(self.powered.host.layout.place) / "01.db"
+        before = database.stat().st_mtime_ns
+        self.served.gateways.start()
+        until(lambda: database.stat().st_mtime_ns != before, "a checkpoint", 600)
+        time.sleep(self.chance.uniform(0, 0.3))
 
     def begin(self) -> None:
         """There is power again: what the disk has is right, and is served."""
@@ -82,7 +115,7 @@ class Drill:
         self.served.gateways.start()
         time.sleep(self.chance.uniform(1, 6))
         if self.chance.random() < 0.5:
-            other = f"{self.powered.layout.place}/other"
+            other = f"{self.powered.host.layout.place}/other"
             line = f"dd if=/dev/zero of={other} bs=64k count=400; rm -f {other}"
             self.powered.host.sh(f"({line}) > /dev/null 2>&1 < /dev/null &")
             time.sleep(self.chance.uniform(0, 2))

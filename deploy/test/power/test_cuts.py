@@ -10,10 +10,12 @@ import pathlib
 
 import pytest
 from power.here import Here
-from power.rounds import rounds, standing
+from power.rounds import checkpoints, rounds, standing
+from support.filled import Filled
 from support.served import MAKE
 
 CUTS, QUICK = int(os.environ.get("OFFICE_CUTS", "20")), 3
+CHECKPOINTS = max(1, CUTS // 2)
 
 
 @pytest.mark.parametrize("count", [QUICK, pytest.param(CUTS, marks=pytest.mark.slow)])
@@ -26,6 +28,22 @@ def test_what_was_answered_outlives_the_power(
         rounds(tmp_path, here, kind, count)
     finally:
         here.end()
+
+
+@pytest.mark.slow
+@pytest.mark.parametrize("kind", MAKE)
+def test_a_checkpoint_that_loses_its_power(tmp_path: pathlib.Path, kind: str) -> None:
+    filled = Filled(tmp_path / "filled")
+    ended = 0
+    for at in range(CHECKPOINTS):
+        place = tmp_path / str(at)
+        place.mkdir()
+        here = Here(place)
+        try:
+            ended += checkpoints(place, here, kind, filled)
+        finally:
+            here.end()
+    print(f"{kind}: {CHECKPOINTS} checkpoints, {ended} had ended", flush=True)
 
 
 def test_a_disk_that_lies_is_found(tmp_path: pathlib.Path) -> None:

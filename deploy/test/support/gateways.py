@@ -5,6 +5,7 @@ command is *acknowledged* once its whole answer with status 200 was read; the by
 wasn't are sent again, until they are."""
 from __future__ import annotations
 
+import copy
 import http.client
 import json
 import random
@@ -171,6 +172,11 @@ class Gateways:
     def answered(self) -> int:
         """How many commands are acknowledged."""
         return sum(len(account.acknowledged) for account in self.accounts)
+
+    def take(self, shares: list[list[Account]]) -> None:
+        """Goes on with accounts that were asked before, of their own each time."""
+        self.shares = copy.deepcopy(shares)
+        self.accounts = [account for mine in self.shares for account in mine]
 
     def open(self) -> None:
         """Opens the accounts, and gives each its first money."""

@@ -32,16 +32,6 @@ done
 STOP = "kill {id}; while kill -0 {id} 2> /dev/null; do sleep 0.2; done"
 
 
-class Host(Protocol):
-    """A machine that has the shard's disk."""
-
-    def sh(self, lines: str, seconds: float = 600) -> str:
-        """What lines of bash print there; their status has to be 0."""
-
-    def file(self, path: str) -> bytes:
-        """The bytes of a file there; empty where there is none."""
-
-
 @dataclasses.dataclass(frozen=True)
 class Layout:
     """Where things are on a machine: the program, the file system, the port, the folder of the books
@@ -53,6 +43,18 @@ class Layout:
     folder: str
 
 
+class Host(Protocol):
+    """A machine that has the shard's disk."""
+
+    layout: Layout
+
+    def sh(self, lines: str, seconds: float = 600) -> str:
+        """What lines of bash print there; their status has to be 0."""
+
+    def file(self, path: str) -> bytes:
+        """The bytes of a file there; empty where there is none."""
+
+
 # Tables that aren't an account's.
 COMMON = ("meta", "books", "vouchers")
 
@@ -60,8 +62,8 @@ COMMON = ("meta", "books", "vouchers")
 class Served:
     """The shard, its gateways, and the shard that nothing happens to."""
 
-    def __init__(self, place: pathlib.Path, turns: Turns, layout: Layout, kind: str) -> None:
-        self.uncut, self.turns, self.layout = Uncut(place, BOOKS[0]), turns, layout
+    def __init__(self, place: pathlib.Path, turns: Turns, kind: str) -> None:
+        self.uncut, self.turns = Uncut(place, BOOKS[0]), turns
         self.gateways = Gateways(self.turns.connect, gateways=6, each=3, seed=kind)
         self.kind = kind
         self.moment, self.header = FIRST, b""
@@ -72,21 +74,28 @@ class Served:
 
     def make(self, host: Host, device: str) -> None:
         """A device gets a file system with a new shard."""
-        place, program = self.layout.place, self.layout.program
+        place, program = host.layout.place, host.layout.program
         host.sh(f"{MAKE[self.kind]} {device} && {MOUNT[self.kind]} {device} {place}")
-        host.sh(f"{program} init {place}/01.db {self.layout.folder}/book0.toml && umount {place}")
+        host.sh(f"{program} init {place}/01.db {host.layout.folder}/book0.toml && umount {place}")
+
+    def put(self, host: Host, device: str, files: list[str]) -> None:
+        """The shard on a device has the database and the log of these paths."""
+        place = host.layout.place
+        host.sh(f"{MOUNT[self.kind]} {device} {place}")
+        host.sh(f"cat {files[0]} > {place}/01.db; cat {files[1]} > {place}/01.db-wal")
+        host.sh(f"umount {place}")
 
     def begin(self, host: Host, device: str, where: str) -> None:
         """The shard is right on a machine's device, and is served there from now on."""
-        host.sh(f"{MOUNT[self.kind]} {device} {self.layout.place}")
+        host.sh(f"{MOUNT[self.kind]} {device} {host.layout.place}")
         self.compare(host)
         if self.book:
-            host.sh(self.adding())
+            host.sh(self.adding(host))
             self.add_to_uncut()
         self.moment += STEP
         self.uncut.end()
         self.uncut.start(self.moment)
-        host.sh(SERVE.format(**dataclasses.asdict(self.layout), moment=self.moment))
+        host.sh(SERVE.format(**dataclasses.asdict(host.layout), moment=self.moment))
         self.turns.start(where)
         if self.gateways.answered:
             self.gateways.settle()
@@ -96,17 +105,17 @@ class Served:
 
     def stop(self, host: Host) -> None:
         """The shard is stopped."""
-        host.sh(STOP.format(id=f"$(< {self.layout.folder}/shard.pid)"))
+        host.sh(STOP.format(id=f"$(< {host.layout.folder}/shard.pid)"))
 
     def add(self, host: Host) -> None:
         """A book is being added."""
-        folder = self.layout.folder
+        folder = host.layout.folder
         told = f"> {folder}/book.log 2>&1 < /dev/null"
-        host.sh(f"{self.adding()} {told} & echo $! > {folder}/shard.pid")
+        host.sh(f"{self.adding(host)} {told} & echo $! > {folder}/shard.pid")
 
     def compare(self, host: Host) -> None:
         """The rows on the disk are those of the shard that nothing happened to."""
-        files = [host.file(f"{self.layout.place}/{name}") for name in ("01.db", "01.db-wal")]
+        files = [host.file(f"{host.layout.place}/{name}") for name in ("01.db", "01.db-wal")]
         self.checkpoints += bool(self.header) and files[1][:32] != self.header
         self.header = files[1][:32]
         found = rows_of(files)
@@ -138,10 +147,10 @@ class Served:
         self.uncut.add(BOOKS[1], self.book)
         self.books, self.book = self.books + 1, 0
 
-    def adding(self) -> str:
+    def adding(self, host: Host) -> str:
         """The line that adds a book, which holds from a moment that is to come."""
         self.book = self.book or self.moment + STEP // 2
-        layout = self.layout
+        layout = host.layout
         words = f"--from {self.book} {layout.place}/01.db {layout.folder}/book1.toml"
         return f"{layout.program} book {words}"
 

@@ -43,12 +43,13 @@ class Turns:
         inside: Sequence[str] = (),
         connect: Connect = here,
     ) -> None:
-        self.file, self.address, self.port = place / "turns.cfg", address, ports.free()
+        self.file, self.address, self.port = place / "turns.cfg", address, 0
         self.inside, self.make = inside, connect
         self.process: subprocess.Popen[bytes] | None = None
 
     def start(self, shard: str) -> None:
-        """Hands requests to the shard at this address and port."""
+        """Hands requests to the shard at this address and port, from a port of its own each time."""
+        self.port = ports.free()
         self.file.write_text(TEXT.format(here=f"{self.address}:{self.port}", shard=shard))
         words = [*self.inside, "haproxy", "-db", "-f", str(self.file)]
         self.process = subprocess.Popen(words, stderr=subprocess.DEVNULL)

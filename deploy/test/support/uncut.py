@@ -22,19 +22,25 @@ class Uncut:
 
     def __init__(self, place: pathlib.Path, book: str) -> None:
         self.place, self.database = place, place / "uncut.db"
-        self.port = ports.free()
+        self.port = 0
         self.followed: dict[str, int] = {}
         self.process: subprocess.Popen[bytes] | None = None
-        self.door = Door(lambda: http.client.HTTPConnection("127.0.0.1", self.port, timeout=120))
+        self.door = Door(self.connect)
         (place / "uncut.toml").write_text(book)
         done(program(), "init", self.database, place / "uncut.toml")
 
     def start(self, moment: int) -> None:
-        """Serves, at a moment."""
+        """Serves, at a moment; at a port of its own each time, since a test may last for hours, and
+        others are given ports too."""
+        self.port = ports.free()
         words = [program(), "serve", str(self.database), "--port", str(self.port)]
         words += ["--connections", "1000000", "--at", str(moment)]
         self.process = subprocess.Popen(words, stdout=subprocess.DEVNULL)
         until(lambda: ports.listens(self.port), "the shard that nothing happens to")
+
+    def connect(self) -> http.client.HTTPConnection:
+        """A connection to it."""
+        return http.client.HTTPConnection("127.0.0.1", self.port, timeout=120)
 
     def end(self) -> None:
         """Stops it."""
@@ -75,10 +81,20 @@ class Uncut:
         return text
 
     def rows(self) -> Rows:
-        """Its rows; nobody asks it meanwhile, so that its files may be copied."""
-        names = ("uncut.db", "uncut.db-wal")
-        files = [self.place / name for name in names]
-        return rows_of([file.read_bytes() if file.exists() else b"" for file in files])
+        """Its rows."""
+        return rows_of(self.files())
+
+    def files(self) -> list[bytes]:
+        """Its database and its log; nobody asks it meanwhile."""
+        paths = [self.database, self.database.with_name("uncut.db-wal")]
+        return [path.read_bytes() if path.exists() else b"" for path in paths]
+
+    def become(self, files: list[bytes], accounts: list[Account]) -> None:
+        """It isn't served, and has these files from now on, in which each account's commands are
+        carried out."""
+        self.database.write_bytes(files[0])
+        self.database.with_name("uncut.db-wal").write_bytes(files[1])
+        self.followed = {one.number: len(one.acknowledged) for one in accounts}
 
 
 def rows_of(files: list[bytes]) -> Rows:
