@@ -54,7 +54,7 @@ class Office:
 
     built: str
     base: pathlib.Path
-    due: set
+    due: list
     bodies: list
     books: list
     vouchers: list
@@ -172,14 +172,14 @@ def prepare(built, base):
     (base / "vouchers").write_text("code,amount,days,scope\n" + codes)
     made = ("init", "db", "book.toml"), ("import", "db", "vouchers", "--at", BEGUN)
     later = ("book", "db", "later.toml", "--from", MOMENTS[1])
-    due = set()
+    due = []
     for words in (*made, later, *opening(), *allowances()):
         need((ended := run(built, base, *words)).status == 0, words, ended)
-        due.add(run(built, base, *STATEMENT).out)
+        due.append(run(built, base, *STATEMENT).out)
     asked = lines_of(tests / "streams/all-05.in")[:60]
     lines = [b"%d %s\n" % (BEGUN + 20 * at, body) for at, body in enumerate(asked)]
     for line in lines:
         replayed(built, base, line)
-        due.add(run(built, base, *STATEMENT).out)
+        due.append(run(built, base, *STATEMENT).out)
     (base / "lines").write_bytes(b"".join(lines))
     return Office(built, base, due, [each for each in bodies if each], books, vouchers)
