@@ -14,7 +14,7 @@ const REFUSALS = {
   O6: "it would be over before it begins", O7: "the tariff book has no such group",
 };
 const CODES = {
-  4010: "the account is barred", 4012: "there isn't enough", 5004: "a value doesn't fit",
+  4010: "the account is barred", 4012: "there isn't enough", 5002: "no such session is open", 5004: "a value doesn't fit",
   5005: "a value is missing", 5012: "it wasn't done", 5030: "there is no such account",
   5031: "the tariff book has no such group",
 };
@@ -26,7 +26,7 @@ const STATUSES = {
 
 // Who asks, the account that is shown, its month, and the command that was sent last.
 let me = {Name: "", Role: "", Changes: false, Seconds: 70};
-let asked = 0, account = "", balance = null, month = "", charges = [], toDate = {}, last = null;
+let asked = 0, account = "", balance = null, month = "", charges = [], toDate = {}, last = null, sums = null;
 let hasLost = false, hasCovered = false, isBusy = false, hasAgent = false;
 
 /** A fault that is told as it is. */
@@ -106,10 +106,10 @@ function listed(place, rows, make, step, name, wrap = button => button) {
 // Asking.
 
 /** The answer of a route: its status, its text, and the id by which the log has it. */
-async function ask(method, path, body, seconds = me.Seconds + 5) {
+async function ask(method, path, body, seconds = me.Seconds + 5, type = "application/json") {
   const words = {method, cache: "no-store", signal: AbortSignal.timeout(seconds * 1000)};
   if (body !== undefined) {
-    words.headers = {"Content-Type": "application/json"};
+    words.headers = {"Content-Type": type};
     words.body = body;
   }
   try {
@@ -388,6 +388,7 @@ const COMMANDS = {
   allow: {title: words => `Allowance of ${words.blocks} of group ${words.group}`,
     done: (words, told) => `Gave ${words.blocks} of group ${words.group} as allowance ${told.Bucket}`},
   redeem: {title: words => `Voucher ${words.code}`, done: (words, told) => `Redeemed the voucher as bucket ${told.Bucket}`},
+  end: {title: words => `End of session ${words.session}`, done: words => `Ended session ${words.session}`},
   open: {title: () => "Opening", done: words => `Opened ${words.account}`},
   bar: {title: () => "Bar", done: (words, told) => `Barred${waited(told)}`},
   unbar: {title: () => "Unbar", done: (words, told) => `Unbarred${waited(told)}`},
@@ -455,7 +456,7 @@ async function send(command) {
 
 function busy(is) {
   isBusy = is;
-  for (const button of document.querySelectorAll("#do button.main, #open button, #again, #unanswered button")) button.setAttribute("aria-disabled", is);
+  for (const button of document.querySelectorAll("#do button.main, #open button, #again, #unanswered button, #agent-parts td > button")) button.setAttribute("aria-disabled", is);
 }
 
 /** Counts what is finished, for whoever drives the page. */
@@ -590,37 +591,11 @@ function step(event) {
 
 // What the office's agent tells, where the door has one.
 
-const named = key => key.replaceAll(/[_-]/g, " ").replace(/^./, letter => letter.toUpperCase());
-const isMoment = key => /^(moment|at|from|until|as_of|touched|since|opened|granted|validity_end)$/i.test(key);
-const isMoney = key => /^(rated|collected|uncollected|amount|reserved|charged|credited|available|expired|price)$/i.test(key);
-
-/** A value as a text: moments and money by the names that they have. */
-function valueOf(key, value) {
-  if (value === null || value === undefined) return "";
-  if (typeof value === "boolean") return value ? "yes" : "no";
-  if (typeof value === "bigint" || Number.isInteger(value)) {
-    return isMoment(key) && value > 1e6 ? time(value) : isMoney(key) ? money(value) : key === "account" ? String(value) : count(value);
-  }
-  return typeof value === "object" ? JSON.stringify(value) : String(value);
-}
-
-/** A table of rows that are alike, in the order of their members. */
-function tableOf(rows, name) {
-  if (!rows.length) return made("p", "", `No ${name}.`);
-  const keys = [...new Set(rows.flatMap(row => Object.keys(row)))], body = made("tbody", "");
-  const isText = key => rows.some(row => typeof row[key] === "string" && row[key].length > 24);
-  const head = made("tr", "", ...keys.map(key => Object.assign(made("th", "", named(key)), {scope: "col"})));
-  const row = one => made("tr", "", ...keys.map(key => made("td", isText(key) ? "words" : "", valueOf(key, one[key]))));
-  const wrap = button => made("tr", "", Object.assign(made("td", "", button), {colSpan: keys.length}));
-  listed(body, rows, row, 100, name, wrap);
-  return made("div", "scroll", made("table", "", made("thead", "", head), body));
-}
-
 /** A table of columns, each a title, a text of a row, and a kind of its cells. */
 function columnsOf(rows, name, columns) {
   if (!rows.length) return made("p", "", `No ${name}.`);
   const body = made("tbody", "");
-  const head = made("tr", "", ...columns.map(([title]) => Object.assign(made("th", "", title), {scope: "col"})));
+  const head = made("tr", "", ...columns.map(([title]) => title ? Object.assign(made("th", "", title), {scope: "col"}) : made("td", "")));
   const row = one => made("tr", "", ...columns.map(([, text, kind]) => made("td", kind || "", text(one))));
   const wrap = button => made("tr", "", Object.assign(made("td", "", button), {colSpan: columns.length}));
   listed(body, rows, row, 100, name, wrap);
@@ -630,10 +605,23 @@ function columnsOf(rows, name, columns) {
 }
 
 const heldOf = one => one.is_blocks ? `allowance ${one.bucket}: ${blocks(one.amount)}` : `bucket ${one.bucket}: ${money(one.amount)}`;
+
+/** A button that ends a session by a termination without use: what it holds is free again. */
+function endButton(session) {
+  if (!me.Changes || !session.isFirst) return "";
+  const button = made("button", "", "End"), number = session.last_number + 1;
+  button.type = "button";
+  button.setAttribute("aria-label", `End session ${session.session}`);
+  const request = {"Session-Id": session.session, "CC-Request-Type": 3, "CC-Request-Number": number,
+    "Subscription-Id": {"Subscription-Id-Type": 0, "Subscription-Id-Data": account}, "Multiple-Services-Credit-Control": []};
+  button.addEventListener("click", () => send({kind: "end", account, words: {session: session.session}, method: "POST", path: "/ccr", body: JSON.stringify(request)}));
+  return button;
+}
+
 const SESSIONS = [
   ["Session", one => one.session, "words"], ["Touched", one => time(one.touched)], ["Ends", one => time(one.ends)],
   ["Group", one => one.group ? String(one.group.rating_group) : ""], ["Used", one => one.group ? count(one.group.used) : ""],
-  ["Held", one => one.group ? one.group.held.map(heldOf).join(", ") : ""],
+  ["Held", one => one.group ? one.group.held.map(heldOf).join(", ") : ""], ["", endButton],
 ];
 const LINES = [
   ["Time", one => time(one.moment)], ["Who", one => one.who], ["Asked", one => one.asked, "words"],
@@ -658,10 +646,12 @@ async function showAgent(mine) {
 }
 
 function showBehind(told) {
-  const sessions = told.sessions.flatMap(one => one.groups.length ? one.groups.map(group => ({...one, group})) : [one]);
+  const sessions = told.sessions.flatMap(one => one.groups.length
+    ? one.groups.map((group, place) => ({...one, group, isFirst: place === 0})) : [{...one, isFirst: true}]);
   const more = told.lines_before ? `, ${count(told.lines_before)} older ones left out` : "";
   at("agent-parts").append(
     made("h3", "", "Open sessions"), columnsOf(sessions, "open sessions", SESSIONS),
+    ...(me.Changes && sessions.length ? [made("p", "quiet", "An ended session holds nothing more. What its gateway reports of it afterwards isn't charged.")] : []),
     made("h3", "", `The doors' log since ${time(told.lines_since)}${more}`), columnsOf(told.lines.toReversed(), "lines", LINES));
   told.charges.forEach((one, place) => {
     const row = charges[place];
@@ -739,6 +729,7 @@ function clear() {
 function mark(id) {
   for (const one of at("views").children) one.removeAttribute("aria-current");
   at(id).setAttribute("aria-current", "page");
+  at("to-account").href = "#" + account;
 }
 
 /** Shows what the agent tells of all accounts, of the shards and of the books. */
@@ -749,19 +740,85 @@ async function showOffice(wanted) {
   say("Asking the office ..");
   try { await learn(); } catch (fault) { say(fault.message, true); return counted("shown"); }
   const shownMonth = wanted || new Date().toISOString().slice(0, 7), faults = [];
-  for (const [id, path] of [["sums", `sums?month=${shownMonth.replace("-", "")}`], ["shards", "shards"], ["books", "books"]]) {
+  for (const [id, path, shown] of [["sums", `sums?month=${shownMonth.replace("-", "")}`, showSums], ["shards", "shards", showShards], ["books", "books", showBooks]]) {
     let told = null;
     try { told = await read(`${AGENT}/${path}`); } catch (fault) { faults.push(`${id}: ${fault.message}`); }
     if (mine !== asked) return;
     at(id).hidden = told === null;
-    if (told) at(id + "-parts").replaceChildren(...(id === "books" ? shelvesOf(told) : partsOf(told)));
+    at("office").hidden = false;
+    if (told) shown(told, shownMonth);
   }
-  pickMonths(at("sums-month"), monthsOf(monthAfter(shownMonth, -24), new Date().toISOString().slice(0, 7), shownMonth), shownMonth);
+  at("codes").hidden = at("books").hidden;
   at("office-none").hidden = !faults.length;
   at("office-none").textContent = `What is not here: ${faults.join("; ")}`;
-  at("office").hidden = false;
   say("");
   counted("shown");
+}
+
+// The office's sums.
+
+const summed = (rows, keys) => [...Map.groupBy(rows, row => JSON.stringify(keys.map(key => row[key]))).values()].map(mine => {
+  const sums = ["charges", "blocks", "covered", "rated", "collected", "uncollected"].map(part => [part, total(mine, part)]);
+  return {...Object.fromEntries(keys.map(key => [key, mine[0][key]])), ...Object.fromEntries(sums)};
+});
+const SUMS = [
+  ["Charges", one => count(one.charges)], ["Blocks", one => count(one.blocks)], ["Covered", one => count(one.covered)],
+  ["Rated", one => money(one.rated)], ["Collected", one => money(one.collected)], ["Uncollected", one => money(one.uncollected)],
+];
+const BUCKET_SUMS = PARTS.map(part => [part, one => one.kind === "money" ? money(one[part.toLowerCase()]) : blocks(one[part.toLowerCase()])]);
+
+/** Draws what each day of the month has over all accounts, or over those of a group or a shard. */
+function drawSums() {
+  if (!sums) return;
+  const [key, value] = at("sums-series").value.split(" "), rows = sums.charges.filter(row => !key || String(row[key]) === value);
+  const byDay = Map.groupBy(rows, row => row.day), wide = Math.max(260, at("sums-chart").clientWidth || 720);
+  const days = daysOf(sums.month, byDay.keys()).map(day => {
+    const mine = byDay.get(day) || [];
+    return {day, main: total(mine, "collected"), lost: total(mine, "uncollected")};
+  });
+  at("sums-chart").replaceChildren(chartOf(days, money, 10000n, wide));
+}
+
+function showSums(told, shownMonth) {
+  sums = {...told, month: shownMonth};
+  const groups = summed(told.charges, ["rating_group"]), shards = summed(told.charges, ["shard"]), kept = at("sums-series").value;
+  const series = [["", "all"], ...groups.map(one => [`rating_group ${one.rating_group}`, `group ${one.rating_group}`]), ...shards.map(one => [`shard ${one.shard}`, `shard ${one.shard}`])];
+  at("sums-series").replaceChildren(...series.map(([value, name]) => Object.assign(made("option", "", name), {value})));
+  at("sums-series").value = series.some(([value]) => value === kept) ? kept : "";
+  const now = new Date().toISOString().slice(0, 7), lost = total(told.charges, "uncollected");
+  pickMonths(at("sums-month"), monthsOf(monthAfter(now, -23), now, shownMonth), shownMonth);
+  drawSums();
+  showFigures(at("sums-figures"), [["Collected", money(total(told.charges, "collected"))], ["Uncollected", money(lost), lost > 0n],
+    ["Charges", count(total(told.charges, "charges"))], ["As of", time(told.as_of)], ["Currency", String(told.currency)], ["Zone", told.zone]]);
+  const kinds = [...Map.groupBy(told.buckets, row => row.kind)].map(([kind, rows]) =>
+    ({kind, ...Object.fromEntries(["buckets", "credited", ...PARTS.map(part => part.toLowerCase())].map(part => [part, total(rows, part)]))}));
+  at("sums-parts").replaceChildren(
+    made("h3", "", "By day"), columnsOf(summed(told.charges, ["day"]).sort((one, other) => one.day < other.day ? 1 : -1), "charges", [["Day", one => one.day], ...SUMS]),
+    made("h3", "", "By group"), columnsOf(groups, "charges by group", [["Group", one => String(one.rating_group)], ...SUMS]),
+    made("h3", "", "By shard"), columnsOf(shards, "charges by shard", [["Shard", one => one.shard], ...SUMS]),
+    made("h3", "", "Buckets that began in this month"), columnsOf(kinds, "buckets", [["Kind", one => one.kind], ["Buckets", one => count(one.buckets)],
+      ["Credited", one => one.kind === "money" ? money(one.credited) : blocks(one.credited)], ...BUCKET_SUMS]));
+}
+
+// The shards and their books.
+
+const known = (value, written) => value === null || value === undefined ? "-" : written(value);
+const size = bytes => bytes < 1e6 ? `${(bytes / 1e3).toFixed(0)} kB` : bytes < 1e9 ? `${(bytes / 1e6).toFixed(1)} MB` : `${(bytes / 1e9).toFixed(1)} GB`;
+const SHARDS = [
+  ["Shard", one => one.shard], ["Unit", one => known(one.unit, String)],
+  ["Answers", one => one.answers ? `in ${known(one.seconds, value => value.toFixed(3))} s` : "no"],
+  ["Waiting", one => known(one.waiting, count)], ["Ahead", one => known(one.ahead, value => `${Math.round(value)} s`)],
+  ["Database", one => known(one.bytes, size)], ["Log", one => known(one.log_bytes, size)], ["Room", one => known(one.room_bytes, size)],
+  ["Copied", one => known(one.copied, time)], ["Read", one => known(one.read, time)], ["Swept", one => known(one.swept, time)],
+];
+
+function showShards(told) {
+  at("shards-moment").textContent = `as of ${time(told.as_of)}`;
+  at("shards-parts").replaceChildren(columnsOf(told.shards, "shards", SHARDS));
+  if (!told.machines) return;
+  const lines = [...told.machines.lacking.map(one => `This machine lacks ${one}`), ...Object.entries(told.machines.votes).map(([name, value]) => `Votes, ${name}: ${value}`),
+    ...Object.entries(told.machines.mirrored).map(([shard, is]) => `Shard ${shard}: ${is === true ? "in step" : is === false ? "not in step" : is}`)];
+  at("shards-parts").append(made("h3", "", "Two machines"), made("ul", "", ...lines.map(line => made("li", "", line))));
 }
 
 const tierOf = one => one.upto === null ? money(one.price) : `${money(one.price)} up to ${count(one.upto)}`;
@@ -771,21 +828,62 @@ const PRICES = [
 ];
 
 /** The books that hold and those that come, with their prices; one shelf where all shards have the same. */
-function shelvesOf(told) {
-  return told.shelves.flatMap(shelf => shelf.books.flatMap(book => {
+function showBooks(told) {
+  at("books-moment").textContent = `as of ${time(told.as_of)}`;
+  at("books-parts").replaceChildren(...told.shelves.flatMap(shelf => shelf.books.flatMap(book => {
     const since = book.starts_shown ? ` from ${book.starts_shown}` : "", where = told.shelves.length > 1 ? ` (shards ${shelf.shards.join(", ")} alone)` : "";
     const rows = book.groups.flatMap(group => group.prices.map(price => ({...group, ...price})));
     return [made("h3", "", `${book.holds ? "Holds" : "Comes"}${since}${where}`),
       made("p", "quiet", `Currency ${book.currency}, zone ${book.zone}`), columnsOf(rows, "groups", PRICES)];
-  }));
+  })));
 }
 
-/** The parts of an answer: each list as a table, other members as figures. */
-function partsOf(told) {
-  const figures = made("dl", "figures"), lists = Object.entries(told).filter(([, value]) => Array.isArray(value));
-  const others = Object.entries(told).filter(([, value]) => !Array.isArray(value) && typeof value !== "object");
-  showFigures(figures, others.map(([key, value]) => [named(key), valueOf(key, value)]));
-  return [figures, ...lists.flatMap(([key, rows]) => [made("h3", "", named(key)), tableOf(rows, key)])];
+const TRIALS = [
+  ["Group", one => String(one.rating_group)], ["Period", one => one.period], ["Moment", one => time(one.moment)],
+  ["Blocks", one => count(one.blocks)], ["Now", one => known(one.old, money)], ["Then", one => known(one.new, money)],
+];
+
+/** Sends a form's file, and shows what is told of it, or why nothing is. */
+async function sendFile(form, path, type, shown) {
+  const [file] = form.elements.file.files, id = form.id;
+  const tell = (line, isFault) => {
+    at(id + "-done").textContent = isFault ? "" : line;
+    at(id + "-refused").textContent = isFault ? line : "";
+  };
+  at(id + "-parts").replaceChildren();
+  try {
+    if (!file) throw new Told("Choose a file.");
+    if (file.size > 65536) throw new Told("A file has at most 65,536 bytes here.");
+    tell("Asking the office ..", false);
+    const answer = await ask("POST", path(), await file.text(), 300, type);
+    if (answer.status !== 200) throw new Told(why(answer));
+    const {line, isFault = false, table} = shown(object(answer.text));
+    tell(line, isFault);
+    at(id + "-parts").append(table);
+  } catch (fault) {
+    tell(fault instanceof Told ? fault.message : `This page failed: ${fault.message}`, true);
+  }
+  counted("done");
+}
+
+function sendTrial(form) {
+  const path = () => {
+    if (!form.elements.from.value) throw new Told("From which moment on?");
+    return `${AGENT}/trial?from=${form.elements.from.value}`;
+  };
+  return sendFile(form, path, "application/toml", told =>
+    ({line: `The book may follow from ${told.from_shown} on; the prices are in currency ${told.currency}.`, table: columnsOf(told.prices, "prices", TRIALS)}));
+}
+
+const FAULTS = [["Code", one => one.code || "the whole file"], ["What stands against it", one => one.fault, "words"]];
+
+function sendCheck(form) {
+  return sendFile(form, () => `${AGENT}/vouchers/check`, "text/csv", told => {
+    const more = told.faults_left_out ? `, ${count(told.faults_left_out)} more left out` : "";
+    const line = told.good ? `${count(told.codes)} codes: ${count(told.new)} new, ${count(told.present)} there already. Shard ${told.shard} would get them.`
+      : `This file may not be imported: ${count(told.faults.length)} faults${more}.`;
+    return {line, isFault: !told.good, table: told.good ? "" : columnsOf(told.faults, "faults", FAULTS)};
+  });
 }
 
 // From the page's address to what is shown: ACCOUNT, ACCOUNT/YYYYMM, office, office/YYYYMM.
@@ -793,11 +891,20 @@ function partsOf(told) {
 function follow() {
   let text = location.hash.slice(1);
   try { text = decodeURIComponent(text); } catch { /* it is shown as it is */ }
-  if (!text) return learn().catch(fault => say(fault.message, true)).finally(() => counted("shown"));
+  if (!text) return begun();
   const [first, second = ""] = text.split("/"), shown = /^[0-9]{6}$/.test(second) ? `${second.slice(0, 4)}-${second.slice(4)}` : "";
   if (first === "office") return showOffice(shown);
   at("account").value = first;
   return show(first, shown);
+}
+
+/** The page before anything was asked for. */
+function begun() {
+  asked++;
+  for (const id of ["sheet", "none", "office"]) at(id).hidden = true;
+  mark("to-account");
+  say("");
+  return learn().catch(fault => say(fault.message, true)).finally(() => counted("shown"));
 }
 
 /** Goes to an address, also to the one that is shown. */
@@ -817,7 +924,7 @@ function turned(place, prefix, by) {
 /** What a form sends once its button is pressed. */
 const FORMS = {
   ask: () => go("#" + encodeURIComponent(at("account").value.trim()) + keptMonth()),
-  credit: sendCredit, allow: sendAllowance, redeem: sendVoucher, price: askPrice, bar: sendBar,
+  credit: sendCredit, allow: sendAllowance, redeem: sendVoucher, price: askPrice, bar: sendBar, trial: sendTrial, check: sendCheck,
   open: () => send({kind: "open", account: at("none-account").textContent, words: {account: at("none-account").textContent},
     method: "PUT", path: `/accounts/${at("none-account").textContent}`, body: ""}),
 };
@@ -841,7 +948,8 @@ function begin() {
   at("sums-before").addEventListener("click", () => turned("sums-month", "office", -1));
   at("sums-after").addEventListener("click", () => turned("sums-month", "office", 1));
   at("series").addEventListener("change", drawMonth);
-  addEventListener("resize", drawMonth);
+  at("sums-series").addEventListener("change", drawSums);
+  addEventListener("resize", () => { drawMonth(); drawSums(); });
   addEventListener("hashchange", follow);
   keep(unanswered());
   follow();

@@ -7,6 +7,7 @@ from collections.abc import Iterator
 import pytest
 from support.world import World
 
+from console.behind import Agent
 from console.office import made
 from console.person import Person
 
@@ -48,3 +49,13 @@ def shop(world: World, tmp_path_factory: pytest.TempPathFactory) -> Iterator[Per
 def reader(world: World, tmp_path_factory: pytest.TempPathFactory) -> Iterator[Person]:
     """A revenue officer, who only reads, by name and password."""
     yield from person(world, tmp_path_factory.mktemp("reader"), "operators", "rosa")
+
+
+@pytest.fixture(scope="module")
+def agent(world: World) -> Iterator[Agent]:
+    """The agent is up."""
+    one = Agent(world)
+    one.start()
+    yield one
+    one.kill()
+    one.socket.unlink(missing_ok=True)

@@ -3,6 +3,7 @@ program's own word: the agent itself stops units of systemd for it (test/agent).
 from __future__ import annotations
 
 import http.server
+import itertools
 import json
 import os
 import socketserver
@@ -11,13 +12,14 @@ from collections.abc import Iterator
 from typing import Any
 
 import pytest
-from support.callers import opened
+from support.callers import debit, opened
 from support.waiting import until
 from support.world import World, done, program
 
+from console.behind import behind, rows_of
 from console.office import ACCOUNT, MOMENT, balance, home, script
 from console.person import Person
-from console.test_behind import behind, rows_of
+
 
 HELD = [
     {"bucket": 5, "amount": 3, "is_blocks": True},
@@ -27,6 +29,7 @@ GROUPS = [
     {"rating_group": 10, "used": 1234, "reserved": True, "held": HELD},
     {"rating_group": 30, "used": 0, "reserved": False, "held": []},
 ]
+NUMBERS = itertools.count(55501)
 NAME = "<img src=x onerror=document.title='got_in'>"
 SESSIONS = [
     {"session": NAME, "last_number": 4, "touched": MOMENT, "ends": MOMENT + 3600, "groups": GROUPS}
@@ -38,9 +41,10 @@ class Agent(http.server.BaseHTTPRequestHandler):
 
     world: World
     dies = False
+    sessions = SESSIONS
 
     def do_GET(self) -> None:
-        told = {"sessions": SESSIONS, "charges": [], "lines": [], "lines_before": 0}
+        told = {"sessions": Agent.sessions, "charges": [], "lines": [], "lines_before": 0}
         self.answer(told | {"as_of": MOMENT, "lines_since": MOMENT - 86400})
 
     def do_POST(self) -> None:
@@ -92,7 +96,7 @@ def agent(world: World) -> Iterator[None]:
 @pytest.fixture
 def account(world: World) -> str:
     """A new account."""
-    return opened(script(world), "55501", 1_000_000)
+    return opened(script(world), str(next(NUMBERS)), 1_000_000)
 
 
 @pytest.mark.parametrize("way", ["keys", "pointer"])
@@ -139,8 +143,59 @@ def test_open_sessions_and_what_they_hold(operator: Person) -> None:
     behind(operator, ACCOUNT)
     times = ["2026-01-29 14:03:00", "2026-01-29 15:03:00"]
     assert rows_of(operator, "[data-part='open sessions']") == [
-        [NAME, *times, "10", "1,234", "allowance 5: 3 blocks, bucket 2: 1.00"],
-        [NAME, *times, "30", "0", ""],
+        [NAME, *times, "10", "1,234", "allowance 5: 3 blocks, bucket 2: 1.00", "End"],
+        [NAME, *times, "30", "0", "", ""],
     ]
     assert operator.value("document.querySelectorAll('main img').length") == 0
     assert operator.value("document.title") == "Office"
+
+
+@pytest.fixture
+def session(world: World, operator: Person, account: str) -> Iterator[str]:
+    """A session of the account is open, and the page shows it."""
+    name = f"voice-{account}"
+    initial = debit(account, name) | {"CC-Request-Type": 1}
+    del initial["Requested-Action"]
+    assert script(world).ask("POST", "/ccr", initial).body["Result-Code"] == 2001
+    assert balance(world, account)["Buckets"][0]["Reserved"] > 0
+    one = {"session": name, "last_number": 0, "touched": MOMENT, "ends": MOMENT + 9}
+    Agent.sessions = [one | {"groups": GROUPS}]
+    behind(operator, account)
+    yield name
+    operator.way, Agent.sessions = "pointer", SESSIONS
+
+
+def ended(person: Person) -> str:
+    """Presses the button that ends the session, and reads what the page says of it."""
+    before = person.counted("done")
+    person.push("[data-part='open sessions'] button")
+    person.is_counted("done", before)
+    return person.outcome()
+
+
+@pytest.mark.parametrize("way", ["keys", "pointer"])
+def test_a_session_is_ended(
+    world: World, operator: Person, account: str, session: str, way: str
+) -> None:
+    operator.way = way
+    assert ended(operator).startswith(f"Ended session {session}")
+    assert balance(world, account)["Buckets"][0]["Reserved"] == 0
+    assert operator.again().startswith(f"Ended session {session}")
+
+
+def test_a_session_of_a_shard_that_is_away_is_ended_once(
+    world: World, operator: Person, account: str, session: str
+) -> None:
+    world.kill(home(world, account))
+    assert ended(operator).startswith("No answer.")
+    world.start(home(world, account))
+    for _ in range(2):
+        assert operator.again().startswith(f"Ended session {session}")
+    assert balance(world, account)["Buckets"][0]["Reserved"] == 0
+    assert not operator.is_seen("#waiting")
+
+
+def test_who_only_reads_ends_no_session(reader: Person) -> None:
+    behind(reader, ACCOUNT)
+    assert rows_of(reader, "[data-part='open sessions']")
+    assert not reader.is_seen("[data-part='open sessions'] button")

@@ -3,85 +3,21 @@ of another shard; and what the page says where no agent is."""
 from __future__ import annotations
 
 import itertools
-import os
-import pathlib
 import re
-import signal
-import subprocess
 import time
-from collections.abc import Iterator
-from typing import Any
 
 import pytest
 from support.callers import Caller, opened
 from support.waiting import until
-from support.world import OFFICE, World
+from support.world import World
 
+from console.behind import Agent, behind, rows_of, told
 from console.office import ACCOUNT, FAR, MONTH, balance, home, script
 from console.person import Person
 from console.test_shown import money, utc
 
 SECONDS = "%Y-%m-%d %H:%M:%S"
 NUMBERS = itertools.count(40000)
-ROWS = """[...document.querySelectorAll(PLACE + ' tbody tr')].map(row =>
-    [...row.children].map(one => one.textContent.trim()))"""
-
-
-class Agent:
-    """The process of the office's agent."""
-
-    def __init__(self, world: World) -> None:
-        self.world, self.socket = world, world.place / "agent.sock"
-        self.process: subprocess.Popen[bytes] | None = None
-
-    def start(self) -> None:
-        """Starts it."""
-        with (self.world.place / "agent.log").open("ab") as out:
-            words = [str(OFFICE), "--file", str(self.world.file), "agent"]
-            self.process = subprocess.Popen(
-                words, stdin=subprocess.DEVNULL, stdout=out, stderr=out, env=dict(os.environ)
-            )
-        until(self.is_up, "the agent")
-
-    def is_up(self) -> bool:
-        """Whether it listens."""
-        assert self.process and self.process.poll() is None
-        rows = pathlib.Path("/proc/net/unix").read_text(encoding="utf-8").splitlines()
-        return any(row.endswith(f" {self.socket}") and row.split()[3] == "00010000" for row in rows)
-
-    def kill(self) -> None:
-        """Kills it."""
-        assert self.process
-        self.process.send_signal(signal.SIGKILL)
-        self.process.wait()
-
-
-@pytest.fixture(scope="module")
-def agent(world: World) -> Iterator[Agent]:
-    """The agent is up."""
-    one = Agent(world)
-    one.start()
-    yield one
-    one.kill()
-    one.socket.unlink(missing_ok=True)
-
-
-def told(world: World, target: str) -> Any:
-    """What the agent answers."""
-    answer = Caller(world, world.doors["desk"]).ask("GET", f"/office/agent/{target}")
-    assert answer.status == 200, answer.text
-    return answer.body
-
-
-def behind(person: Person, what: str) -> None:
-    """The page of an account, once it has asked the agent."""
-    person.show(what)
-    person.is_counted("behind", 0)
-
-
-def rows_of(person: Person, place: str) -> Any:
-    """The rows of a table."""
-    return person.value(ROWS.replace("PLACE", repr(place)))
 
 
 def test_an_office_without_an_agent_says_so(operator: Person) -> None:

@@ -7,7 +7,8 @@ from typing import Any
 
 import pytest
 
-from console.office import ACCOUNT, BARRED, NOBODY
+from console.behind import Agent, behind
+from console.office import ACCOUNT, BARRED, MONTH, NOBODY
 from console.person import Person
 
 WIDTHS, SCHEMES = (320, 400, 1200, 1600), ("light", "dark")
@@ -82,6 +83,20 @@ def test_it_fits_and_can_be_read(operator: Person, place: str) -> None:
         operator.look(1200)
 
 
+@pytest.mark.parametrize("what", [ACCOUNT, f"office/{MONTH}"])
+def test_what_the_agent_tells_fits(operator: Person, agent: Agent, what: str) -> None:
+    if what == ACCOUNT:
+        behind(operator, what)
+    else:
+        operator.show(what)
+        assert operator.is_seen("#codes")
+    for width, scheme in itertools.product(WIDTHS, SCHEMES):
+        seen = looked_at(operator, width, scheme)
+        assert (width, scheme, seen["low"], seen["wide"]) == (width, scheme, [], [])
+        assert seen["scroll"] <= width and (seen["unnamed"], seen["small"]) == ([], [])
+    operator.look(1200)
+
+
 @pytest.mark.parametrize("width", [320, 1200])
 def test_the_shops_page_fits(shop: Person, width: int) -> None:
     shop.show(ACCOUNT)
@@ -93,26 +108,26 @@ def test_the_shops_page_fits(shop: Person, width: int) -> None:
 
 def test_keys_come_to_everything(operator: Person) -> None:
     """The key Tab comes to each field, list and button that can be seen, and to the chosen tab."""
-    operator.show(ACCOUNT)
-    can = """[...document.querySelectorAll('a[href], button, input, select, summary')].filter(
-        one => one.offsetParent && one.tabIndex >= 0).length"""
-    wanted, mark = operator.value(can), "document.activeElement.dataset.been = 1"
+    behind(operator, ACCOUNT)
+    left = """[...document.querySelectorAll('a[href], button, input, select, summary')].filter(
+        one => one.offsetParent && one.tabIndex >= 0 && !one.dataset.been).map(one => one.outerHTML)"""
+    wanted = len(operator.value(left))
     operator.value("document.activeElement.blur()")
     for _ in range(wanted + 20):
         operator.press("Tab")
-        operator.value(mark)
-    assert operator.value("document.querySelectorAll('main [data-been]').length") == wanted
+        operator.value("document.activeElement.dataset.been = 1")
+    assert wanted > 30 and operator.value(left) == []
 
 
-def test_tabs_go_round_by_arrows(operator: Person) -> None:
-    operator.show(ACCOUNT)
+def test_tabs_go_round_by_arrows(operator: Person, agent: Agent) -> None:
+    behind(operator, ACCOUNT)
     operator.value("document.getElementById('tab-credit').focus()")
     seen = []
     for key in ("ArrowRight", "ArrowLeft", "ArrowLeft", "Home", "End"):
         operator.press(key)
         seen.append(operator.value("document.activeElement.id"))
-    assert seen == ["tab-allow", "tab-credit", "tab-price", "tab-credit", "tab-price"]
-    assert operator.is_seen("#price") and not operator.is_seen("#credit")
+    assert seen == ["tab-allow", "tab-credit", "tab-bar", "tab-credit", "tab-bar"]
+    assert operator.is_seen("#bar") and not operator.is_seen("#credit")
     names = "[...document.querySelectorAll('[role=tab]')].map(one => [one.getAttribute('aria-selected'), one.tabIndex])"
     assert [one for one in operator.value(names) if one[0] == "true"] == [["true", 0]]
 

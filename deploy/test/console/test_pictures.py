@@ -9,7 +9,8 @@ import pathlib
 import pytest
 from support.world import World
 
-from console.office import ACCOUNT, home
+from console.behind import Agent
+from console.office import ACCOUNT, MONTH, home
 from console.person import Person
 
 pytestmark = pytest.mark.slow
@@ -39,6 +40,13 @@ def test_an_account(
     operator.picture(pictures / f"{name}.png", most=1900)
     operator.look(1200)
     assert 10_000 < (pictures / f"{name}.png").stat().st_size < MOST
+
+
+def test_all_accounts(operator: Person, agent: Agent, pictures: pathlib.Path) -> None:
+    operator.look(1000)
+    operator.show(f"office/{MONTH}")
+    operator.picture(pictures / "office.png", most=2600)
+    operator.look(1200)
 
 
 def test_a_shop(shop: Person, pictures: pathlib.Path) -> None:

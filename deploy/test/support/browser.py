@@ -161,6 +161,12 @@ class Browser:
         self.do("Input.dispatchMouseEvent", type="mousePressed", **held)
         self.do("Input.dispatchMouseEvent", type="mouseReleased", **held)
 
+    def file(self, selector: str, path: pathlib.Path) -> None:
+        """Chooses a file in a field of files."""
+        root = self.do("DOM.getDocument")["root"]["nodeId"]
+        node = self.do("DOM.querySelector", nodeId=root, selector=selector)["nodeId"]
+        self.do("DOM.setFileInputFiles", nodeId=node, files=[str(path)])
+
     def picture(self, path: pathlib.Path, selector: str = "main", most: float = 1e9) -> None:
         """Leaves a picture of a part of the page, the window's width and at most so high."""
         place = f"document.querySelector({json.dumps(selector)}).getBoundingClientRect()"
