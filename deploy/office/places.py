@@ -92,12 +92,17 @@ def finish(settings: Settings, shard: Shard) -> None:
 def carried(settings: Settings, shard: Shard, before: float) -> float:
     """When a shard was carried last before a moment, in seconds since 1970; 0 where it wasn't. What
     was answered until then is in its archive."""
-    names = [path.stem for path in pathlib.Path(settings.keeping.archive).glob(f"{shard}-*.db")]
-    told = [name.partition("-")[2] for name in names]
-    moments = [
-        float(calendar.timegm(time.strptime(each, FORM))) for each in told if NAME.fullmatch(each)
-    ]
-    return max((each for each in moments if each <= before), default=0.0)
+    return max(archives(settings, shard, before), default=0.0)
+
+
+def archives(settings: Settings, shard: Shard, before: float) -> dict[float, pathlib.Path]:
+    """A shard's archives of before a moment, each by the moment of its turn."""
+    found = {}
+    for path in sorted(pathlib.Path(settings.keeping.archive).glob(f"{shard}-*.db")):
+        name = path.stem.partition("-")[2]
+        if NAME.fullmatch(name):
+            found[float(calendar.timegm(time.strptime(name, FORM)))] = path
+    return {moment: path for moment, path in found.items() if moment <= before}
 
 
 def turning(settings: Settings, shard: Shard) -> list[pathlib.Path]:

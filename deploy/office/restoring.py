@@ -55,29 +55,48 @@ def owed(database: Database, code: str, row: Row) -> Body:
 
 
 def of_others(copies: Iterable[pathlib.Path], shard: Shard) -> list[Used]:
-    """What the other shards' copies, which are named by their shards, know of such codes."""
-    found = []
+    """What the other shards' copies and archives, which are named by their shards, know of such codes,
+    each once."""
+    found: dict[tuple[str, str, bool], Used] = {}
     for copy in copies:
-        if copy.stem != str(shard):
+        if copy.stem.partition("-")[0] != str(shard):
             with opened(copy) as database:
-                found += list(of_database(database))
-    return found
+                for one in of_database(database):
+                    found.setdefault((one.code, one.account, one.body is None), one)
+    return list(found.values())
 
 
 def again(
-    settings: Settings, spare: Spare, shard: Shard, copy: pathlib.Path, used: list[Used]
+    settings: Settings,
+    spare: Spare,
+    shard: Shard,
+    copy: pathlib.Path,
+    used: list[Used],
+    archives: Iterable[pathlib.Path],
 ) -> Iterator[str]:
-    """Does again over the copy what codes did since; a line for each that had to be."""
+    """Does again over the copy what codes did since; a line for each that had to be. The archives are
+    the shard's own of before the copy: what they have as credited isn't missing, nor what an account
+    was credited elsewhere before it moved."""
     homes = shards.Homes(settings)
     with opened(copy) as database:
         spent = vouchers.there(database, {one.code for one in used if one.body is None})
-        have = {(row["account"], row["name"]) for row in database.rows(KEPT)}
+        have = names(database) | {
+            (one.account, f"voucher-{one.code}") for one in used if one.body is None
+        }
+    for path in archives:
+        with opened(path) as database:
+            have |= names(database)
     for one in used:
         if one.body is None and one.code in spent and not spent[one.code]:
             yield cleared(spare, clearing_of(settings, homes, shard), one)
         elif one.body and homes.home(one.account) == shard:
             if (one.account, f"voucher-{one.code}") not in have:
                 yield credited(spare, one, one.body)
+
+
+def names(database: Database) -> set[tuple[str, str]]:
+    """The accounts of a database with the references of their vouchers."""
+    return {(row["account"], row["name"]) for row in database.rows(KEPT)}
 
 
 def cleared(spare: Spare, clearing: str, one: Used) -> str:

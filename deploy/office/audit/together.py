@@ -8,13 +8,13 @@ import collections
 import json
 import pathlib
 import time
-from collections.abc import Iterator
+from collections.abc import Iterator, Sequence
 
 from office import books
 from office.audit.findings import Finding
 from office.restoring import CLEARED, CREDITED
 from office.shards import Homes
-from office.tables import Database
+from office.tables import Database, opened
 
 Named = dict[str, Database]
 
@@ -22,8 +22,15 @@ Named = dict[str, Database]
 class Living:
     """Which rows of accounts count: those in the shard where the account lives."""
 
-    def __init__(self, homes: Homes, clearing: set[str], databases: Named) -> None:
+    def __init__(
+        self,
+        homes: Homes,
+        clearing: set[str],
+        databases: Named,
+        archives: Sequence[pathlib.Path] = (),
+    ) -> None:
         self.homes, self.clearing, self.databases = homes, clearing, databases
+        self.archives = archives
         self.known: dict[str, str] = {}
 
     def is_at(self, account: str, shard: str) -> bool:
@@ -72,23 +79,37 @@ def codes(living: Living) -> Iterator[Finding]:
 
 
 def redemptions(living: Living) -> Iterator[Finding]:
-    """Codes that one shard redeemed for an account of another, beside that account's credit."""
-    cleared, credited, own = dict[str, str](), dict[str, str](), dict[str, str]()
-    for shard, database in living.databases.items():
+    """Codes that one shard redeemed for an account of another, beside that account's credit. A shard
+    that was carried may have either in an archive alone, and an account that moved in its old shard.
+    """
+    cleared, credited = (collections.defaultdict[str, set[str]](set) for _ in range(2))
+    own = dict[str, str]()
+    for database in every(living):
         for row in database.rows("SELECT account, name, content FROM answers WHERE kind = 2"):
-            if not living.is_at(row["account"], shard):
-                continue
             if told := CLEARED.fullmatch(row["name"]):
-                cleared[told[1]] = told[2]
+                cleared[told[1]].add(told[2])
             elif told := CREDITED.fullmatch(row["name"]):
-                credited[told[1]] = row["account"]
+                credited[told[1]].add(row["account"])
             elif '"Voucher-Code":' in row["content"]:
                 own[json.loads(row["content"])["Voucher-Code"]] = row["account"]
     for code in sorted(cleared.keys() | credited.keys()):
-        if cleared.get(code) != credited.get(code):
+        if cleared[code] != credited[code]:
             by = f", redeemed by {own[code]}" if code in own else ""
-            what = f"cleared for {cleared.get(code)}, credited to {credited.get(code)}{by}"
+            what = f"cleared for {named(cleared[code])}, credited to {named(credited[code])}{by}"
             yield Finding("all", "vouchers", code, what)
+
+
+def every(living: Living) -> Iterator[Database]:
+    """The databases of all shards, and their archives, one after another."""
+    yield from living.databases.values()
+    for path in living.archives:
+        with opened(path) as database:
+            yield database
+
+
+def named(accounts: set[str]) -> str:
+    """Accounts as a finding says them."""
+    return " ".join(sorted(accounts)) or "None"
 
 
 def shelves(databases: Named) -> Iterator[Finding]:

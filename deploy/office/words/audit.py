@@ -23,7 +23,7 @@ import pathlib
 import sys
 from collections.abc import Iterator
 
-from office import copies, shards
+from office import copies, shards, vouchers
 from office.audit import page, reckoned, strays, sums, together
 from office.audit.findings import Finding
 from office.audit.together import Living, Named
@@ -46,7 +46,8 @@ def add(parser: argparse.ArgumentParser) -> None:
 def run(settings: Settings, arguments: argparse.Namespace) -> int:
     """Prints what is found, and writes the sums."""
     with databases(settings, arguments.files) as read:
-        living = Living(shards.Homes(settings), clearing(settings), read)
+        archives = list(vouchers.archives(settings))
+        living = Living(shards.Homes(settings), clearing(settings), read, archives)
         count = 0
         for count, one in enumerate(found(living, arguments.before), 1):
             print(one, flush=True)

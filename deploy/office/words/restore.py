@@ -35,6 +35,7 @@ from office import (
     restoring,
     shards,
     spare,
+    vouchers,
 )
 from office.faults import Refused, Unread
 from office.settings import Settings
@@ -105,10 +106,11 @@ def tried(
     print("\n".join(sums(work)))
     others = [each for each in shards.of(settings) if each != shard and each.database.exists()]
     with copies.made(settings, others) as made:
-        used = restoring.of_others(made, shard)
+        used = restoring.of_others([*made, *vouchers.archives(settings)], shard)
+    own = places.archives(settings, shard, nights.moment(night))
     with spare.served(settings, work) as served:
         served.ask("GET", "/accounts/0")
-        for line in restoring.again(settings, served, shard, source, used):
+        for line in restoring.again(settings, served, shard, source, used, own.values()):
             print(line)
     compare(settings, arguments, shard, night, work)
 

@@ -227,3 +227,19 @@ def test_a_voucher_that_was_spent_twice_is_found(office: Stand) -> None:
     assert told.returncode == (0 if office.home("49201") == "02" else 1)
     if told.returncode:
         assert "000000000002: cleared for None, credited to 49201" in told.stdout
+
+
+def test_what_a_carried_shard_has_in_its_archive_counts(office: Stand) -> None:
+    office.run(
+        "mkdir -p /tmp/carried; for s in 01 02 03 04; do office backup $s /tmp/carried/$s.db; done"
+    )
+    archive = "/var/lib/ocs/archive/02-20260101T000000Z.db"
+    office.run(f"install -d /var/lib/ocs/archive; cp /tmp/carried/02.db {archive}")
+    gone = "DELETE FROM answers WHERE name LIKE 'voucher-%'"
+    office.run(f'sqlite3 /tmp/carried/02.db "{gone}"')
+    audit = "office audit /tmp/carried/0?.db"
+    assert "credited to" not in office.machine.run(audit, None).stdout
+    office.run(f"rm {archive}")
+    crossed = [f"{at:012}" for at in range(1, 4) if office.home(str(49_199 + at)) != "02"]
+    told = office.machine.run(audit, 1).stdout
+    assert crossed and all(f"vouchers {code}: cleared for None" in told for code in crossed)

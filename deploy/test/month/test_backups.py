@@ -141,6 +141,21 @@ def test_a_copy_that_lacks_what_was_answered_before_it_is_refused(office: Stand)
 
 
 @pytest.mark.slow
+def test_what_was_spent_before_a_carry_isnt_credited_again(office: Stand) -> None:
+    own = at_home(office, "02", 900_000, 1)[0]
+    office.machine.write("/tmp/small.csv", "code,amount,days,scope\n000000000901,70,1,\n")
+    office.run(f"office import --shard 03 /tmp/small.csv; office redeem 000000000901 {own}")
+    office.debit(own, "spends it")
+    office.run("office carry 02 --unaudited")
+    had = office.available(own)
+    time.sleep(1)
+    office.run("office backups")
+    told = office.run("office restore 02")
+    assert "02 starts from" in told and "000000000901" not in told
+    assert office.available(own) == had
+
+
+@pytest.mark.slow
 def test_a_restore_that_is_killed_leaves_a_shard(office: Stand) -> None:
     account = at_home(office, "01", 800_000, 1)[0]
     office.run("office backups")
