@@ -1,6 +1,6 @@
 %% A line of JSON for each answer on standard output, with the members of the office's other doors,
 %% so that one reader reads both. Under systemd they go to the journal. What OTP logs goes to
-%% standard error (sys.config). A request costs a message to this process.
+%% standard error (sys.config). The caller makes the text; a request costs a message to this process.
 -module(ocs_diameter_log).
 -behaviour(gen_server).
 
@@ -20,7 +20,7 @@ line(Facts) ->
     Moment = os:system_time(millisecond) - maps:get(took, Facts, 0),
     case process_info(whereis(?MODULE), message_queue_len) of
         {message_queue_len, Waiting} when Waiting < ?MOST_WAITING ->
-            gen_server:cast(?MODULE, {line, Moment, Facts});
+            gen_server:cast(?MODULE, {line, iolist_to_binary([written(Moment, Facts), $\n])});
         _ ->
             ocs_diameter_metrics:count(lines_dropped)
     end.
@@ -33,9 +33,9 @@ init([]) ->
 handle_call(_, _, Port) ->
     {reply, nok, Port}.
 
--spec handle_cast({line, integer(), map()}, port()) -> {noreply, port()}.
-handle_cast({line, Moment, Facts}, Port) ->
-    port_command(Port, [written(Moment, Facts), $\n]),
+-spec handle_cast({line, binary()}, port()) -> {noreply, port()}.
+handle_cast({line, Line}, Port) ->
+    port_command(Port, Line),
     {noreply, Port}.
 
 -spec handle_info(term(), port()) -> {noreply, port()} | {stop, term(), port()}.

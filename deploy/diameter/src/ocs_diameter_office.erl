@@ -1,16 +1,18 @@
 %% The office over HTTP/1.1: kept connections and time limits. Called by ocs_diameter_peer for each
 %% question.
 %%
-%% A request has its connection to itself, by OTP's own reader of HTTP heads ({packet, http_bin}).
-%% OTP's httpc isn't used, since it hands a request to a connection on which another one is under
-%% way, so that an account whose shard is away would hold up others. A connection is closed when its
-%% request's time is over: what waits in HAProxy then isn't done later (option abortonclose).
+%% A request has its connection to itself. OTP's httpc isn't used, since it hands a request to a
+%% connection on which another one is under way, so that an account whose shard is away would hold
+%% up others. A connection is closed when its request's time is over: what waits in HAProxy then
+%% isn't done later (option abortonclose). An answer is mostly one packet, so it costs one reading
+%% of the socket; its head is taken apart by OTP's erlang:decode_packet/3.
 -module(ocs_diameter_office).
 
 -export([ask/2]).
 -export_type([reply/0, seen/0]).
 
-%% Longest head line and longest body that is read: a balance of 40,000 buckets has some 5 MB.
+%% Longest head and longest body that are read: a balance of 40,000 buckets has some 5 MB.
+-define(MOST_HEAD, 16#10000).
 -define(MOST_BODY, 16#4000000).
 
 %% {answered, Status, Body}: the office's word. busy: it asked for the same again until time was
@@ -18,7 +20,9 @@
 -type reply() :: {answered, pos_integer(), binary()} | busy | open.
 %% What the last answer's head said: its status, X-Request-Id and Office-Shard.
 -type seen() :: #{status := non_neg_integer(), id := binary(), shard := binary()}.
--type outcome() :: {answer, pos_integer(), [{binary(), binary()}], binary(), keep | close}
+%% Fields of a head by their names as decode_packet/3 gives them.
+-type fields() :: #{atom() | binary() => binary()}.
+-type outcome() :: {answer, pos_integer(), fields(), binary(), keep | close}
                  | unsent | closed | broken.
 
 %% Asks until there is an answer or the deadline, which is milliseconds of the monotonic clock. What
@@ -92,8 +96,8 @@ told(_) -> answered.
 
 -spec seen(outcome(), seen()) -> seen().
 seen({answer, Status, Fields, _, _}, _) ->
-    #{status => Status, id => field(<<"x-request-id">>, Fields),
-      shard => field(<<"office-shard">>, Fields)};
+    #{status => Status, id => maps:get(<<"X-Request-Id">>, Fields, <<"-">>),
+      shard => maps:get(<<"Office-Shard">>, Fields, <<"-">>)};
 seen(_, Seen) ->
     Seen.
 
@@ -124,15 +128,17 @@ connect(Office, Deadline) ->
                                   {{_, _, _, _} = A, P} -> {A, P, [{nodelay, true}]};
                                   {A, P} -> {A, P, [inet6, {nodelay, true}]}
                               end,
-    Options = [binary, {active, false}, {packet, http_bin}, {send_timeout, 5000},
-               {send_timeout_close, true}],
-    gen_tcp:connect(Address, Port, Options ++ Family, min(1000, ocs_diameter_clock:left(Deadline))).
+    Options = [binary, {active, false}, {send_timeout, 5000}, {send_timeout_close, true}],
+    case gen_tcp:connect(Address, Port, Options ++ Family,
+                         min(1000, ocs_diameter_clock:left(Deadline))) of
+        {ok, Socket} -> ocs_diameter_pool:own(Socket);
+        {error, _} = Not -> Not
+    end.
 
 -spec on(gen_tcp:socket(), iodata(), integer()) -> outcome().
 on(Socket, Request, Deadline) ->
-    Outcome = case gen_tcp:send(Socket, Request) of
-                  ok -> read(Socket, Deadline);
-                  {error, _} -> unsent
+    Outcome = try exchanged(Socket, Request, Deadline)
+              catch error:_ -> broken
               end,
     case Outcome of
         {answer, _, _, _, keep} -> ocs_diameter_pool:give(Socket);
@@ -140,70 +146,76 @@ on(Socket, Request, Deadline) ->
     end,
     Outcome.
 
-%% The answer. A connection that ends before its first byte had carried no answer; whether the
-%% request was read is then open.
--spec read(gen_tcp:socket(), integer()) -> outcome().
-read(Socket, Deadline) ->
-    case recv(Socket, 0, Deadline) of
-        {ok, {http_response, _, Status, _}} ->
-            fields(Socket, Deadline, Status, []);
-        {error, closed} ->
-            closed;
-        _ ->
-            broken
+%% A connection that ends before its answer's first byte had carried no answer; whether the request
+%% was read is then open.
+-spec exchanged(gen_tcp:socket(), iodata(), integer()) -> outcome().
+exchanged(Socket, Request, Deadline) ->
+    case gen_tcp:send(Socket, Request) of
+        ok ->
+            case recv(Socket, 0, Deadline) of
+                {ok, Bytes} -> answer(Socket, Deadline, Bytes);
+                {error, closed} -> closed;
+                {error, _} -> broken
+            end;
+        {error, _} ->
+            unsent
     end.
 
--spec fields(gen_tcp:socket(), integer(), pos_integer(), [{binary(), binary()}]) -> outcome().
-fields(Socket, Deadline, Status, Fields) ->
-    case recv(Socket, 0, Deadline) of
-        {ok, {http_header, _, Name, _, Value}} ->
-            fields(Socket, Deadline, Status, [{lower(Name), Value} | Fields]);
-        {ok, http_eoh} ->
-            body(Socket, Deadline, Status, Fields);
-        _ ->
-            broken
-    end.
-
--spec body(gen_tcp:socket(), integer(), pos_integer(), [{binary(), binary()}]) -> outcome().
-body(Socket, Deadline, Status, Fields) ->
-    Keep = case string:lowercase(field(<<"connection">>, Fields)) of
-               <<"close">> -> close;
-               _ -> keep
-           end,
-    case string:to_integer(field(<<"content-length">>, Fields)) of
-        {0, <<>>} ->
-            {answer, Status, Fields, <<>>, Keep};
-        {Length, <<>>} when Length > 0, Length =< ?MOST_BODY ->
-            _ = inet:setopts(Socket, [{packet, raw}]),
-            case recv(Socket, Length, Deadline) of
-                {ok, Body} ->
-                    {answer, Status, Fields, Body, unless_more(Socket, Keep)};
-                {error, _} ->
-                    broken
+%% The answer that begins with these bytes.
+-spec answer(gen_tcp:socket(), integer(), binary()) -> outcome().
+answer(Socket, Deadline, Bytes) ->
+    case head(Bytes) of
+        {Status, Fields, Rest} ->
+            body(Socket, Deadline, Status, Fields, Rest);
+        more when byte_size(Bytes) < ?MOST_HEAD ->
+            case recv(Socket, 0, Deadline) of
+                {ok, More} -> answer(Socket, Deadline, <<Bytes/binary, More/binary>>);
+                {error, _} -> broken
             end;
         _ ->
             broken
     end.
 
-%% Bytes behind an answer belong to nothing that was asked.
--spec unless_more(gen_tcp:socket(), keep | close) -> keep | close.
-unless_more(Socket, Keep) ->
-    case gen_tcp:recv(Socket, 0, 0) of
-        {error, timeout} ->
-            _ = inet:setopts(Socket, [{packet, http_bin}]),
-            Keep;
-        _ ->
-            close
+%% Status and fields of a head, and the bytes behind it.
+-spec head(binary()) -> {pos_integer(), fields(), binary()} | more | broken.
+head(Bytes) ->
+    case erlang:decode_packet(http_bin, Bytes, []) of
+        {ok, {http_response, _, Status, _}, Rest} -> fields(Rest, Status, #{});
+        {more, _} -> more;
+        _ -> broken
     end.
 
--spec recv(gen_tcp:socket(), non_neg_integer(), integer()) -> {ok, term()} | {error, term()}.
+-spec fields(binary(), pos_integer(), fields()) -> {pos_integer(), fields(), binary()}
+                                                 | more | broken.
+fields(Bytes, Status, Fields) ->
+    case erlang:decode_packet(httph_bin, Bytes, []) of
+        {ok, {http_header, _, Name, _, Value}, Rest} -> fields(Rest, Status, Fields#{Name => Value});
+        {ok, http_eoh, Rest} -> {Status, Fields, Rest};
+        {more, _} -> more;
+        _ -> broken
+    end.
+
+%% Bytes behind an answer belong to nothing that was asked: then the connection isn't kept.
+-spec body(gen_tcp:socket(), integer(), pos_integer(), fields(), binary()) -> outcome().
+body(Socket, Deadline, Status, Fields, Bytes) ->
+    Keep = case string:lowercase(maps:get('Connection', Fields, <<>>)) of
+               <<"close">> -> close;
+               _ -> keep
+           end,
+    case binary_to_integer(maps:get('Content-Length', Fields, <<"-">>)) - byte_size(Bytes) of
+        0 ->
+            {answer, Status, Fields, Bytes, Keep};
+        Less when Less < 0, -Less =< byte_size(Bytes) ->
+            {answer, Status, Fields, binary:part(Bytes, 0, byte_size(Bytes) + Less), close};
+        More when More > 0, More =< ?MOST_BODY ->
+            case recv(Socket, More, Deadline) of
+                {ok, Rest} -> {answer, Status, Fields, <<Bytes/binary, Rest/binary>>, Keep};
+                {error, _} -> broken
+            end;
+        _ ->
+            broken
+    end.
+
+-spec recv(gen_tcp:socket(), non_neg_integer(), integer()) -> {ok, binary()} | {error, term()}.
 recv(Socket, Length, Deadline) ->
     gen_tcp:recv(Socket, Length, ocs_diameter_clock:left(Deadline)).
-
--spec field(binary(), [{binary(), binary()}]) -> binary().
-field(Name, Fields) ->
-    proplists:get_value(Name, Fields, <<"-">>).
-
--spec lower(atom() | binary()) -> binary().
-lower(Name) when is_atom(Name) -> string:lowercase(atom_to_binary(Name));
-lower(Name) -> string:lowercase(Name).

@@ -14,6 +14,9 @@
 
 -define(CCR, 272).
 -define(SESSION_ID, 263).
+%% A handler's first heap, in words: most requests end before it is full, so that nothing is
+%% collected. 32 KiB for each request under way.
+-define(HEAP_WORDS, 4096).
 
 %% What a handler knows of its request: whether it may ask the office, until when (milliseconds of
 %% the monotonic clock), when it came, and when its turn in the session came.
@@ -41,7 +44,8 @@ start(Request) ->
               end,
     Before = [Pid || Session /= none, {_, Pid} <- ets:lookup(?MODULE, Session)],
     Context = #{admitted => Admitted, came => Came, deadline => Came + Time},
-    Handler = spawn(fun() -> handle(Request, Session, Before, Context, Count) end),
+    Handler = spawn_opt(fun() -> handle(Request, Session, Before, Context, Count) end,
+                        [{min_heap_size, ?HEAP_WORDS}]),
     Session == none orelse ets:insert(?MODULE, {Session, Handler}),
     Handler ! go,
     Handler.

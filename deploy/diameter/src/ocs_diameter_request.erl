@@ -68,18 +68,23 @@ addressed(Ccr, #{hosts := Hosts, realms := Realms}) ->
         orelse throw({refuse, 5004, ['Auth-Application-Id']}),
     ok.
 
--spec among(unicode:chardata(), [string()]) -> boolean().
+%% Names that are written alike are told first: to fold their case costs more than all else here.
+-spec among(binary(), [string()]) -> boolean().
 among(Name, Names) ->
-    lists:any(fun(N) -> string:equal(N, Name, true) end, Names).
+    Text = binary_to_list(Name),
+    lists:member(Text, Names) orelse lists:any(fun(N) -> string:equal(N, Name, true) end, Names).
 
 -spec session(avps()) -> binary().
 session(Ccr) ->
     Id = ocs_diameter_avp:value('Session-Id', Ccr),
     Size = byte_size(Id),
-    Size >= 1 andalso Size =< 128
-        andalso lists:all(fun(C) -> C >= 16#21 andalso C =< 16#7E end, binary_to_list(Id))
+    Size >= 1 andalso Size =< 128 andalso is_shown(Id)
         orelse throw({refuse, 5004, ['Session-Id']}),
     Id.
+
+-spec is_shown(binary()) -> boolean().
+is_shown(<<C, Rest/binary>>) -> C >= 16#21 andalso C =< 16#7E andalso is_shown(Rest);
+is_shown(<<>>) -> true.
 
 %% Many gateways open a session without naming a service. The office wants one, so it is only asked
 %% whether it knows the account; the first update that asks for units opens the session there.
