@@ -11,6 +11,7 @@ import io
 import json
 import os
 import pathlib
+import re
 import signal
 import socket
 import subprocess
@@ -128,7 +129,9 @@ class World:
     def is_balanced(self) -> bool:
         """Whether HAProxy has opened its doors; fails where it has ended."""
         assert self.haproxy and self.haproxy.poll() is None, self.log.read_text()[-2000:]
-        return all(map(ports.listens, self.doors.values()))
+        sockets = re.findall(r"^    bind unix@(\S+)", self.configuration.read_text(), re.M)
+        is_there = all(pathlib.Path(each).is_socket() for each in sockets)
+        return is_there and all(map(ports.listens, self.doors.values()))
 
     def reload(self) -> None:
         """Has HAProxy read what `office doors` makes of the file now, while it serves; waits until
