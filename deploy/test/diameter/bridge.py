@@ -14,6 +14,7 @@ from collections.abc import Callable
 from http.server import BaseHTTPRequestHandler
 from typing import Any
 
+from diameter.wire import PATIENCE
 from support import ports, world
 from support.callers import Caller
 from support.waiting import until
@@ -52,12 +53,14 @@ at = "{place}/office.sock"
 
 
 class Office(world.World):
-    """Two shards behind the doors; `moment` is their clock, and none the machine's."""
+    """Two shards behind the doors. `moment` is their clock, and none the machine's. `later` is a book
+    and when it begins."""
 
     def __init__(
         self, place: pathlib.Path, moment: int | None = None, book: pathlib.Path = world.BOOK
     ) -> None:
-        self.moment, self.book = moment, book
+        self.book = book
+        self.later: tuple[pathlib.Path, int] | None = None
         first = ports.free(2)
         doors = {"gateways": first, "strict": first + 1}
         text = FILE
@@ -65,12 +68,15 @@ class Office(world.World):
             text = text.replace("{" + name + "}", str(port))
         place.mkdir(parents=True, exist_ok=True)
         super().__init__(place, text, doors)
+        self.moment = moment
         self.script = Caller(self, place / "office.sock")
 
     def up(self) -> Office:
         """Makes the shards and starts all."""
         for at in (1, 2):
             world.done(world.program(), "init", self.database(at), self.book)
+            if self.later:
+                world.done(*self.shard_words("book", at), self.later[0], "--from", self.later[1])
             self.start(at)
         self.balance()
         return self
@@ -83,7 +89,25 @@ class Office(world.World):
         words += [] if self.moment is None else ["--at", self.moment]
         with (self.place / "errors").open("ab") as errors:
             self.shards[at] = subprocess.Popen(list(map(str, words)), stderr=errors, **world.QUIET)
-        until(lambda: ports.listens(port), f"shard {at}")
+        until(lambda: ports.listens(port), f"shard {at}", PATIENCE)
+
+    def moved(self, moment: int, later: pathlib.Path | None = None, begins: int = 0) -> None:
+        """Starts the shards again at a moment, perhaps with a later book."""
+        for at in (1, 2):
+            self.kill(at)
+            if later:
+                world.done(*self.shard_words("book", at), later, "--from", begins)
+        self.moment = moment
+        for at in (1, 2):
+            self.start(at)
+
+    def bar(self, account: str) -> None:
+        """Bars an account, while its shard is away."""
+        shard = int(self.script.ask("GET", f"/accounts/{account}").shard)
+        self.kill(shard)
+        at = [] if self.moment is None else ["--at", self.moment]
+        world.done(*self.shard_words("bar", shard), account, *at)
+        self.start(shard)
 
     def shard_words(self, word: str, at: int) -> list[str]:
         """A word of the program over the database of a shard."""
@@ -115,7 +139,8 @@ class Office(world.World):
 
 class Bridge:
     """The process `ocs-diameter`. Members of the configuration are texts of Erlang terms, in which
-    PORT is its port."""
+    PORT is its port. It waits for the office as long as it may, so that a slow machine's answers are
+    those of a fast one; a test of its limits sets them."""
 
     def __init__(self, home: pathlib.Path, place: pathlib.Path, asks: int, **members: str) -> None:
         self.home, self.place = home, place
@@ -130,6 +155,7 @@ class Bridge:
             "office": "{{127,0,0,1}, %d}" % asks,
             "watch": "{{127,0,0,1}, %d}" % self.watch,
             "units": UNITS,
+            "answer_time": "60000",
             "queue_time": "1000",
         } | members
         self.process: subprocess.Popen[bytes] | None = None
@@ -150,7 +176,7 @@ class Bridge:
                 words, stdin=subprocess.DEVNULL, stdout=out, stderr=errors, start_new_session=True
             )
         process = self.process
-        until(lambda: ports.listens(self.port) or process.poll() is not None, "the bridge")
+        until(lambda: ports.listens(self.port) or process.poll() is not None, "the bridge", 180)
         assert process.poll() is None, self.errors.read_text()
         return self
 
@@ -161,7 +187,7 @@ class Bridge:
         process, self.process = self.process, None
         process.send_signal(number)
         try:
-            return process.wait(60)
+            return process.wait(120)
         finally:
             process.kill()
 
@@ -174,7 +200,7 @@ class Bridge:
 
     def get(self, path: str) -> str:
         """What its own port answers."""
-        with urllib.request.urlopen(f"http://127.0.0.1:{self.watch}{path}", timeout=10) as answer:
+        with urllib.request.urlopen(f"http://127.0.0.1:{self.watch}{path}", timeout=60) as answer:
             return str(answer.read().decode())
 
     def measure(self, name: str) -> float:
@@ -189,12 +215,24 @@ class Bridge:
         request = urllib.request.Request(
             f"http://127.0.0.1:{self.watch}/credited", json.dumps({"Account": account}).encode()
         )
-        with urllib.request.urlopen(request, timeout=10) as answer:
+        with urllib.request.urlopen(request, timeout=60) as answer:
             return int(json.loads(answer.read())["Sessions"])
 
     def lines(self) -> list[dict[str, Any]]:
-        """Its lines so far."""
-        return [json.loads(line) for line in self.out.read_text().splitlines()]
+        """Its whole lines so far."""
+        return [json.loads(line) for line in self.out.read_text().split("\n")[:-1]]
+
+    def line(self, **members: str) -> dict[str, Any]:
+        """The only line with these members, once it is written: an answer may be there before it."""
+        found: list[dict[str, Any]] = []
+
+        def is_written() -> bool:
+            found[:] = [line for line in self.lines() if members.items() <= line.items()]
+            return bool(found)
+
+        until(is_written, f"the line with {members}")
+        [one] = found
+        return one
 
     def memory(self) -> int:
         """Its resident KiB."""

@@ -1,4 +1,7 @@
-"""What the tests of the bridge share: the built bridge, an office on a Monday at 10, a stub."""
+"""What the tests of the bridge share: the built bridge, an office on a Monday at 10, a stub.
+
+The office and the bridge are started once. A test that changes them puts them back; one that counts
+what a bridge has done starts a bridge of its own."""
 from __future__ import annotations
 
 import pathlib
@@ -17,7 +20,7 @@ def home(tmp_path_factory: pytest.TempPathFactory) -> pathlib.Path:
     return built(tmp_path_factory.mktemp("ocs-diameter"))
 
 
-@pytest.fixture(scope="module")
+@pytest.fixture(scope="session")
 def office(tmp_path_factory: pytest.TempPathFactory) -> Iterator[Office]:
     """Two shards behind the doors, on a Monday at 10 in the peak."""
     one = Office(tmp_path_factory.mktemp("office"), MONDAY_10)
@@ -25,6 +28,18 @@ def office(tmp_path_factory: pytest.TempPathFactory) -> Iterator[Office]:
         yield one.up()
     finally:
         one.end()
+
+
+@pytest.fixture(scope="session")
+def bridge(
+    home: pathlib.Path, office: Office, tmp_path_factory: pytest.TempPathFactory
+) -> Iterator[Bridge]:
+    """A bridge with its defaults over the office."""
+    one = Bridge(home, tmp_path_factory.mktemp("bridge"), office.doors["gateways"])
+    try:
+        yield one.start()
+    finally:
+        one.stop(signal.SIGKILL)
 
 
 @pytest.fixture(scope="module")
@@ -41,12 +56,6 @@ def starts(home: pathlib.Path, tmp_path_factory: pytest.TempPathFactory) -> Iter
     finally:
         for each in running:
             each.stop(signal.SIGKILL)
-
-
-@pytest.fixture(scope="module")
-def bridge(office: Office, starts: Starts) -> Bridge:
-    """A bridge with its defaults over the office."""
-    return starts(office.doors["gateways"])
 
 
 @pytest.fixture

@@ -10,13 +10,21 @@ import subprocess
 import sys
 
 
-def calls_of(group: str) -> set[str]:
-    """The system calls of a group of systemd's."""
-    words = ["systemd-analyze", "--no-pager", "syscall-filter", group]
+def groups() -> dict[str, set[str]]:
+    """The members of each of systemd's groups of system calls: names, and other groups."""
+    words = ["systemd-analyze", "--no-pager", "syscall-filter"]
     told = subprocess.run(words, capture_output=True, text=True, check=True).stdout
-    names = {line.strip() for line in told.splitlines()} - {group}
-    own = {name for name in names if re.fullmatch("[a-z0-9_]+", name)}
-    return own.union(*(calls_of(name) for name in names if name.startswith("@")))
+    made: dict[str, set[str]] = {}
+    for part in re.split(r"^(?=@)", told, flags=re.M)[1:]:
+        name, *members = part.split("\n")
+        made[name] = {each.strip() for each in members if re.fullmatch(" +@?[a-z0-9_-]+", each)}
+    return made
+
+
+def calls_of(group: str, every: dict[str, set[str]]) -> set[str]:
+    """The system calls of a group, with those of the groups in it."""
+    more = {name for name in every[group] if name.startswith("@")}
+    return (every[group] - more).union(*(calls_of(name, every) for name in more))
 
 
 def sealed(unit: str, words: list[str]) -> None:
@@ -26,14 +34,15 @@ def sealed(unit: str, words: list[str]) -> None:
         text = file.read()
     assert "MemoryDenyWriteExecute=yes" in text
     rows = re.findall("^SystemCallFilter=(~?)(.*)$", text, re.M)
-    allowed: set[str] = set()
-    for is_less, groups in rows:
-        for group in groups.split():
-            allowed = allowed - calls_of(group) if is_less else allowed | calls_of(group)
-    calls = seccomp.SyscallFilter(seccomp.ERRNO(1))
+    allowed, every = set[str](), groups()
+    for is_less, named in rows:
+        for group in named.split():
+            calls = calls_of(group, every)
+            allowed = allowed - calls if is_less else allowed | calls
+    sealing = seccomp.SyscallFilter(seccomp.ERRNO(1))
     for name in allowed:
         try:
-            calls.add_rule(seccomp.ALLOW, name)
+            sealing.add_rule(seccomp.ALLOW, name)
         except RuntimeError:
             continue
     memory = seccomp.SyscallFilter(seccomp.ALLOW)
@@ -43,7 +52,7 @@ def sealed(unit: str, words: list[str]) -> None:
     for name in ("mprotect", "pkey_mprotect"):
         memory.add_rule(denied, name, seccomp.Arg(2, seccomp.MASKED_EQ, execute, execute))
     memory.load()
-    calls.load()
+    sealing.load()
     os.execvp(words[0], words)
 
 

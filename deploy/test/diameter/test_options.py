@@ -2,13 +2,15 @@
 from __future__ import annotations
 
 import json
+import pathlib
 import subprocess
+from collections.abc import Iterator
 from typing import Any
 
 import pytest
 from diameter.bridge import MONDAY_10, SOURCE, Bridge, Office
 from diameter.wire import Gateway, ccr, events, octets, seconds, service, subscriber
-from support.world import BOOK, done
+from support.world import BOOK
 
 GSU = "Granted-Service-Unit"
 RSU, USU = "Requested-Service-Unit", "Used-Service-Unit"
@@ -69,37 +71,72 @@ def test_a_bar_is_seen_where_the_balance_is_read(office: Office, starts: Any) ->
     office.account("49510", 10**6)
     assert gateway.ask(ccr("b1", 1, 0, account="49510")).result == 2001
     assert gateway.ask(ccr("b2", 1, 0, account="49511")).result == 5030
-    for at in (1, 2):
-        office.kill(at)
-        words = [*office.shard_words("bar", at), "49510", "--at", str(MONDAY_10)]
-        subprocess.run(words, check=False, capture_output=True)
-        office.start(at)
+    office.bar("49510")
     assert gateway.ask(ccr("b3", 1, 0, account="49510")).result == 4010
     assert gateway.ask(ccr("b4", 1, 0, service(10, []), account="49510")).result == 4010
     gateway.close()
 
 
-@pytest.mark.parametrize(
-    "moment, wanted",
-    [(MONDAY_10 + 35400, 1767643200 + 2208988800), (2147455800, 2147457600 + 2208988800 - 2**32)],
-)
-def test_tariff_time_change_counts_from_1900(
-    tmp_path: Any, starts: Any, moment: int, wanted: int
-) -> None:
-    """Ten minutes before 20:00 of a Monday in 2026, half an hour before it of one in 2038."""
-    office = Office(tmp_path / "office", moment).up()
+def tagged(office: Office, bridge: Bridge) -> tuple[int, int]:
+    """Tariff-Time-Change of a grant that 20:00 of a Monday divides, and what 300 seconds before it and
+    600 behind it cost."""
+    gateway = Gateway(bridge.port)
+    office.account("49700", 10**9)
+    before = office.sums("49700")[3]
+    name = f"t{office.moment}"
+    answer = gateway.ask(ccr(name, 1, 0, service(10, seconds(3600)), account="49700"))
+    tags = [[("Tariff-Change-Usage", tag), *seconds(count)] for tag, count in ((0, 300), (1, 600))]
+    gateway.ask(ccr(name, 3, 1, service(10, None, tags), account="49700"))
+    gateway.close()
+    change = dict(answer.services[0][GSU])["Tariff-Time-Change"]
+    return change, office.sums("49700")[3] - before
+
+
+@pytest.fixture(scope="module")
+def moving(
+    tmp_path_factory: pytest.TempPathFactory, starts: Any
+) -> Iterator[tuple[Office, Bridge]]:
+    """An office whose clock goes on from test to test, and its bridge."""
+    office = Office(tmp_path_factory.mktemp("moving"), MONDAY_10 + 35400)
     try:
-        gateway = Gateway(starts(office.doors["gateways"]).port)
-        office.account("49700", 10**9)
-        answer = gateway.ask(ccr("t1", 1, 0, service(10, seconds(3600)), account="49700"))
-        change = dict(answer.services[0][GSU])["Tariff-Time-Change"]
-        assert change == wanted
-        tags = [
-            [("Tariff-Change-Usage", tag), *seconds(count)] for tag, count in ((0, 300), (1, 600))
-        ]
-        gateway.ask(ccr("t1", 3, 1, service(10, None, tags), account="49700"))
-        assert office.sums("49700")[3] == 500_000 + 500_000
-        gateway.close()
+        yield office.up(), starts(office.doors["gateways"])
+    finally:
+        office.end()
+
+
+def test_tariff_time_change_counts_from_1900(moving: tuple[Office, Bridge]) -> None:
+    """Ten minutes before 20:00 of a Monday."""
+    assert tagged(*moving) == (1767643200 + 2208988800, 500_000 + 500_000)
+
+
+TUESDAY_10 = MONDAY_10 + 86400
+
+
+def test_a_later_book_within_a_session(moving: tuple[Office, Bridge]) -> None:
+    """A grant is settled by the book of its moment, and the next one by the book that began since."""
+    office, bridge = moving
+    gateway = Gateway(bridge.port)
+    office.moved(TUESDAY_10)
+    office.account("49710", 10**9)
+    sixty = service(10, seconds(60))
+    assert gateway.ask(ccr("book", 1, 0, sixty, account="49710")).result == 2001
+    office.moved(TUESDAY_10 + 600, BOOK.with_name("later-book.toml"), TUESDAY_10 + 60)
+    update = service(10, seconds(60), [seconds(60)])
+    assert gateway.ask(ccr("book", 2, 1, update, account="49710")).result == 2001
+    old = office.sums("49710")[3]
+    end = service(10, None, [seconds(60)])
+    assert gateway.ask(ccr("book", 3, 2, end, account="49710")).result == 2001
+    assert (old, office.sums("49710")[3] - old) == (100_000, 120_000)
+    gateway.close()
+
+
+@pytest.mark.slow
+def test_tariff_time_change_behind_2036(tmp_path: pathlib.Path, starts: Any) -> None:
+    """Half an hour before 20:00 of a Monday in 2038: the count has begun again."""
+    office = Office(tmp_path / "office", 2147455800)
+    try:
+        bridge = starts(office.up().doors["gateways"])
+        assert tagged(office, bridge) == (2147457600 + 2208988800 - 2**32, 500_000 + 500_000)
     finally:
         office.end()
 
@@ -149,17 +186,50 @@ NEEDED = {
 }
 
 
-@pytest.mark.parametrize("text", WRONG)
-def test_a_configuration_with_a_fault(home: Any, tmp_path: Any, text: str) -> None:
-    file = tmp_path / "diameter.config"
-    whole = text
+def faulty(text: str, folder: pathlib.Path) -> pathlib.Path:
+    """A file of this text, with the keys that are needed besides."""
+    file = folder / "diameter.config"
     if text.startswith("#{") and text != "#{}.":
         more = [f"{key} => {value}" for key, value in NEEDED.items() if f"{key} =>" not in text]
-        whole = "#{" + ", ".join([*more, text[2:]])
-    file.write_text(whole)
+        text = "#{" + ", ".join([*more, text[2:]])
+    file.write_text(text)
+    return file
+
+
+def checked(home: pathlib.Path, file: pathlib.Path) -> tuple[int, str]:
+    """The status of the command that only reads a file, and what it says."""
     ended = subprocess.run([home / "ocs-diameter", "--check", file], capture_output=True, text=True)
-    assert ended.returncode == 1
-    assert ended.stderr.startswith(f"ocs-diameter: {file}: ") and WRONG[text] in ended.stderr
+    return ended.returncode, ended.stderr
+
+
+# One process that reads several files, and prints what it says of each.
+TELL = """lists:foreach(fun(F) ->
+    {error, Fault} = ocs_diameter_config:load(F),
+    io:format("~s~n", [ocs_diameter_config:told(Fault)])
+  end, init:get_plain_arguments()), halt()."""
+
+
+def test_configurations_with_a_fault(home: pathlib.Path, tmp_path: pathlib.Path) -> None:
+    files = []
+    for at, text in enumerate(WRONG):
+        (tmp_path / str(at)).mkdir()
+        files.append(faulty(text, tmp_path / str(at)))
+    words: list[Any] = ["erl", "-noinput", "-pa", home / "ebin", "-eval", TELL, "-extra", *files]
+    told = subprocess.run(words, capture_output=True, text=True, check=True).stdout.splitlines()
+    assert len(told) == len(WRONG)
+    assert [line for line, wanted in zip(told, WRONG.values()) if wanted not in line] == []
+    assert checked(home, files[0]) == (1, f"ocs-diameter: {files[0]}: {told[0]}\n")
+
+
+@pytest.mark.slow
+@pytest.mark.parametrize("text", WRONG)
+def test_the_command_tells_of_a_fault(
+    home: pathlib.Path, tmp_path: pathlib.Path, text: str
+) -> None:
+    file = faulty(text, tmp_path)
+    status, told = checked(home, file)
+    assert status == 1
+    assert told.startswith(f"ocs-diameter: {file}: ") and WRONG[text] in told
 
 
 @pytest.mark.parametrize("words, status", [(["--help"], 0), (["--chekc"], 2), (["a", "b"], 2)])
@@ -170,8 +240,7 @@ def test_words(home: Any, words: list[str], status: int) -> None:
 
 def test_the_shown_configuration_is_read(home: Any) -> None:
     file = SOURCE / "diameter.config"
-    ended = subprocess.run([home / "ocs-diameter", "--check", file], capture_output=True, text=True)
-    assert (ended.returncode, ended.stderr) == (0, f"ocs-diameter: {file} is read\n")
+    assert checked(home, file) == (0, f"ocs-diameter: {file} is read\n")
     text = file.read_text()
     keys = json.loads(
         subprocess.run(
@@ -185,29 +254,3 @@ def test_the_shown_configuration_is_read(home: Any) -> None:
 
 ASK = """ok = ocs_diameter_config:load(hd(init:get_plain_arguments())),
   io:format("~s", [jiffy:encode(maps:keys(ocs_diameter_config:get()))]), halt()."""
-
-
-def test_a_later_book_within_a_session(tmp_path: Any, starts: Any) -> None:
-    """A grant is settled by the book of its moment, and the next one by the book that began since."""
-    office = Office(tmp_path / "office", MONDAY_10).up()
-    try:
-        gateway = Gateway(starts(office.doors["gateways"]).port)
-        office.account("49710", 10**9)
-        sixty = service(10, seconds(60))
-        assert gateway.ask(ccr("book", 1, 0, sixty, account="49710")).result == 2001
-        later = BOOK.with_name("later-book.toml")
-        for at in (1, 2):
-            office.kill(at)
-            done(*office.shard_words("book", at), later, "--from", MONDAY_10 + 60)
-        office.moment = MONDAY_10 + 600
-        for at in (1, 2):
-            office.start(at)
-        update = service(10, seconds(60), [seconds(60)])
-        assert gateway.ask(ccr("book", 2, 1, update, account="49710")).result == 2001
-        old = office.sums("49710")[3]
-        end = service(10, None, [seconds(60)])
-        assert gateway.ask(ccr("book", 3, 2, end, account="49710")).result == 2001
-        assert (old, office.sums("49710")[3] - old) == (100_000, 120_000)
-        gateway.close()
-    finally:
-        office.end()

@@ -23,8 +23,7 @@ SEALED = pathlib.Path(__file__).resolve().parent / "sealed.py"
 
 def line_of(bridge: Bridge, session: str) -> dict[str, Any]:
     """The line of a session's only answer."""
-    until(lambda: any(line["session"] == session for line in bridge.lines()), session)
-    [one] = [line for line in bridge.lines() if line["session"] == session]
+    one = bridge.line(session=session)
     read = log_line.read(json.dumps(one))
     assert isinstance(read, log_line.Answered), one
     return one
@@ -43,8 +42,7 @@ LINES: dict[str, tuple[list[Any], dict[str, str]]] = {
 @pytest.mark.parametrize("case", LINES)
 def test_lines(office: Office, bridge: Bridge, case: str) -> None:
     avps, told = LINES[case]
-    office.script.ask("PUT", "/accounts/49151")
-    office.script.ask("POST", "/accounts/49151/credits", {"Amount": 10**9, "Reference": "first"})
+    office.account("49151", 10**12)
     gateway = Gateway(bridge.port)
     gateway.ask(ccr(f"line-{case}", 1, 0, *avps))
     line = line_of(bridge, f"line-{case}")
@@ -75,10 +73,10 @@ def test_strange_names_stay_texts(bridge: Bridge) -> None:
 
 def test_2000_lines_of_2000_answers(bridge: Bridge) -> None:
     gateway = Gateway(bridge.port)
-    before = len(bridge.lines())
+    before = bridge.out.read_text().count("\n")
     hops = [gateway.begin(ccr(f"count{at}", 1, 0, to="x")) for at in range(2000)]
     assert all(gateway.wait(hop) for hop in hops)
-    until(lambda: len(bridge.lines()) == before + 2000, "all lines", 20)
+    until(lambda: bridge.out.read_text().count("\n") == before + 2000, "all lines")
     assert bridge.measure("lines_dropped_total") == 0
     gateway.close()
 
@@ -96,7 +94,8 @@ def test_measures(office: Office, starts: Any) -> None:
     assert bridge.measure('answer_seconds_bucket{le="+Inf"}') == 6
     assert bridge.measure("answer_seconds_count") == 6
     assert bridge.measure('office_tries_total{outcome="200"}') == 5
-    assert (bridge.measure("in_flight"), bridge.measure("in_flight_limit")) == (0, 200)
+    until(lambda: bridge.measure("in_flight") == 0, "the end of the last request")
+    assert bridge.measure("in_flight_limit") == 200
     assert bridge.measure("office_connections_idle") >= 1
     gateway.close()
     until(lambda: bridge.measure('peer_connections{peer="gw.example"}') == 0, "its end")
@@ -132,7 +131,7 @@ def test_its_own_port(bridge: Bridge, case: str) -> None:
     address = f"http://127.0.0.1:{bridge.watch}{path}"
     request = urllib.request.Request(address, body, method=method)
     try:
-        with urllib.request.urlopen(request, timeout=10) as answer:
+        with urllib.request.urlopen(request, timeout=60) as answer:
             told = answer.status
     except urllib.error.HTTPError as fault:
         told = fault.code

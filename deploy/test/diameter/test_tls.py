@@ -11,8 +11,9 @@ from typing import Any
 
 import pytest
 from diameter.bridge import Bridge, Stub
-from diameter.wire import Gateway, ccr, seconds, service
+from diameter.wire import PATIENCE, Gateway, ccr, seconds, service
 from support import ports
+from support.waiting import until
 from support.world import done
 
 SIXTY = service(10, seconds(60))
@@ -125,7 +126,7 @@ def test_a_request_over_tls(bridge: Bridge, ours: Authority) -> None:
     assert isinstance(gateway.connection, ssl.SSLSocket)
     assert gateway.connection.version() == "TLSv1.3"
     assert gateway.ask(ccr("tls", 1, 0, SIXTY)).result == 2001
-    line = bridge.lines()[-1]
+    line = bridge.line(session="tls")
     assert line["peer"] == "127.0.0.1:%d" % gateway.connection.getsockname()[1]
     gateway.close()
 
@@ -161,8 +162,7 @@ def test_a_certificate_that_is_revoked(bridge: Bridge, ours: Authority) -> None:
     assert standing.cea.result == beside.cea.result == 2001
     ours.listed(lost)
     bridge.reload()
-    with standing.changed:
-        assert standing.changed.wait_for(lambda: standing.is_closed, 10)
+    assert standing.ended()
     assert beside.ask(ccr("beside", 1, 0, SIXTY)).result == 2001
     beside.close()
     assert greeted(bridge, client(lost, ours), "lost.example") is None
@@ -177,10 +177,5 @@ def test_strangers_who_say_nothing(bridge: Bridge, ours: Authority) -> None:
     with contextlib.ExitStack() as opened:
         for _ in range(50):
             opened.enter_context(socket.create_connection(("127.0.0.1", bridge.port)))
-        began = time.monotonic()
-        code = None
-        while code is None and time.monotonic() - began < 60:
-            code = greeted(bridge, certificate)
-        assert code == 2001
-        assert time.monotonic() - began < 40
+        until(lambda: greeted(bridge, certificate) == 2001, "a gateway's turn", 2 * PATIENCE)
     assert greeted(bridge, certificate) == 2001

@@ -10,10 +10,16 @@ from typing import Any
 
 import pytest
 from diameter.bridge import Bridge, Office, Stub, good
-from diameter.wire import RAR, Gateway, Message, ccr, events, octets, seconds, service
+from diameter.wire import PATIENCE, RAR, Gateway, Message, ccr, events, octets, seconds, service
 from support.waiting import until
 
 GSU = "Granted-Service-Unit"
+
+
+@pytest.fixture(scope="module")
+def bridge(office: Office, starts: Any) -> Any:
+    """A bridge whose remembered sessions are counted here."""
+    return starts(office.doors["gateways"])
 
 
 @pytest.fixture
@@ -52,10 +58,8 @@ def test_a_credit_at_a_final_unit(office: Office, bridge: Bridge, gateway: Gatew
     assert bridge.measure("sessions_at_final_units") == 0
     assert bridge.credited(account) == 0
     until(lambda: bridge.measure('reauth_total{result="2001"}') == 1, "the answer to it")
-    lines = [line for line in bridge.lines() if line["what"] == "RAR"]
-    assert [(line["account"], line["code"], line["who"]) for line in lines] == [
-        (account, "2001", "gw.example")
-    ]
+    line = bridge.line(what="RAR")
+    assert (line["account"], line["code"], line["who"]) == (account, "2001", "gw.example")
 
 
 def test_several_groups_and_sessions(office: Office, bridge: Bridge, gateway: Gateway) -> None:
@@ -105,32 +109,33 @@ def test_answers_of_the_gateway(
     name = f'reauth_total{{result="{code or "timeout"}"}}'
     before = bridge.measure(name)
     assert bridge.credited(account) == 1
-    until(lambda: bridge.measure(name) == before + 1, name, 10)
+    until(lambda: bridge.measure(name) == before + 1, name)
     assert bridge.credited(account) == is_kept
 
 
 def test_the_gateway_has_another_connection(office: Office, bridge: Bridge) -> None:
     account = office.account("49604", 300_000)
     old = Gateway(bridge.port, "pgw.example")
-    asked = ccr("c1", 1, 0, service(10, seconds(600)), account=account, host="pgw.example")
+    asked = ccr("pgw1", 1, 0, service(10, seconds(600)), account=account, host="pgw.example")
     old.ask(asked)
     old.close()
     until(lambda: bridge.measure('peer_connections{peer="pgw.example"}') == 0, "the old one's end")
     assert bridge.credited(account) == 1
     until(lambda: bridge.measure('reauth_total{result="no_connection"}') == 1, "no connection")
     new = Gateway(bridge.port, "pgw.example")
-    assert bridge.credited(account) == 1
-    assert len(new.asked(RAR)) == 1
+    # The bridge has the connection a moment after the gateway has.
+    until(lambda: bridge.measure('peer_connections{peer="pgw.example"}') == 1, "the new one")
+    until(lambda: bridge.credited(account) == 1 and new.asked(RAR, seconds=1), "the request")
     new.close()
 
 
 def test_a_credit_while_the_office_is_asked(starts: Any, stub: Stub) -> None:
     """What came while a request was under way is told behind its answer."""
-    asked = threading.Event()
+    asked, credited = threading.Event(), threading.Event()
 
     def final(body: dict[str, Any]) -> tuple[int, Any]:
         asked.set()
-        time.sleep(0.5)
+        credited.wait(PATIENCE)
         granted = {"Rating-Group": 10, "Result-Code": 2001, GSU: {"CC-Time": 5}}
         more = {"Validity-Time": 60, "Final-Unit-Indication": {"Final-Unit-Action": 0}}
         return 200, good(body)[1] | {"Multiple-Services-Credit-Control": [granted | more]}
@@ -139,8 +144,9 @@ def test_a_credit_while_the_office_is_asked(starts: Any, stub: Stub) -> None:
     bridge = starts(stub.port)
     gateway = Gateway(bridge.port)
     hop = gateway.begin(ccr("race", 1, 0, service(10, seconds(60))))
-    asked.wait(5)
+    assert asked.wait(PATIENCE)
     assert bridge.credited("49151") == 0
+    credited.set()
     answer = gateway.wait(hop)
     assert answer and answer.result == 2001
     assert len(gateway.asked(RAR)) == 1
@@ -178,7 +184,7 @@ def test_a_session_that_changes_its_bridge(
     office: Office, both: tuple[Bridge, Bridge], at: int
 ) -> None:
     gateways = [Gateway(each.port) for each in both]
-    account = office.account(f"4980{at}", 10**6)
+    account = office.account(f"4984{at}", 10**6)
     to, part = ("Destination-Host", "ocs.example"), service(10, seconds(60), [seconds(60)])
     asked = [ccr(f"two{at}", 1, 0, to, service(10, seconds(60)), account=account)]
     asked += [ccr(f"two{at}", 2, number, to, part, account=account) for number in (1, 2, 3)]
@@ -195,7 +201,7 @@ def test_a_session_that_changes_its_bridge(
 
 def test_a_bridge_is_killed_under_its_gateways(office: Office, both: tuple[Bridge, Bridge]) -> None:
     """Gateways fail over with what had no answer, to the other bridge; each use is charged once."""
-    accounts = [office.account(f"4981{at}", 10**9) for at in range(20)]
+    accounts = [office.account(f"4983{at}", 10**9) for at in range(20)]
     here, there = (Gateway(each.port) for each in both)
     for at, account in enumerate(accounts):
         opened = ccr(f"fail{at}", 1, 0, service(10, seconds(60)), account=account)

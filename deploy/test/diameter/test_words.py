@@ -6,6 +6,7 @@ import os
 import pathlib
 import select
 import subprocess
+from collections.abc import Iterator
 from typing import Any
 
 import pytest
@@ -21,6 +22,13 @@ PRINTED = "10 time\n20 octets\n30 events\n"
 def named(office: Office, *more: str) -> None:
     """The office's file with a table of the bridges."""
     office.write(office.text + "[diameter]\n" + "".join(f"{line}\n" for line in more))
+
+
+@pytest.fixture(autouse=True)
+def as_it_was(office: Office) -> Iterator[None]:
+    """The office's file is put back behind each test."""
+    yield
+    office.write(office.text)
 
 
 @pytest.fixture

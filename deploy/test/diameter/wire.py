@@ -16,6 +16,8 @@ VENDOR_3GPP = 10415
 M, V = 0x40, 0x80
 REQUEST, PROXIABLE, ERROR, AGAIN = 0x80, 0x40, 0x20, 0x10
 CCR, RAR, CER, DWR, DPR = 272, 258, 257, 280, 282
+# Seconds that an answer is waited for: longer than the bridge asks the office for one.
+PATIENCE = 90
 # An AVP to be sent: its name, or (code, vendor), its value, and perhaps its flags.
 Avp = tuple[Any, ...]
 # An AVP that was read: a group's value is a list of them.
@@ -204,7 +206,7 @@ class Gateway:
         self.requests: list[Message] = []
         self.is_closed = False
         self.answers = {DWR: 2001, DPR: 2001, RAR: 2001}
-        self.connection = socket.create_connection(("127.0.0.1", port), 10)
+        self.connection = socket.create_connection(("127.0.0.1", port), PATIENCE)
         self.connection.setsockopt(socket.IPPROTO_TCP, socket.TCP_NODELAY, 1)
         if tls:
             self.connection = tls.wrap_socket(self.connection, server_hostname="ocs.example")
@@ -265,27 +267,30 @@ class Gateway:
         self.send(message(code, application, avps, flags, hop, hop))
         return hop
 
-    def wait(self, hop: int, seconds: float = 15) -> Message | None:
+    def wait(self, hop: int, seconds: float = PATIENCE) -> Message | None:
         """The answer to this request; none where none comes."""
         with self.changed:
             self.changed.wait_for(lambda: hop in self.came or self.is_closed, seconds)
             return self.came.pop(hop, None)
 
-    def ask(
-        self, request: tuple[int, int, list[Avp], int], is_again: bool = False, seconds: float = 15
-    ) -> Message:
+    def ask(self, request: tuple[int, int, list[Avp], int], is_again: bool = False) -> Message:
         """The answer to a request; an `AssertionError` where none comes."""
-        answer = self.wait(self.begin(request, is_again), seconds)
+        answer = self.wait(self.begin(request, is_again))
         assert answer, "no answer"
         return answer
 
-    def asked(self, code: int, count: int = 1, seconds: float = 10) -> list[Message]:
+    def asked(self, code: int, count: int = 1, seconds: float = PATIENCE) -> list[Message]:
         """The other end's requests of this code, once there are so many, or time is over."""
         with self.changed:
             self.changed.wait_for(
                 lambda: bool(sum(one.code == code for one in self.requests) >= count), seconds
             )
             return [one for one in self.requests if one.code == code]
+
+    def ended(self) -> bool:
+        """Whether the other end closes the connection."""
+        with self.changed:
+            return self.changed.wait_for(lambda: self.is_closed, PATIENCE)
 
     def close(self) -> None:
         """Ends the connection without a word."""
