@@ -9,7 +9,6 @@ import pytest
 from diameter.bridge import Stub
 from diameter.wire import Avp, Gateway, Message, ccr, money, service
 
-COUNT = 1500
 MSCC, RSU, USU = (
     "Multiple-Services-Credit-Control",
     "Requested-Service-Unit",
@@ -129,12 +128,12 @@ def members(avps: list[tuple[str, Any]]) -> dict[str, Any]:
     return made
 
 
-@pytest.mark.slow
-def test_requests_of_chance(starts: Any, stub: Stub) -> None:
+@pytest.mark.parametrize("count", [100, pytest.param(1500, marks=pytest.mark.slow)])
+def test_requests_of_chance(starts: Any, stub: Stub, count: int) -> None:
     dice = random.Random(7)
     gateway = Gateway(starts(stub.port).port)
     differ = []
-    for at in range(COUNT):
+    for at in range(count):
         body, avps = request(dice, at)
         reply = answer_to(dice, body)
         stub.plan = lambda _: (200, reply)
