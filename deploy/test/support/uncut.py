@@ -36,7 +36,7 @@ class Uncut:
         words = [program(), "serve", str(self.database), "--port", str(self.port)]
         words += ["--connections", "1000000", "--at", str(moment)]
         self.process = subprocess.Popen(words, stdout=subprocess.DEVNULL)
-        until(lambda: ports.listens(self.port), "the shard that nothing happens to")
+        until(lambda: ports.listens(self.port), "the shard that nothing happens to", 600)
 
     def connect(self) -> http.client.HTTPConnection:
         """A connection to it."""
