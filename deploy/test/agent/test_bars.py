@@ -31,6 +31,7 @@ STEPS = {
     "done": ("49163", "test -e /run/there", True),
     "starts": ("49164", "pgrep -x sleep", True),
 }
+SLOWER = ("asks", "starts")
 
 
 class Desk:
@@ -135,7 +136,9 @@ def slowed(desk: Desk) -> Iterator[None]:
     desk.office.run("mv /usr/local/bin/ocs-kept /usr/local/bin/ocs")
 
 
-@pytest.mark.parametrize("step", STEPS)
+@pytest.mark.parametrize(
+    "step", [pytest.param(one, marks=[pytest.mark.slow] if one in SLOWER else []) for one in STEPS]
+)
 def test_a_kill_at_a_step_leaves_the_shard_up(desk: Desk, slow: None, step: str) -> None:
     office, (account, there, is_barred) = desk.office, STEPS[step]
     office.open(account)

@@ -140,8 +140,17 @@ def between(agent: Agent) -> Iterator[Relay]:
     agent.start()
 
 
-@pytest.mark.parametrize("is_before", (True, False), ids=("before", "after"))
-@pytest.mark.parametrize("step", range(1, STEPS + 1))
+# A kill before a step leaves what one after the step before leaves.
+KILLS = [
+    pytest.param(
+        step, is_before, marks=[pytest.mark.slow] if is_before and 1 < step < STEPS else []
+    )
+    for step in range(1, STEPS + 1)
+    for is_before in (True, False)
+]
+
+
+@pytest.mark.parametrize("step, is_before", KILLS)
 def test_killed_at_a_step_and_asked_again(
     agent: Agent, relay: Relay, ada: Caller, script: Caller, step: int, is_before: bool
 ) -> None:
