@@ -14,12 +14,13 @@ pub const SOCKET_SECONDS: u64 = 30;
 
 /// How long all reads and writes of a connection may take together, in seconds (profile): those
 /// that wait for a request, within one, and for room for an answer. A peer that asks four times a
-/// second comes to its last request first; one that asks less often loses its connection between
-/// two requests, as it does where it is idle.
+/// second comes to its last request first; the connection of one that asks less often ends while it
+/// is idle.
 pub const CONNECTION_SECONDS: u64 = 300;
 
 /// A socket with how long its reads and writes may still take, and how long one of them may, as it
-/// is set. What is done between them isn't counted.
+/// is set. What is done between them isn't counted. Reads leave the last 30 seconds to writes, so
+/// that what a request that was read is answered finds time to leave.
 #[derive(Drop)]
 pub(crate) struct PatientStream<'s> {
     rt: HostRuntime,
@@ -51,9 +52,10 @@ impl<'s> PatientStream<'s> {
         Ok(())
     }
 
-    /// The moment at which a read or a write begins, which may take no longer than what is left.
-    fn begin(&self) -> io::Result<Instant> {
-        let Some(longest) = next_wait(self.left.get()) else {
+    /// The moment at which a read or a write begins, which may take no longer than what is left
+    /// beside what is kept.
+    fn begin(&self, kept: Duration) -> io::Result<Instant> {
+        let Some(longest) = next_wait(left_after(self.left.get(), kept)) else {
             return Err(io::Error::from(ErrorKind::TimedOut));
         };
         if longest != self.longest.get() {
@@ -94,7 +96,7 @@ fn left_after(left: Duration, taken: Duration) -> Duration
 
 impl<'s> Read for &PatientStream<'s> {
     fn read(&mut self, buf: &mut [u8]) -> io::Result<usize> {
-        let begun = self.begin()?;
+        let begun = self.begin(Duration::from_secs(SOCKET_SECONDS))?;
         let mut stream = self.stream;
         let count = stream.read(buf)?;
         self.end(begun)?;
@@ -104,7 +106,7 @@ impl<'s> Read for &PatientStream<'s> {
 
 impl<'s> Write for &PatientStream<'s> {
     fn write(&mut self, buf: &[u8]) -> io::Result<usize> {
-        let begun = self.begin()?;
+        let begun = self.begin(Duration::ZERO)?;
         let mut stream = self.stream;
         let count = stream.write(buf)?;
         self.end(begun)?;
