@@ -30,8 +30,10 @@ use Rattle.ledger.specs.Debiting.{rest_price, is_covered, debited}
 use Rattle.reserving.proofs.Lists.{no_some}
 use Rattle.charging.specs.SessionReports.{Report, with_report}
 use Rattle.charging.specs.Paid.{before_charges, taken, is_touched, IsReport, IsEvent}
-use Rattle.charging.specs.Paid.{without_last, ArePaid}
-use Rattle.charging.specs.Paid.{IsPaidUse, is_charge, reports_without, taken_by}
+use Rattle.charging.specs.Paid.{ArePaid}
+use Rattle.charging.specs.PaidParts.{without_last}
+use Rattle.charging.specs.Paid.{IsPaidUse, is_charge}
+use Rattle.charging.specs.PaidParts.{reports_without, taken_by}
 use Rattle.ledger.specs.Pricing.{validity_of}
 use Rattle.charging.proofs.Steps.{is_quiet, is_touch, untouched, with_grant, Keeps}
 use Rattle.charging.proofs.Credited.{AreCredited, no_credits, more_credits, SameCredits}

@@ -15,7 +15,8 @@ use Rattle.ledger.specs.Balance.{credits, bucket_at, buckets_at}
 use Rattle.ledger.specs.Settlement.{charge_facts}
 use Rattle.ledger.proofs.Names.{number_same}
 use Rattle.reserving.proofs.Keys.{same_number}
-use Rattle.charging.specs.Paid.{kind_in, is_of, taken}
+use Rattle.charging.specs.Paid.{taken}
+use Rattle.charging.specs.PaidParts.{kind_in, is_of}
 use Rattle.charging.proofs.Credited.{AreCredited, charge_credits, distinct}
 
 -- ---- each bucket's kind is found by its number

@@ -31,4 +31,5 @@ pub mod BoundedCharges
 pub mod Laws
 pub mod TablesAfter
 pub mod Equations
+pub mod PaidParts
 pub mod Promise

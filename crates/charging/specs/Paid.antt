@@ -25,31 +25,26 @@ use Rattle.charging.specs.SessionReports.{Report}
 abbrev pub is_charge : Fact → Bool
 is_charge f = is_some (counts f).charge
 
--- what buckets count, by their numbers
-abbrev pub kind_in : BucketNumber → List BucketRow → Option BucketKind
-kind_in n [] = None
-kind_in n (c ∷ cs) = if c.number == n then Some c.kind else kind_in n cs
-
-abbrev pub is_of : BucketKind → Option BucketKind → Bool
-is_of kind None = false
-is_of kind (Some k) = is_alike k kind
-
--- what a charge takes of a bucket of a kind, in its unit
-abbrev pub taken_by : BucketKind → Fact → Ledger → BucketAmount
-taken_by kind f older =
-    number_of (λ c. if is_of kind (kind_in c.bucket (credits older)) then c.amount else 0)
-    (counts f).charge
-
 -- the ledger before them
 abbrev pub before_charges : Ledger → Ledger
 before_charges [] = []
 before_charges (d ∷ older) = if is_charge d.fact then before_charges older else d ∷ older
 
--- what they take of the buckets of a kind
+-- what they take of the buckets of a kind, in its unit
 abbrev pub taken : BucketKind → Ledger → BucketAmount
 taken kind [] = 0
 taken kind (d ∷ older) =
-    if is_charge d.fact then taken_by kind d.fact older + taken kind older else 0
+    if is_charge d.fact then number_of
+    (λ c. if is_of kind (kind_in c.bucket (credits older)) then c.amount else 0)
+    (counts d.fact).charge + taken kind older else 0
+  where
+    kind_in : BucketNumber → List BucketRow → Option BucketKind
+    kind_in n [] = None
+    kind_in n (c ∷ cs) = if c.number == n then Some c.kind else kind_in n cs
+
+    is_of : BucketKind → Option BucketKind → Bool
+    is_of kind None = false
+    is_of kind (Some k) = is_alike k kind
 
 -- ---- a report
 
@@ -110,19 +105,19 @@ pub record IsPaidUse (b : Shelf) (reports : List Report) (t : Moment) (u : UseOf
   pub event : is_touched u.session (before_charges older) ≡ false →
       IsEvent b t u (before_charges older)
 
-abbrev pub without_last : List Report → List Report
-without_last [] = []
-without_last (r ∷ older) = older
-
--- the reports before a fact: without the last one where the fact is its use
-abbrev pub reports_without : Option UseOf → Ledger → List Report → List Report
-reports_without None older reports = reports
-reports_without (Some u) older reports =
-    if is_touched u.session (before_charges older) then without_last reports else reports
-
 -- each use of a ledger is paid, and each of the reports made one of them, in their order
 abbrev pub ArePaid : Shelf → List Report → Ledger → Type 0
 ArePaid b reports [] = reports ≡ []
 ArePaid b reports (d ∷ older) =
     IfSome (counts d.fact).usage (λ u. IsPaidUse b reports d.at u older)
     × ArePaid b (reports_without (counts d.fact).usage older reports) older
+  where
+    without_last : List Report → List Report
+    without_last [] = []
+    without_last (r ∷ older) = older
+
+    -- the reports before a fact: without the last one where the fact is its use
+    reports_without : Option UseOf → Ledger → List Report → List Report
+    reports_without None older reports = reports
+    reports_without (Some u) older reports =
+        if is_touched u.session (before_charges older) then without_last reports else reports
