@@ -1,7 +1,7 @@
 //! A socket that waits for its peer, but not for ever.
 
 ghost use Rattle.std.specs.Prelude.{◌≡◌, ◌-◌, ◌*◌, min, MatchOption};
-ghost use Rattle.core.specs.Duration.{as_nanos};
+ghost use Rattle.std.specs.Duration.{as_nanos};
 ghost use Rattle.http_api.specs.Words.{socket_seconds};
 
 use std::cell::Cell;
