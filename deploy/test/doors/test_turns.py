@@ -62,7 +62,6 @@ def test_one_who_asks_much_doesnt_keep_another_waiting(
         until(
             lambda: len(asking.ended) >= 20 and world.waiting() == 19,
             "20 refused, 19 that wait",
-            10,
         )
         assert collections.Counter(asking.ended) == {("pgw-1", 429): 20}
         asking.ask("pgw-2", 2)
@@ -74,7 +73,7 @@ def test_one_who_asks_much_doesnt_keep_another_waiting(
 
 def test_a_rate(world: World, at: Callable[..., Caller]) -> None:
     one, codes = at("shops", "shop-7").connection(), collections.Counter[int]()
-    for _ in range(200):
+    while not codes[429] and codes.total() < 2000:
         codes[asked(one, "GET", f"/accounts/{ACCOUNT}").status] += 1
     one.close()
     assert set(codes) == {200, 429} and codes[200] >= 30

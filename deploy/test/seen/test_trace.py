@@ -3,6 +3,7 @@ from __future__ import annotations
 
 import base64
 import contextlib
+import itertools
 import json
 import re
 import socket
@@ -10,7 +11,7 @@ import time
 from collections.abc import Callable
 
 import pytest
-from support.callers import Caller, debit, opened, refund, subscription
+from support.callers import Caller, asked, debit, opened, refund, subscription
 from support.waiting import until
 from support.world import World
 
@@ -124,9 +125,12 @@ def basic(name: str, password: str) -> str:
 
 def test_who_asks_too_often(world: World, script: Caller, at: At) -> None:
     account = opened(script, "49154", 1_000_000)
-    pgw = at("gateways", "pgw-1")
-    for at_time in range(12):
-        pgw.ask("POST", "/ccr", debit(account, f"r{at_time}"))
+    one, names = at("gateways", "pgw-1").connection(), itertools.count()
+    until(
+        lambda: asked(one, "POST", "/ccr", debit(account, f"r{next(names)}")).status == 429,
+        "a request too many",
+    )
+    one.close()
     found = [line for line in traced(world, account) if "turned away" in line]
     assert found
     assert all(line.endswith("turned away (429), it asked too often") for line in found)
