@@ -60,7 +60,8 @@ exec env -i container=ocs /lib/systemd/systemd --unit=sysinit.target --show-stat
 """
 JOIN = 'echo $$ > "$1/cgroup.procs"; shift; exec "$@"'
 FLAGS = ["--mount", "--pid", "--fork", "--net", "--uts", "--ipc", "--cgroup", "--kill-child"]
-SECONDS = 60
+# A machine with other work beside takes its time.
+SECONDS = 180
 NUMBERS = itertools.count(1)
 
 
@@ -78,6 +79,7 @@ class Machine:
         words = ["setpriv", "--pdeathsig", "KILL", "bash", "-c", JOIN, "bash", self.group]
         words += ["unshare", *FLAGS, "bash", "-c", MACHINE]
         words += ["bash", place, TOP, program(), FOLDER]
+        self.environment: list[str] = []
         self.errors = place.parent / "errors"
         with self.errors.open("wb") as errors:
             self.process = subprocess.Popen(
@@ -93,7 +95,7 @@ class Machine:
     def words(self, line: str) -> list[str]:
         """Words that run a line of bash in there, in the fresh folder."""
         enter = ["nsenter", "-t", self.first(), "-m", "-p", "-n", "-u", "-i", "-C"]
-        return [*enter, *CLEAN, "bash", "-c", f"cd {FOLDER} && {{ {line}\n}}"]
+        return [*enter, *CLEAN, *self.environment, "bash", "-c", f"cd {FOLDER} && {{ {line}\n}}"]
 
     def run(self, line: str, status: int | None = 0) -> subprocess.CompletedProcess[str]:
         """What bash gives for a line; a status that isn't the wanted one fails the test."""

@@ -1,86 +1,108 @@
-"""A month in little: each task of an operator over four shards that are asked all the time; at the end
-each balance is what the answers add up to, and an audit finds nothing."""
+"""A month of an office of four shards, and of a fifth: March 2027 in Berlin with its change of the clock,
+by Debian's faketime. Every answer is the one that tools/ledgers.py reckons, and so is every balance,
+statement and export in the end. Then rows are changed by hand.
+
+MONTH_SUBSCRIBERS says how many subscribers there are."""
 from __future__ import annotations
 
+import pathlib
 import time
-from collections.abc import Iterator
+from collections.abc import Callable, Iterator
 
 import pytest
 
-from month.machine import wait_until
-from month.stand import PRICE, Stand, doors, stand
+from month import tasks
+from month.played import SUBSCRIBERS, Month, played
+from month.tasks import MONTH
+from month.test_audit import BESIDE, CHANGES, changed, found
+from office.audit import together
+from office.tables import opened
 
 pytestmark = pytest.mark.slow
-FIRST, COUNT = 49_200, 48
-EVERYONE = [str(at) for at in range(FIRST, FIRST + COUNT)]
-VOUCHER = 5_000_000
+DAYS = 31
+Task = Callable[[Month], None]
 
 
-class Month:
-    """The office, and what each account has to have."""
-
-    def __init__(self, office: Stand) -> None:
-        self.office, self.day = office, 0
-        self.money = dict.fromkeys(EVERYONE, 9_000_000)
-
-    def passes(self, *lines: str) -> None:
-        """A day: everyone is asked while the lines are run; then a night's copies."""
-        self.day += 1
-        asks = self.office.asks(FIRST, COUNT, 1, f"day{self.day}-")
-        for line in lines:
-            self.office.run(line)
-        assert asks.communicate(timeout=600)[0].split()[0] == str(COUNT)
-        for account in EVERYONE:
-            self.money[account] -= PRICE
-        time.sleep(1)
-        self.office.run("office backups")
-
-    def is_right(self) -> None:
-        """Each balance is what it has to be."""
-        assert {account: self.office.available(account) for account in EVERYONE} == self.money
+def nothing(_: Month) -> None:
+    """A day on which an operator does nothing."""
 
 
-@pytest.fixture(name="office")
-def made() -> Iterator[Stand]:
-    with stand() as office:
-        yield office
+# What is done at noon and in the evening of a day.
+PLAN: dict[int, tuple[Task, Task]] = {
+    2: (nothing, tasks.upgrade),
+    3: (nothing, tasks.allowances),
+    4: (lambda month: tasks.redeem(month, 0, 4), nothing),
+    5: (nothing, tasks.bars),
+    7: (nothing, tasks.unbars),
+    8: (nothing, lambda month: tasks.new_book(month, 2, 11)),
+    9: (nothing, tasks.full_disk),
+    11: (nothing, tasks.keep),
+    12: (lambda month: tasks.redeem(month, 4, 8), tasks.restore),
+    15: (nothing, lambda month: tasks.carry(month, "03")),
+    16: (tasks.drill, tasks.audit),
+    17: (nothing, tasks.one_more),
+    20: (nothing, lambda month: tasks.new_book(month, 3, 22)),
+    23: (nothing, tasks.audit),
+    26: (lambda month: tasks.redeem(month, 8, 12), nothing),
+}
 
 
-def set_up(office: Stand) -> Month:
-    """Accounts with money, and vouchers."""
-    rows = "".join(f"{account},9000000\n" for account in EVERYONE)
-    office.machine.write("/tmp/new.csv", "account,amount\n" + rows)
-    codes = "".join(f"{at:012},{VOUCHER},30,\n" for at in range(1, 9))
-    office.machine.write("/tmp/v.csv", "code,amount,days,scope\n" + codes)
-    office.run("office load /tmp/new.csv; office clearing --write; office import /tmp/v.csv")
-    return Month(office)
+@pytest.fixture(scope="module", name="month")
+def made() -> Iterator[Month]:
+    with played() as month:
+        yield month
 
 
-def test_a_month(office: Stand) -> None:
-    month = set_up(office)
-    month.passes()
-    month.passes(*(f"office redeem {at + 1:012} {EVERYONE[at]}" for at in range(6)))
-    for account in EVERYONE[:6]:
-        month.money[account] += VOUCHER
-    office.run(f"office bar {EVERYONE[0]} {EVERYONE[1]}")
-    assert office.debit(EVERYONE[0], "barred")["Result-Code"] == 4010
-    office.run(f"office unbar {EVERYONE[0]} {EVERYONE[1]}")
-    month.passes("systemctl kill -s KILL ocs@03", "sleep 1; systemctl kill -s KILL ocs@01")
-    month.passes("office book examples/later-book.toml --from 2030-01-01T00:00")
-    month.is_right()
-    drill = office.run("office restore 02 --drill")
-    assert "lost nothing" in drill
-    office.run("office restore 02")
-    month.passes()
-    office.run("office carry 03")
-    month.passes()
-    month.is_right()
-    doors(office.machine, 1)
-    office.run("office new-shard 05; systemctl start ocs@05")
-    wait_until(lambda: office.is_up("05"), "the new shard")
-    month.passes("office move --from 01 --to 05 --half")
-    month.is_right()
-    told = office.machine.run("office audit --sums /tmp/sums")
-    assert told.stderr.endswith("findings 0 in 5 databases\n")
-    made = office.run("office statements $(date -u +%Y%m) /tmp/statements")
-    assert sum(int(row.split()[1]) for row in made.splitlines()) >= COUNT
+def test_a_month(month: Month) -> None:
+    begun = time.monotonic()
+    tasks.first_day(month)
+    for day in range(1, DAYS + 1):
+        if day == 28:
+            tasks.summer_time(month)
+        noon, evening = PLAN.get(day, (nothing, nothing))
+        month.passes(lambda: noon(month), lambda: evening(month))
+        seconds = time.monotonic() - begun
+        print(f"day {day}: {month.counts}, again {month.doors.again}, {seconds:.0f} s", flush=True)
+    tasks.last_hour(month)
+    month.balances(month.clock.now)
+    for each in (MONTH, "202704"):
+        texts_are_right(month, each)
+    told = month.word("office audit --sums /tmp/sums")
+    assert told == "findings 0 in 5 databases\n"
+    print(f"{SUBSCRIBERS} subscribers: {month.counts}, again {month.doors.again}", flush=True)
+
+
+def texts_are_right(month: Month, number: str) -> None:
+    """Each statement and export of a month is the model's."""
+    month.word(f"office statements {number} /tmp/statements-{number}")
+    month.word(f"office exports {number} /tmp/exports-{number}")
+    everyone = [*month.accounts, *month.model.clearings.values()]
+    for account in everyone:
+        one, home = month.model.office.accounts[account], month.doors.homes[account]
+        for kind, ending in (("statements", "txt"), ("exports", "csv")):
+            file = month.root / f"tmp/{kind}-{number}/{home}/{account}.{ending}"
+            wanted = (
+                one.export(number) if ending == "csv" else one.statement(number, month.clock.now)
+            )
+            assert file.read_text(encoding="utf-8") == wanted, account
+            month.counts["texts"] += 1
+
+
+def test_rows_that_another_hand_changed(month: Month, tmp_path: pathlib.Path) -> None:
+    month.office.run("office backup 04 /tmp/04.db")
+    source, seen = month.fetched("/tmp/04.db"), 0
+    assert found(source) == []
+    for number, (what, change) in enumerate(CHANGES.items()):
+        copy = tmp_path / f"{number}.db"
+        rows = changed(source, copy, change)
+        assert rows == 0 or found(copy) != [], what
+        seen += rows > 0
+        print(f"{what}: {'found' if rows else 'no such row'}", flush=True)
+    assert seen >= 20
+    for number, (what, change) in enumerate(BESIDE.items()):
+        copy = tmp_path / f"beside-{number}.db"
+        assert changed(source, copy, change) > 0
+        with opened(copy) as database:
+            assert list(together.since("04", database, source)) != [], what
+        alone = "found" if found(copy) else "not to be found in one copy, found"
+        print(f"{what}: {alone} beside an earlier one", flush=True)

@@ -1,0 +1,53 @@
+"""A machine's clock in the hands of a test: Debian's faketime in front of each process that asks it.
+
+Shards and words see a clock that stands at the moment that was set last, so that everything that is
+answered between two settings has one moment. HAProxy's clock goes on from there, since its waits are
+measured by it. Who was started before sees a new moment at its next look."""
+from __future__ import annotations
+
+import time
+
+from month.machine import Machine
+
+LIBRARY = "/usr/lib/x86_64-linux-gnu/faketime/libfaketime.so.1"
+STANDS, GOES_ON = "/run/clock-stands", "/run/clock-goes-on"
+ENVIRONMENT = [
+    f"LD_PRELOAD={LIBRARY}",
+    f"FAKETIME_TIMESTAMP_FILE={STANDS}",
+    "FAKETIME_FMT=%s",
+    "FAKETIME_NO_CACHE=1",
+    # What is waited for is waited for: the clock of waits isn't touched.
+    "FAKETIME_DONT_FAKE_MONOTONIC=1",
+    # A program with checks of memory would ask the clock while it looks for its functions.
+    "ASAN_OPTIONS=allocator_release_to_os_interval_ms=-1",
+]
+# Python sleeps until a moment of the clock of waits, which faketime takes for one of the other clock.
+SLEEP = (
+    "import select, time; "
+    "time.sleep = lambda seconds, wait=select.select: wait([], [], [], seconds) and None\n"
+)
+SET_UP = f"""
+set -e
+printf '[Service]\\nEnvironment=FAKETIME_TIMESTAMP_FILE={GOES_ON}\\n' > /run/clock.conf
+install -D -m 644 /run/clock.conf /etc/systemd/system/haproxy.service.d/clock.conf
+systemctl daemon-reload
+systemctl set-environment {' '.join(ENVIRONMENT)}
+"""
+
+
+class Clock:
+    """The clock of a machine, which stands."""
+
+    def __init__(self, made: Machine, moment: int) -> None:
+        self.machine, self.now = made, moment
+        made.write("$(python3 -c 'import site; print(site.getsitepackages()[0])')/clock.pth", SLEEP)
+        self.set(moment)
+        made.run(SET_UP)
+        made.environment = ENVIRONMENT
+
+    def set(self, moment: int) -> None:
+        """Sets it: never back, but for those who want to see what becomes of it."""
+        self.now = moment
+        lines = {STANDS: str(moment), GOES_ON: f"+{moment - int(time.time())}"}
+        for path, line in lines.items():
+            self.machine.write(f"{path}.new && chmod 644 {path}.new && mv {path}.new {path}", line)
