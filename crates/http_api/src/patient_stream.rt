@@ -1,6 +1,6 @@
 //! A socket that waits for its peer, but not for ever.
 
-ghost use Rattle.std.specs.Prelude.{◌≡◌, ◌-◌, ◌*◌, min, MatchOption};
+ghost use Rattle.std.specs.Prelude.{◌≡◌, ◌-◌, ◌*◌, ◌<◌, min, MatchOption};
 ghost use Rattle.std.specs.Duration.{as_nanos};
 ghost use Rattle.http_api.specs.Words.{socket_seconds};
 
@@ -75,7 +75,7 @@ impl<'s> PatientStream<'s> {
 /// How long the next read or write may take, of what is left for all; nothing if nothing is left.
 fn next_wait(left: Duration) -> Option<Duration>
     ensures { MatchOption result (as_nanos left ≡ 0)
-        (λ wait. as_nanos wait ≡ min (as_nanos left) (socket_seconds * 1_000_000_000)) }
+        (λ wait. (0 < as_nanos wait) × (as_nanos wait ≡ min (as_nanos left) (socket_seconds * 1_000_000_000))) }
 {
     let longest = Duration::from_secs(SOCKET_SECONDS);
     if left.is_zero() {
