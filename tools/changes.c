@@ -18,6 +18,7 @@
 
 static char change[32], word[32];
 static int is_export;
+static int (*next_clock)(clockid_t, struct timespec *);
 
 static int is(const char *name) { return strcmp(change, name) == 0; }
 
@@ -40,6 +41,7 @@ __attribute__((constructor)) static void begin(int count, char **words) {
     snprintf(change, sizeof change, "%s", getenv("CHANGE") ? getenv("CHANGE") : "");
     snprintf(word, sizeof word, "%s", count > 1 ? words[1] : "");
     is_export = count > 1 && strcmp(words[count - 1], "--csv") == 0;
+    next_clock = (int (*)(clockid_t, struct timespec *))dlsym(RTLD_NEXT, "clock_gettime");
     if (is("another-status"))
         on_exit(end_otherwise, NULL);
     if (is("another-row") && count > 4 && strcmp(word, "credit") == 0)
@@ -224,9 +226,7 @@ int fsync(int file) { return is("no-sync") ? 0 : syscall(SYS_fsync, file); }
 
 int clock_gettime(clockid_t clock, struct timespec *now) {
     static struct timespec first;
-    static int (*next)(clockid_t, struct timespec *);
-    next = next ? next : (int (*)(clockid_t, struct timespec *))dlsym(RTLD_NEXT, "clock_gettime");
-    int failed = next(clock, now);
+    int failed = next_clock ? next_clock(clock, now) : (int)syscall(SYS_clock_gettime, clock, now);
     if (clock != CLOCK_REALTIME || !is("clock-stops"))
         return failed;
     if (first.tv_sec == 0)
