@@ -60,6 +60,7 @@ def process(settings: Settings) -> list[str]:
         "    # A process that was replaced ends its requests, and then lets its shards go.",
         f"    hard-stop-after {overlap(settings)}s",
         "    set-var proc.begun date()",
+        f"    lua-load {pathlib.Path(__file__).with_name('woken.lua')}",
     ]
     made += waits_for_moves(settings)
     return made + ([f"    user {proxy.user}", f"    group {proxy.user}"] if proxy.user else [])

@@ -2,7 +2,9 @@
 from __future__ import annotations
 
 import collections
+import itertools
 import json
+import select
 import socket
 import threading
 import time
@@ -14,6 +16,7 @@ from support.waiting import until
 from support.world import SHARDS, World
 
 ACCOUNT = "70006"
+TURNS, GOING = 10, 64
 UNABLE = '{"Result-Code":5012}'
 
 
@@ -25,13 +28,18 @@ def home(world: World) -> int:
     return int(script.ask("GET", f"/accounts/{ACCOUNT}").shard)
 
 
-def sent(world: World, session: str) -> socket.socket:
+def asked_bytes(world: World, session: str, account: str) -> bytes:
+    """A debit as it is sent."""
+    body = json.dumps(debit(account, session))
+    head = f"POST /ccr HTTP/1.1\r\nHost: 127.0.0.1:{world.doors['here']}\r\n"
+    head += f"Content-Type: application/json\r\nContent-Length: {len(body)}\r\n\r\n"
+    return (head + body).encode()
+
+
+def sent(world: World, session: str, account: str = ACCOUNT) -> socket.socket:
     """A connection over which a debit was sent."""
-    body = json.dumps(debit(ACCOUNT, session))
-    port = world.doors["here"]
-    head = f"POST /ccr HTTP/1.1\r\nHost: 127.0.0.1:{port}\r\nContent-Type: application/json\r\n"
-    peer = socket.create_connection(("127.0.0.1", port))
-    peer.sendall(f"{head}Content-Length: {len(body)}\r\n\r\n{body}".encode())
+    peer = socket.create_connection(("127.0.0.1", world.doors["here"]))
+    peer.sendall(asked_bytes(world, session, account))
     return peer
 
 
@@ -81,6 +89,29 @@ def test_a_gateway_that_is_gone_in_an_instant(
     """HAProxy gives up the one under way, and hands on some before it sees that they are gone."""
     charged, ended = charged_of(world, at, home, is_at_once=True)
     assert charged <= 10 and ended >= 20
+
+
+def asked_until_they_go(world: World, account: str, turn: int) -> None:
+    """Connections that ask without a pause for a while, and close with their requests under way."""
+    names = (f"held-{turn}-{one}" for one in itertools.count())
+    peers = [sent(world, next(names), account) for _ in range(GOING)]
+    end = time.monotonic() + 0.7
+    while time.monotonic() < end:
+        for peer in select.select(peers, [], [], 0.1)[0]:
+            peer.recv(65536)
+            peer.sendall(asked_bytes(world, next(names), account))
+    for peer in peers:
+        peer.close()
+
+
+def test_gateways_that_go_hold_nobody(world: World, at: Callable[..., Caller]) -> None:
+    """A client may go in the instant in which its turn comes: who waits behind it is asked soon."""
+    account = opened(at("scripts"), "70020", 10**12)
+    for turn in range(TURNS):
+        asked_until_they_go(world, account, turn)
+        begun, last = time.monotonic(), debit(account, f"held-{turn}")
+        assert at("here").patient(60).ask("POST", "/ccr", last).status == 200
+        assert time.monotonic() - begun < 10, "it waited until the time of another's turn was over"
 
 
 def test_three_that_wait_for_six_seconds_are_answered(
