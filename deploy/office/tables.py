@@ -14,7 +14,7 @@ from typing import Any
 
 from office.faults import Refused
 
-# The version of the tables (docs/FORMATS.md) that this reader knows.
+# The version of the tables (docs/TABLES.md) that this reader knows.
 VERSION = 3
 Row = dict[str, Any]
 
