@@ -16,6 +16,7 @@ from typing import Any
 
 from diameter.wire import PATIENCE
 from support import ports, world
+from support.ahead import ahead
 from support.callers import Caller
 from support.waiting import until
 
@@ -53,8 +54,8 @@ at = "{place}/office.sock"
 
 
 class Office(world.World):
-    """Two shards behind the doors. `moment` is their clock, and none the machine's. `later` is a book
-    and when it begins."""
+    """Two shards behind the doors. `moment` is where their clock stands; without one it goes on, so
+    many seconds `ahead` of the machine's. `later` is a book and when it begins."""
 
     def __init__(
         self, place: pathlib.Path, moment: int | None = None, book: pathlib.Path = world.BOOK
@@ -68,7 +69,7 @@ class Office(world.World):
             text = text.replace("{" + name + "}", str(port))
         place.mkdir(parents=True, exist_ok=True)
         super().__init__(place, text, doors)
-        self.moment = moment
+        self.moment, self.ahead = moment, 0
         self.script = Caller(self, place / "office.sock")
 
     def up(self) -> Office:
@@ -87,8 +88,11 @@ class Office(world.World):
         words = [world.program(), "serve", self.database(at), "--port", port]
         words += ["--connections", 1000000]
         words += [] if self.moment is None else ["--at", self.moment]
+        shown = os.environ | ahead(self.ahead) if self.ahead else None
         with (self.place / "errors").open("ab") as errors:
-            self.shards[at] = subprocess.Popen(list(map(str, words)), stderr=errors, **world.QUIET)
+            self.shards[at] = subprocess.Popen(
+                list(map(str, words)), stderr=errors, env=shown, **world.QUIET
+            )
         until(lambda: ports.listens(port), f"shard {at}", PATIENCE)
 
     def moved(self, moment: int, later: pathlib.Path | None = None, begins: int = 0) -> None:

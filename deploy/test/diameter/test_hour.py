@@ -1,5 +1,6 @@
-"""Kamailio's calls over a longer time, in which a later tariff book begins and the clock is changed: each
-charge is what the capture says was reported, at the price of its grant's moment; memory stays flat.
+"""Kamailio's calls over a longer time, in which the clock runs over its change and a later tariff book
+begins: each charge is what the capture says was reported, at the price of its grant's moment; memory
+stays flat.
 
 OCS_DIAMETER_SECONDS is how long calls begin: 3600 for an hour, 600 where it isn't set."""
 from __future__ import annotations
@@ -21,12 +22,13 @@ from diameter.kamailio import CREDIT, Calls, key_of, messages, shown, used_in
 pytestmark = pytest.mark.slow
 
 SECONDS = int(os.environ.get("OCS_DIAMETER_SECONDS", "600"))
-# The clock of Berlin goes from 02:00 to 03:00. The shards stand at three moments, each for a third of
-# the time: ten minutes before it, as many behind it, and an hour later, when another book has begun.
-CHANGE = int(datetime.datetime(2026, 3, 29, 1, tzinfo=datetime.timezone.utc).timestamp())
-LATER = CHANGE + 1800
-MOMENTS = (CHANGE - 600, CHANGE + 600, LATER + 1800)
-# Micro-units of a second at these moments.
+# The shards' clock goes on while calls are made. A third of the time behind their begin the clock of
+# Berlin goes from 02:00 to 03:00, and after another third, at a whole minute, a later book begins.
+CHANGE = int(datetime.datetime(2027, 3, 28, 1, tzinfo=datetime.timezone.utc).timestamp())
+LATER = CHANGE + max(1, SECONDS // 180) * 60
+# Seconds from the making of the office to the first call, about.
+MAKING = 60
+# Micro-units of a second up to the change, up to the later book, and from there on.
 PRICES = (1000, 2000, 5000)
 BOOKS = ({"late": 1000, "day": 2000}, {"late": 3000, "day": 5000})
 BOOK = """zone = "CET-1CEST,M3.5.0,M10.5.0/3"
@@ -88,24 +90,23 @@ def sessions(calls: Calls) -> dict[str, dict[str, list[Asked]]]:
 
 
 class Clock:
-    """When the shards were stopped for the moments behind the first, and when they were up again."""
+    """The shards' clock, so many seconds ahead of the machine's, by which the capture is."""
 
-    def __init__(self) -> None:
-        self.turns: list[tuple[float, float]] = []
+    def __init__(self, ahead: int) -> None:
+        self.ahead = ahead
 
-    def turn(self, office: Office) -> None:
-        """Has the shards stand at the next moment."""
-        stopped = time.time()
-        office.moved(MOMENTS[len(self.turns) + 1])
-        self.turns.append((stopped, time.time()))
+    def is_past(self, moment: int) -> bool:
+        """Whether this moment is over."""
+        return time.time() + self.ahead > moment + 1
 
     def prices(self, row: Asked) -> set[int]:
-        """A second's price at the moment of a request: two, where a turn was while it was asked."""
-        begins = [0.0, *(stopped for stopped, _ in self.turns)]
-        ends = [*(up for _, up in self.turns), math.inf]
-        last = row.answered or row.asked + 60
-        spans = zip(PRICES, begins, ends)
-        return {each for each, begin, end in spans if row.asked <= end and last >= begin}
+        """A second's price at the moment of a request: two, where it was asked before the price's
+        change and answered behind it."""
+        first = math.floor(row.asked + self.ahead)
+        last = math.floor((row.answered or row.asked + 60) + self.ahead)
+        begins, ends = (-math.inf, CHANGE, LATER), (CHANGE, LATER, math.inf)
+        rows = zip(PRICES, begins, ends)
+        return {each for each, begin, end in rows if first < end and last >= begin}
 
     def charges(self, rows: list[Asked]) -> set[int]:
         """What a session may have been charged: each report at the price of the grant before it. What
@@ -129,13 +130,19 @@ class Clock:
 
 
 @pytest.fixture
-def calls(home: pathlib.Path, tmp_path: pathlib.Path) -> Iterator[Calls]:
-    """The parts of a call, with an office before the change of the clock, which has the later book."""
+def clock() -> Clock:
+    """A clock that has a third of the time before its change, once all is made."""
+    return Clock(CHANGE - SECONDS // 3 - MAKING - int(time.time()))
+
+
+@pytest.fixture
+def calls(home: pathlib.Path, tmp_path: pathlib.Path, clock: Clock) -> Iterator[Calls]:
+    """The parts of a call, with an office that has the later book."""
     book, later = tmp_path / "book.toml", tmp_path / "later.toml"
     book.write_text(BOOK % BOOKS[0])
     later.write_text(BOOK % BOOKS[1])
-    office = Office(tmp_path / "office", MOMENTS[0], book)
-    office.later = later, LATER
+    office = Office(tmp_path / "office", book=book)
+    office.ahead, office.later = clock.ahead, (later, LATER)
     calls = Calls(home, tmp_path, office=office)
     try:
         yield calls.up()
@@ -144,46 +151,53 @@ def calls(home: pathlib.Path, tmp_path: pathlib.Path) -> Iterator[Calls]:
 
 
 def watched(calls: Calls, clock: Clock, process: subprocess.Popen[bytes]) -> list[int]:
-    """The bridge's resident KiB, every ten seconds until the calls have ended. After each third of the
-    time the clock is turned, and the bridge reads its configuration again, as for a later book."""
-    memory, began = list[int](), time.monotonic()
+    """The bridge's resident KiB, every ten seconds until the calls have ended. It reads its
+    configuration again when the later book has begun."""
+    memory, began, is_read = list[int](), time.monotonic(), False
     while process.poll() is None:
-        past = time.monotonic() - began
-        assert past < 2 * SECONDS + 600, "the calls don't end"
-        if len(clock.turns) < 2 and past > SECONDS * (len(clock.turns) + 1) / 3:
-            clock.turn(calls.office)
+        assert time.monotonic() - began < 2 * SECONDS + 600, "the calls don't end"
+        if not is_read and clock.is_past(LATER):
             calls.bridge.reload()
+            is_read = True
         time.sleep(10)
         memory.append(calls.bridge.memory())
     return memory
 
 
-def test_calls_over_a_change_of_the_clock_and_a_later_book(calls: Calls) -> None:
-    clock = Clock()
+def test_calls_over_a_change_of_the_clock_and_a_later_book(calls: Calls, clock: Clock) -> None:
     accounts = [calls.office.account(f"4917{at:03}", CREDIT) for at in range(ACCOUNTS)]
     callers = [accounts[at % ACCOUNTS] for at in range(SECONDS)]
+    assert not clock.is_past(CHANGE), "the change of the clock is past before the first call"
     process = calls.call(callers, ms=CALL_MS, rate=1, seconds=2 * SECONDS + 300)
     memory = watched(calls, clock, process)
     time.sleep(15)
     seen = sessions(calls)
     rows = [row for parts in seen.values() for each in parts.values() for row in each]
     answers = [row.code for row in rows]
+    over = sum(spans(clock, each, CHANGE) for parts in seen.values() for each in parts.values())
+    later = sum(spans(clock, each, LATER) for parts in seen.values() for each in parts.values())
     charged = compared(calls, clock, accounts, seen)
     count, bad, lengths = calls.frames()
     third = len(memory) // 3
     early, late = statistics.median(memory[third : 2 * third]), statistics.median(memory[-third:])
     told = (
-        f"{SECONDS} s: {len(callers)} calls, {sum(map(len, seen.values()))} sessions, {len(rows)}"
-        f" requests, {answers.count('2001')} answered 2001, {sum(row.used for row in rows)} s"
-        f" reported, {charged} micro-units charged; {count} frames, {len(bad)} malformed, {lengths}"
-        f" with Kamailio's length; resident KiB {early:.0f}, then {late:.0f}; sipp"
-        f" {process.returncode}"
+        f"{SECONDS} s: {len(callers)} calls, {sum(map(len, seen.values()))} sessions, {over} over the"
+        f" change and {later} over the later book's begin, {len(rows)} requests,"
+        f" {answers.count('2001')} answered 2001, {sum(row.used for row in rows)} s reported,"
+        f" {charged} micro-units charged; {count} frames, {len(bad)} malformed, {lengths} with"
+        f" Kamailio's length; resident KiB {early:.0f}, then {late:.0f}; sipp {process.returncode}"
     )
     print(told)
-    assert set.union(*map(clock.prices, rows)) == set(PRICES), told
+    assert set.union(*map(clock.prices, rows)) == set(PRICES) and over and later, told
     assert answers.count("2001") > 0.95 * len(rows) > SECONDS, told
     assert not bad, bad[:5]
     assert late < early + 8192, memory
+
+
+def spans(clock: Clock, rows: list[Asked], moment: int) -> bool:
+    """Whether a session has requests before a moment and behind it."""
+    asked = [row.asked + clock.ahead for row in rows]
+    return asked[0] < moment < asked[-1]
 
 
 def compared(

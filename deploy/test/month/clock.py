@@ -8,18 +8,14 @@ from __future__ import annotations
 import time
 
 from month.machine import Machine
+from support.ahead import FAKETIME
 
-LIBRARY = "/usr/lib/x86_64-linux-gnu/faketime/libfaketime.so.1"
 STANDS, GOES_ON = "/run/clock-stands", "/run/clock-goes-on"
 ENVIRONMENT = [
-    f"LD_PRELOAD={LIBRARY}",
+    *(f"{name}={value}" for name, value in FAKETIME.items()),
     f"FAKETIME_TIMESTAMP_FILE={STANDS}",
     "FAKETIME_FMT=%s",
     "FAKETIME_NO_CACHE=1",
-    # What is waited for is waited for: the clock of waits isn't touched.
-    "FAKETIME_DONT_FAKE_MONOTONIC=1",
-    # A program with checks of memory would ask the clock while it looks for its functions.
-    "ASAN_OPTIONS=allocator_release_to_os_interval_ms=-1",
 ]
 # Python sleeps until a moment of the clock of waits, which faketime takes for one of the other clock.
 SLEEP = (
