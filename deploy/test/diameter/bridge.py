@@ -23,6 +23,8 @@ from support.waiting import until
 SOURCE = world.DEPLOY / "diameter"
 BOOK_OF_CALLS = pathlib.Path(__file__).resolve().parent / "calls/book.toml"
 UNITS = "#{10 => time, 20 => octets, 30 => events}"
+# The code of 5,000,000 micro-units that each shard has.
+CODES = {1: "123456789012", 2: "123456789013"}
 # Monday, 5 January 2026, 10:00 UTC: the peak of examples/book.toml.
 MONDAY_10 = 1767607200
 FILE = """
@@ -76,6 +78,9 @@ class Office(world.World):
         """Makes the shards and starts all."""
         for at in (1, 2):
             world.done(world.program(), "init", self.database(at), self.book)
+            code = self.place / "code.csv"
+            code.write_text(f"code,amount,days,scope\n{CODES[at]},5000000,30,\n")
+            world.done(*self.shard_words("import", at), code, *self.at())
             if self.later:
                 world.done(*self.shard_words("book", at), self.later[0], "--from", self.later[1])
             self.start(at)
@@ -87,13 +92,17 @@ class Office(world.World):
         port = self.first + at
         words = [world.program(), "serve", self.database(at), "--port", port]
         words += ["--connections", 1000000]
-        words += [] if self.moment is None else ["--at", self.moment]
+        words += self.at()
         shown = os.environ | ahead(self.ahead) if self.ahead else None
         with (self.place / "errors").open("ab") as errors:
             self.shards[at] = subprocess.Popen(
                 list(map(str, words)), stderr=errors, env=shown, **world.QUIET
             )
         until(lambda: ports.listens(port), f"shard {at}", PATIENCE)
+
+    def at(self) -> list[object]:
+        """The option of the moment, where their clock stands."""
+        return [] if self.moment is None else ["--at", self.moment]
 
     def moved(self, moment: int, later: pathlib.Path | None = None, begins: int = 0) -> None:
         """Starts the shards again at a moment, perhaps with a later book."""
@@ -107,10 +116,9 @@ class Office(world.World):
 
     def bar(self, account: str) -> None:
         """Bars an account, while its shard is away."""
-        shard = int(self.script.ask("GET", f"/accounts/{account}").shard)
+        shard = self.shard(account)
         self.kill(shard)
-        at = [] if self.moment is None else ["--at", self.moment]
-        world.done(*self.shard_words("bar", shard), account, *at)
+        world.done(*self.shard_words("bar", shard), account, *self.at())
         self.start(shard)
 
     def shard_words(self, word: str, at: int) -> list[str]:
@@ -125,6 +133,10 @@ class Office(world.World):
             credit = f"/accounts/{number}/credits"
             until(lambda: self.script.ask("POST", credit, body).status == 200, credit)
         return number
+
+    def shard(self, number: str) -> int:
+        """The shard of an account."""
+        return int(self.script.ask("GET", f"/accounts/{number}").shard)
 
     def sums(self, number: str) -> tuple[int, int, int, int]:
         """What was credited to an account, is available, reserved, charged."""

@@ -10,7 +10,7 @@ from collections.abc import Iterator
 from typing import Any
 
 import pytest
-from diameter.bridge import Bridge, Office
+from diameter.bridge import CODES, Bridge, Office
 from diameter.wire import RAR, Gateway, ccr, octets, seconds, service
 from support.waiting import until
 from support.world import BOOK, OFFICE, TOP
@@ -103,17 +103,22 @@ def test_top_ups_by_word(office: Office, bridge: Bridge) -> None:
         assert office.office("credited", *words).returncode == 2
 
 
-BODIES: dict[str, tuple[str, dict[str, Any]]] = {
-    "49810": ("/accounts/49810/credits", {"Amount": 10**6, "Reference": "more"}),
-    "49811": ("/accounts/49811/allowances", {"Blocks": 5, "Scope": 10, "Reference": "more"}),
-}
+def top_ups(office: Office) -> list[tuple[str, dict[str, Any]]]:
+    """A credit, an allowance and a redemption, of an account each."""
+    more: dict[str, Any] = {"Reference": "more"}
+    code = CODES[office.shard("49812")]
+    return [
+        ("/accounts/49810/credits", {"Amount": 10**6} | more),
+        ("/accounts/49811/allowances", {"Blocks": 5, "Scope": 10} | more),
+        (f"/vouchers/{code}/redeem", {"Subscription-Id-Data": "49812"} | more),
+    ]
 
 
 def test_top_ups_of_the_doors_log(office: Office, bridge: Bridge) -> None:
     log = office.log
     text = office.text.replace("[haproxy]\n", f'[haproxy]\nlog = "{log}"\n')
     office.write(text + f'[diameter]\nbridges = ["127.0.0.1:{bridge.watch}"]\n')
-    gateways = {account: final(office, bridge, account) for account in BODIES}
+    gateways = [final(office, bridge, account) for account in ("49810", "49811", "49812")]
     words = [str(OFFICE), "--file", str(office.file), "credited", "--follow"]
     with subprocess.Popen(words, stdout=subprocess.PIPE, text=True) as following:
         try:
@@ -128,15 +133,16 @@ def test_top_ups_of_the_doors_log(office: Office, bridge: Bridge) -> None:
             probes: list[int] = []
             office.account("49800")
             until(follows, "the first line")
-            for path, body in BODIES.values():
-                assert office.script.ask("POST", path, body).status == 200
+            for path, body in top_ups(office):
+                answer = office.script.ask("POST", path, body)
+                assert answer.status == 200 and "Bucket" in answer.body, (path, answer)
             # What is refused isn't told of.
             office.script.ask("POST", "/accounts/4/credits", {"Amount": 1, "Reference": "x"})
-            for gateway in gateways.values():
+            for gateway in gateways:
                 assert len(gateway.asked(RAR)) == 1
         finally:
             following.kill()
-    for gateway in gateways.values():
+    for gateway in gateways:
         gateway.close()
 
 
