@@ -1,5 +1,5 @@
 """Kamailio's ims_charging as a client of the bridge, SIP calls by sipp, freeDiameter as a relay, and a
-capture that tshark takes apart."""
+capture of all of it."""
 from __future__ import annotations
 
 import dataclasses
@@ -10,11 +10,11 @@ import signal
 import socket
 import subprocess
 import time
-import xml.etree.ElementTree
-from collections.abc import Iterator, Sequence
+from collections.abc import Sequence
 from typing import Any
 
 from diameter.bridge import BOOK_OF_CALLS, Bridge, Office
+from diameter.capture import Capture, Element, is_request, shown
 from support import ports, world
 from support.waiting import until
 
@@ -63,8 +63,8 @@ class Calls:
             ports.free() for _ in range(5)
         )
         self.running: dict[str, subprocess.Popen[bytes]] = {}
-        self.ports = [self.bridge.port] + ([self.relay] if is_relayed else [])
-        self.capture = place / "capture.pcapng"
+        captured = [self.bridge.port] + ([self.relay] if is_relayed else [])
+        self.capture = Capture(place / "capture.pcapng", captured)
         self.filled()
 
     def filled(self) -> None:
@@ -89,9 +89,7 @@ class Calls:
 
     def up(self) -> Calls:
         """Starts all; the gateway is connected afterwards."""
-        which = " or ".join(f"tcp port {port}" for port in self.ports)
-        self.begin("tshark", "tshark", "-q", "-i", "lo", "-f", which, "-w", self.capture)
-        until(lambda: "Capture started" in self.told("tshark"), "the capture")
+        self.capture.start()
         if self.is_relayed:
             key = ["-keyout", self.place / "relay.key", "-out", self.place / "relay.pem"]
             new = [
@@ -139,16 +137,12 @@ class Calls:
             )
         return self.running[name]
 
-    def told(self, name: str) -> str:
-        """What a process has printed."""
-        return (self.place / f"{name}.out").read_text(errors="replace")
-
-    def stop(self, name: str, number: signal.Signals = signal.SIGTERM) -> None:
+    def stop(self, name: str) -> None:
         """Ends a process and its group."""
         process = self.running.pop(name, None)
         if process is None:
             return
-        process.send_signal(number)
+        process.terminate()
         try:
             process.wait(60)
         except subprocess.TimeoutExpired:
@@ -163,6 +157,7 @@ class Calls:
         """Ends all."""
         for name in list(self.running):
             self.stop(name)
+        self.capture.stop()
         self.bridge.stop()
         self.office.end()
 
@@ -192,11 +187,11 @@ class Calls:
         """What the capture says was reported, by account; each key of a session once."""
         asked: dict[tuple[str, str], tuple[Key, int]] = {}
         sure: dict[Key, int] = {}
-        for stream, _, one in messages(self.capture, self.ports[:1]):
+        for stream, _, one in self.capture.messages(self.bridge.port):
             if shown(one, "diameter.cmd.code") != "272":
                 continue
             hop = stream, shown(one, "diameter.hopbyhopid")
-            if shown(one, "diameter.flags.request") in ("1", "True"):
+            if is_request(one):
                 asked[hop] = key_of(one), used_in(one)
             elif hop in asked:
                 key, seconds = asked[hop]
@@ -231,15 +226,10 @@ class Calls:
     def frames(self) -> tuple[int, list[list[str]], int]:
         """Frames of Diameter; those that are malformed; and those in which Kamailio's
         User-Equipment-Info-Value has a length that tshark doesn't know."""
-        self.stop("tshark", signal.SIGINT)
-        every = fields(self.capture, self.ports, "diameter", "frame.number")
-        which = "_ws.malformed or _ws.expert.severity >= 8388608"
-        faults = fields(
-            self.capture, self.ports, which, "frame.number", "tcp.srcport", "_ws.expert.message"
-        )
-        own = str(self.bridge.port)
+        self.capture.stop()
+        faults, own = self.capture.faults(), str(self.bridge.port)
         bad = [row for row in faults if row[1] == own or "User-Equipment-Info-Value" not in row[2]]
-        return len(every), bad, len(faults) - len(bad)
+        return self.capture.count(), bad, len(faults) - len(bad)
 
 
 def connects(port: int) -> bool:
@@ -248,62 +238,14 @@ def connects(port: int) -> bool:
         return one.connect_ex(("127.0.0.1", port)) == 0
 
 
-def decoded(ports_: Sequence[int]) -> list[str]:
-    """Words of tshark that take these ports for Diameter's."""
-    return [word for port in ports_ for word in ("-d", f"tcp.port=={port},diameter")]
-
-
-def messages(
-    capture: pathlib.Path, ports_: Sequence[int]
-) -> Iterator[tuple[str, float, xml.etree.ElementTree.Element]]:
-    """The stream, the moment and the element of each message as tshark takes it apart. A frame at a
-    time is kept."""
-    words = ["tshark", "-r", str(capture), "-Y", "diameter", "-T", "pdml", *decoded(ports_)]
-    with subprocess.Popen(words, stdout=subprocess.PIPE, stderr=subprocess.DEVNULL) as process:
-        assert process.stdout
-        for _, packet in xml.etree.ElementTree.iterparse(process.stdout):
-            if packet.tag == "packet":
-                stream, moment = shown(packet, "tcp.stream"), value(packet, "timestamp")
-                for each in packet.iter("proto"):
-                    if each.get("name") == "diameter":
-                        yield stream, float(moment), each
-                packet.clear()
-
-
-def fields(
-    capture: pathlib.Path, ports_: Sequence[int], which: str, *names: str
-) -> list[list[str]]:
-    """Some fields of the frames that a filter takes."""
-    words = ["tshark", "-r", str(capture), "-Y", which, "-T", "fields", *decoded(ports_)]
-    words += [word for name in names for word in ("-e", name)]
-    told = subprocess.run(words, capture_output=True, text=True, check=False).stdout
-    return [line.split("\t") for line in told.splitlines()]
-
-
-def shown(element: xml.etree.ElementTree.Element, name: str) -> str:
-    """The first field of this name."""
-    for each in element.iter("field"):
-        if each.get("name") == name:
-            return each.get("show") or ""
-    return ""
-
-
-def value(element: xml.etree.ElementTree.Element, name: str) -> str:
-    """The value of the first field of this name."""
-    for each in element.iter("field"):
-        if each.get("name") == name:
-            return each.get("value") or ""
-    return ""
-
-
-def key_of(one: xml.etree.ElementTree.Element) -> Key:
+def key_of(one: Element) -> Key:
     """Account, session and number of a request."""
     digits = re.search(r"\d+", shown(one, "diameter.Subscription-Id-Data"))
     session, number = shown(one, "diameter.Session-Id"), shown(one, "diameter.CC-Request-Number")
     return digits.group() if digits else "?", session, number
 
 
-def used_in(one: xml.etree.ElementTree.Element) -> int:
+def used_in(one: Element) -> int:
     """The seconds that a request reports."""
     return sum(
         int(unit.get("show") or 0)

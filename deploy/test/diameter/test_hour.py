@@ -17,7 +17,8 @@ from collections.abc import Iterator
 
 import pytest
 from diameter.bridge import Office
-from diameter.kamailio import CREDIT, Calls, key_of, messages, shown, used_in
+from diameter.capture import is_request, shown
+from diameter.kamailio import CREDIT, Calls, key_of, used_in
 
 pytestmark = pytest.mark.slow
 
@@ -74,11 +75,11 @@ def sessions(calls: Calls) -> dict[str, dict[str, list[Asked]]]:
     """The requests of each session of each account in the capture, in their order."""
     under_way: dict[tuple[str, str], Asked] = {}
     made: dict[str, dict[str, list[Asked]]] = {}
-    for stream, moment, one in messages(calls.capture, calls.ports):
+    for stream, moment, one in calls.capture.messages():
         if shown(one, "diameter.cmd.code") != "272":
             continue
         hop = stream, shown(one, "diameter.hopbyhopid")
-        if shown(one, "diameter.flags.request") in ("1", "True"):
+        if is_request(one):
             account, session, number = key_of(one)
             row = Asked(int(number), moment, used_in(one))
             under_way[hop] = row
