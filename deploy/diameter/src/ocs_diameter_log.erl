@@ -1,11 +1,14 @@
 %% A line of JSON for each answer on standard output, with the members of the office's other doors,
 %% so that one reader reads both. Under systemd they go to the journal. What OTP logs goes to
-%% standard error (sys.config). The caller makes the text; a request costs a message to this process.
+%% standard error (sys.config). The caller makes the text; a request costs a message to this
+%% process. Whatever becomes of a line, its answer goes out: lines that nobody takes are counted.
 -module(ocs_diameter_log).
 -behaviour(gen_server).
 
 -export([start_link/0, line/1]).
 -export([init/1, handle_call/3, handle_cast/2, handle_info/2]).
+
+-include_lib("kernel/include/logger.hrl").
 
 %% Lines that wait for a reader that is slow; beyond it they are counted and dropped.
 -define(MOST_WAITING, 10000).
@@ -18,15 +21,23 @@ start_link() ->
 -spec line(#{atom() => term()}) -> ok.
 line(Facts) ->
     Moment = os:system_time(millisecond) - maps:get(took, Facts, 0),
-    case process_info(whereis(?MODULE), message_queue_len) of
-        {message_queue_len, Waiting} when Waiting < ?MOST_WAITING ->
-            gen_server:cast(?MODULE, {line, iolist_to_binary([written(Moment, Facts), $\n])});
-        _ ->
-            ocs_diameter_metrics:count(lines_dropped)
+    case is_taken(whereis(?MODULE)) of
+        true -> gen_server:cast(?MODULE, {line, iolist_to_binary([written(Moment, Facts), $\n])});
+        false -> ocs_diameter_metrics:count(lines_dropped)
+    end.
+
+-spec is_taken(pid() | undefined) -> boolean().
+is_taken(undefined) ->
+    false;
+is_taken(Writer) ->
+    case process_info(Writer, message_queue_len) of
+        {message_queue_len, Waiting} -> Waiting < ?MOST_WAITING;
+        undefined -> false
     end.
 
 -spec init([]) -> {ok, port()}.
 init([]) ->
+    process_flag(trap_exit, true),
     {ok, open_port({fd, 1, 1}, [out, binary])}.
 
 -spec handle_call(term(), term(), port()) -> {reply, nok, port()}.
@@ -35,12 +46,16 @@ handle_call(_, _, Port) ->
 
 -spec handle_cast({line, binary()}, port()) -> {noreply, port()}.
 handle_cast({line, Line}, Port) ->
-    port_command(Port, Line),
+    try port_command(Port, Line)
+    catch error:badarg -> ocs_diameter_metrics:count(lines_dropped)
+    end,
     {noreply, Port}.
 
--spec handle_info(term(), port()) -> {noreply, port()} | {stop, term(), port()}.
+%% Where standard output has ended the bridge goes on without lines.
+-spec handle_info(term(), port()) -> {noreply, port()}.
 handle_info({'EXIT', Port, Reason}, Port) ->
-    {stop, Reason, Port};
+    ?LOG_ERROR("standard output has ended (~p): answers have no line", [Reason]),
+    {noreply, Port};
 handle_info(_, Port) ->
     {noreply, Port}.
 

@@ -3,6 +3,7 @@ own port, and the unit's bounds."""
 from __future__ import annotations
 
 import json
+import os
 import pathlib
 import re
 import subprocess
@@ -79,6 +80,24 @@ def test_2000_lines_of_2000_answers(bridge: Bridge) -> None:
     until(lambda: bridge.out.read_text().count("\n") == before + 2000, "all lines")
     assert bridge.measure("lines_dropped_total") == 0
     gateway.close()
+
+
+def test_an_output_that_ends_costs_no_answer(
+    home: pathlib.Path, tmp_path: pathlib.Path, stub: Stub
+) -> None:
+    bridge = Bridge(home, tmp_path, stub.port)
+    os.mkfifo(bridge.out)
+    reader = os.open(bridge.out, os.O_RDONLY | os.O_NONBLOCK)
+    bridge.start()
+    os.close(reader)
+    gateway = Gateway(bridge.port)
+    told = [gateway.ask(ccr(f"lost{at}", 1, 0, SIXTY)).result for at in range(20)]
+    assert told == [2001] * 20
+    until(lambda: bridge.measure("lines_dropped_total") > 0, "lines that nobody takes")
+    assert "standard output has ended" in bridge.errors.read_text()
+    assert gateway.ask(ccr("lost", 1, 0, SIXTY)).result == 2001
+    gateway.close()
+    assert bridge.stop() == 0
 
 
 def test_measures(office: Office, starts: Any) -> None:
