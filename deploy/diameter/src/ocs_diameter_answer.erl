@@ -1,5 +1,5 @@
 %% From the office's answer to the AVPs of a Credit-Control-Answer. Called for each answered CCR by
-%% ocs_diameter_peer.
+%% ocs_diameter_handler.
 -module(ocs_diameter_answer).
 
 -export([avps/3, paths/1]).

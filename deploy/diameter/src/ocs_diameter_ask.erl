@@ -1,5 +1,5 @@
 %% The conversation with the office for one request: mostly one question. Called for each CCR by
-%% ocs_diameter_peer, with the function that asks; a kind more costs a clause of ask/3.
+%% ocs_diameter_handler, with the function that asks; a kind more costs a clause of ask/3.
 -module(ocs_diameter_ask).
 
 -export([ask/3]).

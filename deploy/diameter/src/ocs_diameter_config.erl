@@ -31,7 +31,7 @@
 load(File) ->
     try
         Config = with_groups(checked(read(File))),
-        case ocs_diameter_tls:load([T || #{tls := T} <- maps:get(listen, Config)]) of
+        case ocs_diameter_certificate:load([T || #{tls := T} <- maps:get(listen, Config)]) of
             ok -> persistent_term:put(?MODULE, {File, Config});
             {error, Fault} -> {error, Fault}
         end

@@ -1,6 +1,6 @@
 %% Failed-AVP (RFC 6733 7.5): the AVP at fault as it came, alone in its groups; of one that is
 %% missing, an example with zeros. The office names a member and no service, so of several services
-%% the first that has the member is shown. Called by ocs_diameter_peer for a refused CCR.
+%% the first that has the member is shown. Called by ocs_diameter_handler for a refused CCR.
 -module(ocs_diameter_failed).
 
 -export([failed/3]).

@@ -1,6 +1,6 @@
 %% From a Credit-Control-Request to what the office is asked. A function of the decoded request and
 %% the configuration alone: nothing is kept between two requests, and the office's key, Session-Id
-%% with CC-Request-Number, decides what a repeat is. Called for each CCR by ocs_diameter_peer.
+%% with CC-Request-Number, decides what a repeat is. Called for each CCR by ocs_diameter_handler.
 -module(ocs_diameter_request).
 
 -export([plan/2]).

@@ -1,16 +1,11 @@
 %% TLS of gateways (RFC 6733 2.1, from the first byte): OTP's ssl with a certificate of each
-%% gateway, a revocation list that is read again at a reload, the certificate's name against
-%% Origin-Host, and a bound on a handshake. This module is the socket module of such a port, and its
-%% list of revoked certificates (ssl_crl_cache_api).
+%% gateway, which ocs_diameter_certificate judges, and a bound on a handshake. This module is the
+%% socket module of such a port.
 -module(ocs_diameter_tls).
--behaviour(ssl_crl_cache_api).
 
--export([options/1, load/1, end_revoked/0, is_named/2, address/1]).
--export([lookup/3, select/2, fresh_crl/2]).
+-export([options/1, end_revoked/0, is_named/2, address/1]).
 -export([listen/2, accept/2, connect/4, send/2, recv/2, recv/3, close/1, shutdown/2, setopts/2,
          getopts/2, getstat/1, getstat/2, controlling_process/2, peername/1, sockname/1, port/1]).
-
--include_lib("public_key/include/public_key.hrl").
 
 -define(HANDSHAKE_MS, 5000).
 
@@ -24,21 +19,7 @@ options(#{certfile := Certificate, keyfile := Key, cacertfile := Authority} = Tl
     [{ssl_options, true}, {certfile, Certificate}, {keyfile, Key}, {cacertfile, Authority},
      {verify, verify_peer}, {fail_if_no_peer_cert, true}, {versions, ['tlsv1.2', 'tlsv1.3']}]
         ++ [O || is_map_key(crlfile, Tls),
-                 O <- [{crl_check, peer}, {crl_cache, {?MODULE, {internal, []}}}]].
-
-%% Reads the revocation lists of these ports.
--spec load([tls()]) -> ok | {error, term()}.
-load(Ports) ->
-    Files = lists:usort([F || #{crlfile := F} <- Ports]),
-    Lists = [{F, file:read_file(F)} || F <- Files],
-    case [{F, Reason} || {F, {error, Reason}} <- Lists] of
-        [] ->
-            Revoked = [Der || {_, {ok, Pem}} <- Lists,
-                              {'CertificateList', Der, _} <- public_key:pem_decode(Pem)],
-            persistent_term:put(?MODULE, Revoked);
-        [{File, Reason} | _] ->
-            {error, {revocation_list, File, Reason}}
-    end.
+                 O <- [{crl_check, peer}, {crl_cache, {ocs_diameter_certificate, {internal, []}}}]].
 
 %% Ends the connections that stand whose certificates are revoked by now; how many.
 -spec end_revoked() -> non_neg_integer().
@@ -46,29 +27,14 @@ end_revoked() ->
     Ended = [Pid || {{_, _, {_, Socket}}, Pid} <- diameter_reg:match({diameter_tcp, accept, '_'}),
                     not is_port(Socket),
                     {ok, Der} <- [ssl:peercert(Socket)],
-                    is_revoked(public_key:pkix_decode_cert(Der, otp))],
+                    ocs_diameter_certificate:is_revoked(Der)],
     lists:foreach(fun(Pid) -> exit(Pid, kill) end, Ended),
     length(Ended).
 
--spec is_revoked(#'OTPCertificate'{}) -> boolean().
-is_revoked(#'OTPCertificate'{tbsCertificate = #'OTPTBSCertificate'{issuer = Issuer,
-                                                                  serialNumber = Serial}}) ->
-    lists:any(fun(Der) -> lists:member(Serial, revoked(Der)) end, select(Issuer, none)).
-
-%% The serial numbers of a revocation list.
--spec revoked(binary()) -> [integer()].
-revoked(Der) ->
-    #'CertificateList'{tbsCertList = List} = public_key:der_decode('CertificateList', Der),
-    case List#'TBSCertList'.revokedCertificates of
-        asn1_NOVALUE -> [];
-        Rows -> [element(2, Row) || Row <- Rows]
-    end.
-
-%% Whether the certificate of the connection whose peer_fsm process this is names the host: in its
-%% DNS names, or where it has none in its common name (RFC 6125).
+%% Whether the certificate of the connection whose peer_fsm process this is names the host.
 -spec is_named(pid(), unicode:chardata()) -> boolean().
 is_named(Peer, Host) ->
-    lists:any(fun(Der) -> names(Der, Host) end,
+    lists:any(fun(Der) -> ocs_diameter_certificate:is_named(Der, Host) end,
               [Der || Socket <- of_peer(Peer), {ok, Der} <- [ssl:peercert(Socket)]]).
 
 %% The address and port of the other end of this process's connection, with TLS or without.
@@ -79,7 +45,7 @@ address(Peer) ->
                  false -> ssl:peername(Socket)
              end || Socket <- of_peer(Peer)],
     case Names of
-        [{ok, {Ip, Port}} | _] -> iolist_to_binary([inet:ntoa(Ip), $:, integer_to_list(Port)]);
+        [{ok, {_, _} = Address} | _] -> iolist_to_binary(ocs_diameter_address:text(Address));
         _ -> <<"-">>
     end.
 
@@ -93,56 +59,6 @@ of_peer(Peer) ->
 sockets(Transport) ->
     [Socket || {{_, _, {_, Socket}}, Pid} <- diameter_reg:match({diameter_tcp, accept, '_'}),
                Pid == Transport].
-
--spec names(binary(), unicode:chardata()) -> boolean().
-names(Der, Host) ->
-    Tbs = (public_key:pkix_decode_cert(Der, otp))#'OTPCertificate'.tbsCertificate,
-    Extensions = case Tbs#'OTPTBSCertificate'.extensions of
-                     asn1_NOVALUE -> [];
-                     Some -> Some
-                 end,
-    Dns = [N || #'Extension'{extnID = ?'id-ce-subjectAltName', extnValue = Names} <- Extensions,
-                {dNSName, N} <- Names],
-    Named = case Dns of
-                [] -> common_names(Tbs#'OTPTBSCertificate'.subject);
-                _ -> Dns
-            end,
-    lists:any(fun(N) -> string:equal(N, Host, true) end, Named).
-
--spec common_names(term()) -> [unicode:chardata()].
-common_names({rdnSequence, Sets}) ->
-    [case Value of
-         {_, Text} -> Text;
-         Text -> Text
-     end || Set <- Sets,
-            #'AttributeTypeAndValue'{type = ?'id-at-commonName', value = Value} <- Set].
-
-%% ------------------------------------------------------------------------------------------------
-%% ssl_crl_cache_api
-%% ------------------------------------------------------------------------------------------------
--spec lookup(term(), term(), term()) -> [binary()].
-lookup(_, Issuer, Handle) ->
-    select(Issuer, Handle).
-
-%% The lists of this authority.
--spec select(term(), term()) -> [binary()].
-select(Names, Handle) when is_list(Names) ->
-    lists:append([select(Issuer, Handle) || {directoryName, Issuer} <- Names]);
-select(Issuer, _) ->
-    [Der || Der <- persistent_term:get(?MODULE, []), is_by(Der, Issuer)].
-
--spec fresh_crl(term(), binary()) -> binary().
-fresh_crl(_, Crl) ->
-    Crl.
-
-%% ssl names an issuer by the text of its certificate's fields in one call and by their bytes in
-%% another.
--spec is_by(binary(), term()) -> boolean().
-is_by(Der, Issuer) ->
-    #'CertificateList'{tbsCertList = #'TBSCertList'{issuer = Bytes}} =
-        public_key:der_decode('CertificateList', Der),
-    By = [public_key:pkix_normalize_name(I) || I <- [Bytes, public_key:pkix_crl_issuer(Der)]],
-    lists:member(public_key:pkix_normalize_name(Issuer), By).
 
 %% ------------------------------------------------------------------------------------------------
 %% The socket module: gen_tcp with a bound on a handshake. OTP's acceptors wait for a handshake
