@@ -102,7 +102,7 @@ service(#{origin_host := Host, origin_realm := Realm, origin_state_id := StateId
 listens(#{ip := Ip, port := Port} = Listen, Config) ->
     {ok, Ref} = diameter:add_transport(?SERVICE, {listen, transport(Listen, Config)}),
     IsOpen = is_open(Ref, Port, 40),
-    IsOpen andalso ?LOG_NOTICE("listening ~s:~p", [inet:ntoa(Ip), Port]),
+    IsOpen andalso ?LOG_NOTICE("listening ~s", [ocs_diameter_address:text({Ip, Port})]),
     IsOpen.
 
 -spec is_open(term(), inet:port_number(), non_neg_integer()) -> boolean().

@@ -15,9 +15,14 @@
 
 -spec start_link({inet:ip_address(), inet:port_number()}) -> {ok, pid()} | {error, term()}.
 start_link({Ip, Port}) ->
-    inets:start(httpd, [{port, Port}, {bind_address, Ip}, {server_name, "ocs-diameter"},
-                        {server_root, "/"}, {document_root, "/"}, {modules, [?MODULE]},
-                        {max_clients, 16}, {max_body_size, 4096}, {keep_alive_timeout, 10}],
+    Family = case tuple_size(Ip) of
+                 4 -> inet;
+                 8 -> inet6
+             end,
+    inets:start(httpd, [{port, Port}, {bind_address, Ip}, {ipfamily, Family},
+                        {server_name, "ocs-diameter"}, {server_root, "/"}, {document_root, "/"},
+                        {modules, [?MODULE]}, {max_clients, 16}, {max_body_size, 4096},
+                        {keep_alive_timeout, 10}],
                 stand_alone).
 
 %% The callback of httpd (mod_*): an answer to each request.

@@ -4,10 +4,12 @@ from __future__ import annotations
 
 import concurrent.futures
 import contextlib
+import pathlib
 import socket
 import struct
 import threading
 import time
+import urllib.request
 from typing import Any
 
 import pytest
@@ -26,6 +28,7 @@ from diameter.wire import (
     seconds,
     service,
 )
+from support.waiting import until
 
 SIXTY = service(10, seconds(60))
 
@@ -243,3 +246,22 @@ def test_peers_by_name(starts: Any, stub: Stub) -> None:
             assert gateway.ask(ccr(f"by-{host}", 1, 0, SIXTY, host=host)).result == 2001
         gateway.close()
     assert bridge.measure('peers_refused_total{reason="name"}') == 1
+
+
+def test_ports_of_ipv6(home: pathlib.Path, tmp_path: pathlib.Path, stub: Stub) -> None:
+    """One for gateways, and the bridge's own."""
+    bridge, here = Bridge(home, tmp_path, stub.port), "{0,0,0,0,0,0,0,1}"
+    ports = ", ".join("#{ip => %s, port => PORT}" % ip for ip in ("{127,0,0,1}", here))
+    bridge.write(listen=f"[{ports}]", watch="{%s, %d}" % (here, bridge.watch))
+    bridge.start()
+    try:
+        until(lambda: "listening [::1]" in bridge.errors.read_text(), "the second port")
+        gateway = Gateway(bridge.port, address="::1")
+        assert gateway.ask(ccr("six", 1, 0, SIXTY)).result == 2001
+        line = bridge.line(session="six")
+        assert line["peer"] == "[::1]:%d" % gateway.connection.getsockname()[1]
+        gateway.close()
+        with urllib.request.urlopen(f"http://[::1]:{bridge.watch}/health") as answer:
+            assert answer.status == 200
+    finally:
+        bridge.stop()

@@ -198,6 +198,7 @@ class Gateway:
         host: str = "gw.example",
         capabilities: Sequence[Avp] = (("Auth-Application-Id", 4),),
         tls: ssl.SSLContext | None = None,
+        address: str = "127.0.0.1",
     ) -> None:
         self.host, self.capabilities = host, capabilities
         self.changed, self.writing, self.hops = threading.Condition(), threading.Lock(), 0
@@ -206,7 +207,7 @@ class Gateway:
         self.requests: list[Message] = []
         self.is_closed = False
         self.answers = {DWR: 2001, DPR: 2001, RAR: 2001}
-        self.connection = socket.create_connection(("127.0.0.1", port), PATIENCE)
+        self.connection = socket.create_connection((address, port), PATIENCE)
         self.connection.setsockopt(socket.IPPROTO_TCP, socket.TCP_NODELAY, 1)
         if tls:
             self.connection = tls.wrap_socket(self.connection, server_hostname="ocs.example")
