@@ -61,7 +61,7 @@ text() ->
              ["outcome"], [{[O], N} || {{office, O}, N} <- Rows]),
      counter("reauth_total", "Re-Auth-Requests by Result-Code or what came of them", ["result"],
              [{[R], N} || {{reauth, R}, N} <- Rows]),
-     counter("lines_dropped_total", "Lines that standard output took too slowly", [],
+     counter("lines_dropped_total", "Lines that standard output took too slowly, or not at all", [],
              [{[], N} || {lines_dropped, N} <- Rows]),
      gauge("in_flight", "Requests under way", [], [{[], ocs_diameter_order:in_flight()}]),
      gauge("in_flight_limit", "Requests that may be under way", [],
