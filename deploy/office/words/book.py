@@ -7,14 +7,17 @@ with its offset and in seconds. Copies of all shards are asked first, by the pro
 where one refuses the book, no shard is stopped and none gets it. Then each shard is stopped, given
 the book and started, one after another. A shard that has it isn't stopped, so the same words again
 give it to those that are left. A book can't be taken back: `office trial` shows its prices first.
+Groups that the bridges from Diameter don't know yet are named: `office diameter` and a reload have
+them known.
 
 Prints a line a shard."""
 from __future__ import annotations
 
 import argparse
 import pathlib
+import sys
 
-from office import options, shelves
+from office import kinds, options, shelves
 from office.settings import Settings
 
 
@@ -27,4 +30,9 @@ def add(parser: argparse.ArgumentParser) -> None:
 
 def run(settings: Settings, arguments: argparse.Namespace) -> int:
     """Adds the book; 1 where a shard doesn't have it in the end."""
-    return shelves.add_everywhere(settings, arguments)
+    failed = shelves.add_everywhere(settings, arguments)
+    file = pathlib.Path(settings.diameter.groups)
+    if unknown := kinds.lacking(file, arguments.book):
+        groups = ", ".join(map(str, unknown))
+        print(f"book: not in {file}, `office diameter` and a reload: {groups}", file=sys.stderr)
+    return failed

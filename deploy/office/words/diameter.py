@@ -15,15 +15,11 @@ import argparse
 import json
 import os
 import pathlib
-import tomllib
-from collections.abc import Iterable
 
-from office import books, copies, options, shards
+from office import books, copies, kinds, options, shards
 from office.faults import Refused
 from office.settings import Settings
 from office.tables import opened
-
-KINDS = {member: unit for unit, member in books.MEMBERS.items()}
 
 
 def add(parser: argparse.ArgumentParser) -> None:
@@ -35,25 +31,15 @@ def add(parser: argparse.ArgumentParser) -> None:
 
 def run(settings: Settings, arguments: argparse.Namespace) -> int:
     """Writes the file; refused where a group has two kinds."""
-    told = list(map(read, arguments.books)) or kept(settings, arguments.shard)
-    kinds = kinds_of(told)
+    told = list(map(kinds.read, arguments.books)) or kept(settings, arguments.shard)
+    made = dict(sorted(kinds.kinds_of(told).items()))
     file = pathlib.Path(settings.diameter.groups)
-    text = json.dumps({str(group): kinds[group] for group in sorted(kinds)}, indent=1) + "\n"
-    for group in sorted(kinds):
-        print(group, kinds[group])
+    text = json.dumps({str(group): kind for group, kind in made.items()}, indent=1) + "\n"
+    for group, kind in made.items():
+        print(group, kind)
     if not arguments.dry_run and not (file.is_file() and file.read_text() == text):
         written(file, text)
     return 0
-
-
-def read(path: pathlib.Path) -> books.Book:
-    """The book of a file."""
-    try:
-        return books.read(path.read_text(encoding="utf-8"), 0)
-    except OSError as fault:
-        raise Refused(f"{path}: {fault.strerror}") from fault
-    except (ValueError, KeyError, TypeError, tomllib.TOMLDecodeError) as fault:
-        raise Refused(f"{path} isn't a tariff book: {fault}") from fault
 
 
 def kept(settings: Settings, number: str) -> list[books.Book]:
@@ -61,16 +47,6 @@ def kept(settings: Settings, number: str) -> list[books.Book]:
     with copies.made(settings, [shards.named(settings, number)]) as [copy]:
         with opened(copy) as database:
             return books.shelf(database)
-
-
-def kinds_of(told: Iterable[books.Book]) -> dict[int, str]:
-    """The kind of each group of these books, which follow each other."""
-    kinds: dict[int, str] = {}
-    for book in told:
-        for number, group in book.groups.items():
-            if kinds.setdefault(number, KINDS[group.member]) != KINDS[group.member]:
-                raise Refused(f"group {number} is in {kinds[number]} and {KINDS[group.member]}")
-    return kinds
 
 
 def written(file: pathlib.Path, text: str) -> None:

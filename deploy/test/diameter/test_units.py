@@ -101,6 +101,19 @@ def test_a_gateway_under_systemd(peer: Stand) -> None:
     ]
 
 
+def test_a_later_book(peer: Stand) -> None:
+    """`office book` names the group that the bridge doesn't know, until `office diameter` has it."""
+    words = "office book examples/later-book.toml --from 1950000000"
+    told = peer.machine.run(words)
+    assert told.stderr.splitlines()[-1].endswith("`office diameter` and a reload: 40")
+    assert "40 events" in peer.run("office diameter")
+    assert "`office diameter`" not in peer.machine.run(words).stderr
+    reads = "journalctl -u ocs-diameter -o cat | grep -c 'read again'"
+    before = peer.run(f"{reads} || true")
+    peer.run("systemctl reload ocs-diameter")
+    wait_until(lambda: peer.run(f"{reads} || true") != before, "the reload", PATIENT)
+
+
 def test_a_bridge_that_is_killed_comes_back(peer: Stand) -> None:
     before = listening(peer)
     peer.run("systemctl kill --signal KILL ocs-diameter")
