@@ -20,7 +20,8 @@ init([]) ->
     ocs_diameter_metrics:init(),
     Watch = case maps:get(watch, ocs_diameter_config:get()) of
                 off -> [];
-                Address -> [#{id => watch, start => {ocs_diameter_watch, start_link, [Address]}}]
+                Address -> [#{id => watch, start => {ocs_diameter_watch, start_link, [Address]},
+                              type => supervisor, shutdown => infinity}]
             end,
     {ok, {#{strategy => rest_for_one, intensity => 5, period => 10},
           [#{id => log, start => {ocs_diameter_log, start_link, []}},

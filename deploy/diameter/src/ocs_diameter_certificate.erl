@@ -12,14 +12,28 @@
 -spec load([ocs_diameter_tls:tls()]) -> ok | {error, term()}.
 load(Ports) ->
     Files = lists:usort([F || #{crlfile := F} <- Ports]),
-    Lists = [{F, file:read_file(F)} || F <- Files],
-    case [{F, Reason} || {F, {error, Reason}} <- Lists] of
+    Read = [{F, read(F)} || F <- Files],
+    case [{F, Reason} || {F, {error, Reason}} <- Read] of
         [] ->
-            Revoked = [Der || {_, {ok, Pem}} <- Lists,
-                              {'CertificateList', Der, _} <- public_key:pem_decode(Pem)],
-            persistent_term:put(?MODULE, Revoked);
+            persistent_term:put(?MODULE, lists:append([Lists || {_, {ok, Lists}} <- Read]));
         [{File, Reason} | _] ->
             {error, {revocation_list, File, Reason}}
+    end.
+
+%% The lists of a file, each of which can be taken apart.
+-spec read(string()) -> {ok, [binary(), ...]} | {error, unread | file:posix() | badarg}.
+read(File) ->
+    case file:read_file(File) of
+        {ok, Pem} ->
+            try [Der || {'CertificateList', Der, _} <- public_key:pem_decode(Pem),
+                        is_list(revoked(Der))] of
+                [] -> {error, unread};
+                Lists -> {ok, Lists}
+            catch
+                error:_ -> {error, unread}
+            end;
+        {error, _} = Not ->
+            Not
     end.
 
 %% Whether its authority's list has a certificate.

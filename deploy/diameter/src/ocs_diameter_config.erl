@@ -56,6 +56,8 @@ told({unread, File, Why}) -> lists:flatten(io_lib:format("~s: ~s", [File, Why]))
 told({missing, Key}) -> lists:flatten(io_lib:format("~p is missing", [Key]));
 told({unknown, Key}) -> lists:flatten(io_lib:format("~p is no key of this file", [Key]));
 told({wrong, Key, Takes}) -> lists:flatten(io_lib:format("~p takes ~s", [Key, Takes]));
+told({revocation_list, File, unread}) ->
+    lists:flatten(io_lib:format("crlfile ~s isn't a revocation list", [File]));
 told({revocation_list, File, Why}) ->
     lists:flatten(io_lib:format("crlfile ~s: ~s", [File, file:format_error(Why)])).
 
@@ -115,12 +117,19 @@ checked(Given) ->
 taken({Key, Default, IsRight, Takes}, Given) ->
     case {Given, Default} of
         {#{Key := Value}, _} ->
-            IsRight(Value) orelse throw({fault, {wrong, Key, Takes}}),
+            fits(IsRight, Value) orelse throw({fault, {wrong, Key, Takes}}),
             Value;
         {_, {default, Value}} ->
             Value;
         {_, required} ->
             throw({fault, {missing, Key}})
+    end.
+
+%% A value may be any term, a list without an end among them.
+-spec fits(fun((term()) -> boolean()), term()) -> boolean().
+fits(IsRight, Value) ->
+    try IsRight(Value)
+    catch error:_ -> false
     end.
 
 -spec or_own(none | [string()], string()) -> [string()].
@@ -156,7 +165,7 @@ within(Least, Most) ->
 
 -spec is_name(term()) -> boolean().
 is_name(Text) ->
-    is_list(Text) andalso Text /= [] andalso io_lib:printable_unicode_list(Text).
+    is_list(Text) andalso Text /= [] andalso lists:all(within(16#20, 16#7E), Text).
 
 -spec is_names(term()) -> boolean().
 is_names(Names) ->

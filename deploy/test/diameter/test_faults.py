@@ -192,8 +192,7 @@ def test_what_was_answered_3002_isnt_done_later(office: Office, starts: Any) -> 
     bridge = starts(office.doors["gateways"], answer_time="6000", queue_time="4500")
     gateway = Gateway(bridge.port)
     account = office.account("49530", 10**6)
-    shard = int(office.script.ask("GET", f"/accounts/{account}").shard)
-    with office.still(shard):
+    with office.still(office.shard(account)):
         hops = [gateway.begin(ccr(f"late{at}", 4, 0, *DEBIT, account=account)) for at in range(6)]
         codes = [answer.result for answer in map(gateway.wait, hops) if answer]
         assert sorted(codes) == [3002] + [3004] * 5

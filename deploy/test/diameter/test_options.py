@@ -172,11 +172,15 @@ WRONG = {
     "#{listen => []}.": "listen takes",
     "#{listen => [#{ip => {127,0,0,1}, port => 3868, tls => #{}}]}.": "listen takes",
     "#{subscribers => [imsi, e164]}.": "subscribers takes",
+    "#{subscribers => [e164 | sip]}.": "subscribers takes",
+    "#{origin_realm => [300]}.": "origin_realm takes a name",
     '#{groups => "/nowhere"}.': "/nowhere",
     "#{hints => #{20 => #{hold => 1}}}.": "hints takes",
     "#{opening => maybe}.": "opening takes check or balance",
     '#{listen => [#{ip => {127,0,0,1}, port => 3868, tls => #{certfile => "a", keyfile => "b",'
     ' cacertfile => "c", crlfile => "/nowhere"}}]}.': "crlfile /nowhere",
+    '#{listen => [#{ip => {127,0,0,1}, port => 3868, tls => #{certfile => "a", keyfile => "b",'
+    ' cacertfile => "c", crlfile => "/etc/hostname"}}]}.': "isn't a revocation list",
 }
 NEEDED = {
     "origin_host": '"ocs.example"',
