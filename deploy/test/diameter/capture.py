@@ -4,6 +4,7 @@ from __future__ import annotations
 import pathlib
 import signal
 import subprocess
+import time
 import xml.etree.ElementTree
 from collections.abc import Iterator, Sequence
 
@@ -12,6 +13,8 @@ from support.waiting import until
 Element = xml.etree.ElementTree.Element
 # tshark finds a frame malformed, or at fault.
 FAULTY = "_ws.malformed or _ws.expert.severity >= 8388608"
+# Seconds without a packet, after which all that passed is in the file.
+STILL = 3
 
 
 class Capture:
@@ -32,6 +35,17 @@ class Capture:
             )
         until(lambda: b"Capture started" in self.out.read_bytes(), "the capture")
         return self
+
+    def has(self, raw: bytes) -> None:
+        """Waits until the file has these bytes of a message."""
+        until(lambda: raw in self.file.read_bytes(), "the last message")
+
+    def settled(self) -> None:
+        """Waits until nothing has come for a moment: what passes is written a while later."""
+        sizes = [-1, self.file.stat().st_size]
+        while sizes[-2] != sizes[-1]:
+            time.sleep(STILL)
+            sizes.append(self.file.stat().st_size)
 
     def stop(self) -> None:
         """Ends it; the file is whole afterwards."""

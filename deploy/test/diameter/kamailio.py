@@ -209,7 +209,7 @@ class Calls:
 
     def compared(self, accounts: Sequence[str], may_hold: bool = False) -> int:
         """Each balance is its credit less what was reported, and nothing is held. The seconds."""
-        time.sleep(1)
+        self.capture.settled()
         reported, total = self.reported(), 0
         for account in accounts:
             credited, available, reserved, charged = self.office.sums(account)
@@ -226,6 +226,7 @@ class Calls:
     def frames(self) -> tuple[int, list[list[str]], int]:
         """Frames of Diameter; those that are malformed; and those in which Kamailio's
         User-Equipment-Info-Value has a length that tshark doesn't know."""
+        self.capture.settled()
         self.capture.stop()
         faults, own = self.capture.faults(), str(self.bridge.port)
         bad = [row for row in faults if row[1] == own or "User-Equipment-Info-Value" not in row[2]]

@@ -11,6 +11,7 @@ from collections.abc import Iterator
 import pytest
 from diameter.kamailio import CREDIT, PRICE, Calls
 from support.callers import Caller
+from support.waiting import until
 
 pytestmark = pytest.mark.slow
 
@@ -65,6 +66,24 @@ def test_refused_calls(straight: Calls) -> None:
     time.sleep(2)
     straight.talked([poor, "491699", barred], scenario="refused")
     assert [straight.office.sums(each)[3] for each in (poor, barred)] == [0, 0]
+
+
+def test_a_top_up_of_a_call_at_its_final_unit(straight: Calls) -> None:
+    """Kamailio takes the Re-Auth-Request for its session and answers nothing, so the call ends with
+    its grant, as it would without a word."""
+    bridge, account = straight.bridge, straight.office.account("491621", 12 * PRICE)
+    lost = bridge.measure('reauth_total{result="timeout"}')
+    process = straight.call([account], scenario="cut", ms=60000)
+    until(lambda: bridge.measure("sessions_at_final_units") == 1, "the final unit")
+    body = {"Amount": CREDIT, "Reference": "more"}
+    credit = f"/accounts/{account}/credits"
+    assert straight.office.script.ask("POST", credit, body).status == 200
+    assert bridge.credited(account) == 1
+    until(lambda: bridge.measure('reauth_total{result="timeout"}') == lost + 1, "its time")
+    assert process.wait(240) == 0
+    time.sleep(2)
+    assert straight.compared([account]) >= 12
+    assert bridge.line(account=account, what="RAR")["code"] == "timeout"
 
 
 KILLS = [("shard1", 1.0), ("shard2", 3.0), ("haproxy", 1.0), ("haproxy", 2.0), ("bridge", 0.1)]

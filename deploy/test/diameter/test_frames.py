@@ -115,8 +115,10 @@ class Tour:
         own = gateway.origin()
         bye: list[Avp] = [*own, ("Disconnect-Cause", 0)]
         for code, avps in ((DWR, own), (DPR, bye)):
-            assert gateway.ask((code, 0, avps, REQUEST)).result == 2001
+            answer = gateway.ask((code, 0, avps, REQUEST))
+            assert answer.result == 2001
         gateway.close()
+        self.capture.has(answer.raw)
         self.capture.stop()
         return self
 
