@@ -154,15 +154,19 @@ async function read(path) {
 /** Who asks here; what that one may not do isn't offered. */
 async function learn() {
   me = await read("/office/me");
-  const isOperator = me.Role === "operator", role = me.Changes ? me.Role : `${me.Role} who only reads`;
+  const role = me.Changes ? me.Role : `${me.Role} who only reads`;
   at("who").textContent = me.Name === me.Role ? role : `${me.Name}, ${role}`;
-  offer({credit: isOperator && me.Changes, allow: isOperator && me.Changes, redeem: me.Changes,
-    price: isOperator && me.Changes, bar: isOperator && me.Changes && hasAgent});
-  at("open").hidden = !(isOperator && me.Changes);
-  at("month-side").hidden = !isOperator;
-  at("sheet").classList.toggle("narrow", !isOperator);
-  at("views").hidden = !isOperator;
+  offer(may());
+  at("open").hidden = !may().credit;
+  at("agent").hidden = at("views").hidden = !isOperator();
 }
+
+const isOperator = () => me.Role === "operator";
+/** What is offered: a shop redeems and asks for prices, an operator does all, who only reads nothing. */
+const may = () => {
+  const isAll = isOperator() && me.Changes;
+  return {credit: isAll, allow: isAll, redeem: me.Changes, price: me.Changes, bar: isAll && hasAgent};
+};
 
 // An account's balance.
 
@@ -424,9 +428,13 @@ function outcome(command, answer) {
   if (command.kind === "open" && told.Refusal === "O1") {
     return {kind: "good", line: `${command.account} is there${command.times > 1 ? "" : " already"} (O1)${id}`};
   }
-  const elsewhere = command.kind === "redeem" && told.Refusal === "O3" && !command.path.startsWith(AGENT)
-    ? " Only the codes of this account's shard were looked at." : "";
-  return {kind: "fault", line: `${titleOf(command)}: ${why(answer)}${elsewhere}${id}`};
+  return {kind: "fault", line: `${titleOf(command)}: ${why(answer)}${command.kind === "redeem" ? aboutCodes(command, answer, told) : ""}${id}`};
+}
+
+/** What is said of a code beside its refusal. */
+function aboutCodes(command, answer, told) {
+  if (answer.status === 429) return " Codes that no voucher has count for a minute.";
+  return told.Refusal === "O3" && !command.path.startsWith(AGENT) ? " Only the codes of this account's shard were looked at." : "";
 }
 
 /** Sends a command, which is kept until it has an answer, and says what became of it. */
@@ -440,6 +448,12 @@ async function send(command) {
   let answer = null;
   try { answer = await ask(command.method, command.path, command.body, command.seconds); } catch (fault) {
     if (!(fault instanceof Told)) throw fault;
+  }
+  if (answer?.status === 503 && command.instead && command.times === 1) {
+    // Nobody was asked: the agent is away.
+    keep(unanswered().filter(isOther(command)));
+    busy(false);
+    return send(command.instead);
   }
   const told = outcome(command, answer);
   if (told.kind !== "unknown") keep(unanswered().filter(isOther(command)));
@@ -520,14 +534,15 @@ function sendAllowance(form) {
 
 const codeOf = form => form.elements.code.value.replaceAll(/[ -]/g, "");
 
-/** Redeems a voucher: by the agent, which asks all shards, or in the account's own. */
+/** Redeems a voucher: by the agent, which asks all shards; where it is away, in the account's own. */
 function sendVoucher(form) {
   const code = codeOf(form), reference = `redeem-${code}`;
   if (!/^[0-9]{12}$/.test(code)) return unread(form, "code", "A code is 12 digits.");
   form.elements.code.setAttribute("aria-invalid", "false");
   const words = {kind: "redeem", account, words: {code}, reference, method: "POST"};
-  return send(hasAgent ? {...words, path: `${AGENT}/redeem`, body: json({Account: account, Code: code, Reference: reference}), seconds: 300}
-    : {...words, path: `/vouchers/${code}/redeem`, body: json({"Subscription-Id-Data": account, Reference: reference})});
+  const own = {...words, path: `/vouchers/${code}/redeem`, body: json({"Subscription-Id-Data": account, Reference: reference})};
+  const any = {...words, path: `${AGENT}/redeem`, body: json({Account: account, Code: code, Reference: reference}), seconds: 300};
+  return send(hasAgent || !isOperator() ? {...any, instead: own} : own);
 }
 
 function sendBar() {
@@ -631,13 +646,13 @@ const LINES = [
 /** Shows what the agent tells of the account, or that it tells nothing here. */
 async function showAgent(mine) {
   let told = null, line = "";
-  if (me.Role !== "operator") return;
+  if (!isOperator()) return;
   try { told = await read(`${AGENT}/account/${account}?month=${month.replace("-", "")}`); } catch (fault) {
     line = `Open sessions, what covered a charge, the doors' log and bars are not here: ${fault.message}`;
   }
   if (mine !== asked) return;
   hasAgent = told !== null;
-  offer({credit: me.Changes, allow: me.Changes, redeem: me.Changes, price: me.Changes, bar: me.Changes && hasAgent});
+  offer(may());
   at("agent-none").textContent = line;
   at("agent-moment").textContent = told ? `as of ${time(told.as_of)}` : "";
   at("agent-parts").replaceChildren();
@@ -697,7 +712,7 @@ async function showAccount(mine, wanted, wantedMonth) {
   const found = await read(`/accounts/${wanted}`), shownMonth = wantedMonth || time(found.Moment).slice(0, 7);
   const path = `/accounts/${wanted}/statement/${shownMonth.replace("-", "")}`;
   let text = null, missing = "";
-  try { if (me.Role === "operator") text = await read(path); } catch (fault) { missing = fault.message; }
+  try { text = await read(path); } catch (fault) { missing = fault.message; }
   if (mine !== asked) return;
   if (account !== wanted) clear();
   account = wanted;
@@ -710,6 +725,7 @@ async function showAccount(mine, wanted, wantedMonth) {
     showMonth(path);
   }
   at("month-side").hidden = text === null;
+  at("sheet").classList.toggle("narrow", text === null);
   if (missing) return say(`The month isn't shown: ${missing}`, true);
   say(`As of ${time(found.Moment)}. Amounts are in the currency of the tariff book, days and times in UTC.`);
   showAgent(mine);
@@ -782,6 +798,7 @@ function drawSums() {
 function showSums(told, shownMonth) {
   sums = {...told, month: shownMonth};
   const groups = summed(told.charges, ["rating_group"]), shards = summed(told.charges, ["shard"]), kept = at("sums-series").value;
+  const books = summed(told.charges, ["book"]).sort((one, other) => one.book - other.book);
   const series = [["", "all"], ...groups.map(one => [`rating_group ${one.rating_group}`, `group ${one.rating_group}`]), ...shards.map(one => [`shard ${one.shard}`, `shard ${one.shard}`])];
   at("sums-series").replaceChildren(...series.map(([value, name]) => Object.assign(made("option", "", name), {value})));
   at("sums-series").value = series.some(([value]) => value === kept) ? kept : "";
@@ -796,6 +813,7 @@ function showSums(told, shownMonth) {
     made("h3", "", "By day"), columnsOf(summed(told.charges, ["day"]).sort((one, other) => one.day < other.day ? 1 : -1), "charges", [["Day", one => one.day], ...SUMS]),
     made("h3", "", "By group"), columnsOf(groups, "charges by group", [["Group", one => String(one.rating_group)], ...SUMS]),
     made("h3", "", "By shard"), columnsOf(shards, "charges by shard", [["Shard", one => one.shard], ...SUMS]),
+    ...(books.length > 1 ? [made("h3", "", "By tariff book"), columnsOf(books, "charges by book", [["Book", one => String(one.book)], ...SUMS])] : []),
     made("h3", "", "Buckets that began in this month"), columnsOf(kinds, "buckets", [["Kind", one => one.kind], ["Buckets", one => count(one.buckets)],
       ["Credited", one => one.kind === "money" ? money(one.credited) : blocks(one.credited)], ...BUCKET_SUMS]));
 }

@@ -16,6 +16,12 @@ from office.agent.asked import Asked, Body, Office
 from office.faults import Refused, Unanswered, Unread
 
 LOCK = threading.Lock()
+# What a shop is told of a fault: the sentences of the log are an operator's.
+SHOPS = {
+    409: "the office can't redeem it now; its log says why",
+    500: "a mistake of the agent's",
+    504: "no answer came; it may be done, and the same again is safe",
+}
 # What is told of an answer that the log has too.
 TOLD = ("account", "shard", "changed", "waited", "Result-Code", "Refusal", "Bucket", "fault")
 
@@ -25,14 +31,27 @@ def answer(office: Office, asked: Asked) -> tuple[int, str]:
     begun = time.monotonic()
     found = routes.found(asked)
     changes = not isinstance(found, int) and found[0].changes
-    if changes and asked.who and not asked.only_reads:
+    if changes and asked.who and is_let(asked, found):
         write(asked, {"begins": True})
     status, body = made(office, asked, found)
     body.setdefault("as_of", round(time.time(), 3))
     told = {name: body[name] for name in TOLD if name in body}
     seconds = round(time.monotonic() - begun, 3)
     write(asked, {"status": status, "seconds": seconds, "changes": changes} | told)
-    return status, json.dumps(body, separators=(",", ":"))
+    return status, json.dumps(shown(asked, status, body), separators=(",", ":"))
+
+
+def is_let(asked: Asked, found: tuple[routes.Route, tuple[str, ...]] | int) -> bool:
+    """Whether the one who asks may ask for a route that was found."""
+    return not isinstance(found, int) and asked.is_let(found[0].target, found[0].changes)
+
+
+def shown(asked: Asked, status: int, body: Body) -> Body:
+    """What the one who asks is told: a shop neither the number of a shard nor a path."""
+    if not asked.is_shop:
+        return body
+    told = {name: value for name, value in body.items() if name != "shard"}
+    return told | ({"fault": SHOPS[status]} if status in SHOPS else {})
 
 
 def made(
@@ -44,8 +63,8 @@ def made(
     if isinstance(found, int):
         return found, {"fault": f"there is no {asked.method} {asked.path}"}
     route, parts = found
-    if route.changes and asked.only_reads:
-        return 403, {"fault": f"{asked.who} only reads"}
+    if not is_let(asked, found):
+        return 403, {"fault": f"{asked.who} may only {asked.may}"}
     try:
         return 200, route.answer(office, asked, *parts)
     except Unread as fault:

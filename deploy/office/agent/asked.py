@@ -9,10 +9,13 @@ from typing import Any
 
 from office import shards
 from office.agent.kept import Kept
+from office.doors import routes
 from office.faults import Unread
 from office.settings import Settings
 
 Body = dict[str, Any]
+# Rights that are less than all, as the doors name them.
+READS, REDEEMS = "read", "redeem"
 
 
 class Office:
@@ -36,8 +39,17 @@ class Asked:
     target: str
     body: bytes
     who: str
-    only_reads: bool
+    may: str  # what the doors say of it: "read" alone, "redeem" alone, or all where it is empty
     id: str  # the doors' line has it, and the client as X-Request-Id
+
+    @property
+    def is_shop(self) -> bool:
+        """Whether somebody asks who only redeems, and isn't told of the office's inside."""
+        return self.may == REDEEMS
+
+    def is_let(self, path: str, changes: bool) -> bool:
+        """Whether the one who asks may ask for this route."""
+        return path == routes.REDEEM if self.is_shop else self.may != READS or not changes
 
     @property
     def path(self) -> str:

@@ -21,6 +21,11 @@ class Route:
     answer: Callable[..., Body]
     changes: bool = False
 
+    @property
+    def target(self) -> str:
+        """The whole target, as a pattern."""
+        return AGENT + self.path
+
 
 ROUTES = (
     Route("GET", "/account" + NUMBER, accounts.account),
@@ -39,7 +44,7 @@ def found(asked: Asked) -> tuple[Route, tuple[str, ...]] | int:
     """The route of a request and the parts of its path; 404 or 405 where there is none."""
     status = 404
     for route in ROUTES:
-        fits = re.fullmatch(AGENT + route.path, asked.path)
+        fits = re.fullmatch(route.target, asked.path)
         if fits and route.method == asked.method:
             return route, fits.groups()
         status = 405 if fits else status

@@ -101,7 +101,7 @@ class Handler(http.server.BaseHTTPRequestHandler):
             self.path,
             body,
             fields.get("Office-Caller", ""),
-            fields.get("Office-May", "") == "read",
+            fields.get("Office-May", ""),
             fields.get("X-Request-Id", ""),
         )
         status, text = answers.answer(self.server.office, asked)

@@ -179,22 +179,24 @@ def to_shard(settings: Settings, door: Door) -> list[str]:
         *rules.refused(404, "shard", f"if {{ var(txn.shard) -m found }} !{is_shard}"),
         f"    http-request del-header {STRANGE} -m reg",
         "    http-response wait-for-body time 1s",
-        *(to_agent(settings) if door.role == "operator" else ()),
+        *(to_agent(settings, door) if door.role in routes.PEOPLE else ()),
         "    http-response set-header Office-Shard %s unless { var(txn.agent) -m found }",
         "    default_backend shards",
     ]
 
 
-def to_agent(settings: Settings) -> list[str]:
-    """The agent is told who asks, and whether that is somebody who only reads; what a client said of
-    it has been taken away."""
+def to_agent(settings: Settings, door: Door) -> list[str]:
+    """The agent is told who asks, and whether that is somebody who only reads, or only redeems; what a
+    client said of it has been taken away."""
     is_agent = f"if {{ path_beg {routes.AGENT}/ }}"
     made = [
         f"    http-request set-var(txn.agent) bool(true) {is_agent}",
         f"    http-request set-header Office-Caller %[var(txn.who)] {is_agent}",
         f"    http-request set-header X-Request-Id %[unique-id] {is_agent}",
     ]
-    if any(operator.only == "read" for operator in settings.operators):
+    if door.role == "shop":
+        made.append(f"    http-request set-header Office-May redeem {is_agent}")
+    elif any(operator.only == "read" for operator in settings.operators):
         readers = [operator.name for operator in settings.operators if operator.only == "read"]
         made += rules.listed("looks", readers)
         made.append(f"    http-request set-header Office-May read {is_agent} looks")
@@ -297,11 +299,12 @@ def relays(settings: Settings) -> list[str]:
 
 
 def tables() -> list[str]:
-    """What is counted: requests of a caller, answers by caller and code, an address at doors with
-    tls."""
+    """What is counted: requests of a caller and wrong codes, answers by caller and code, an address at
+    doors with tls."""
+    kept = "conn_cur,gpc0,gpc0_rate(1s),gpc1,gpc1_rate(60s)"
     return [
         "backend callers",
-        "    stick-table type string len 40 size 10k expire 1h store conn_cur,gpc0,gpc0_rate(1s)",
+        f"    stick-table type string len 40 size 10k expire 1h store {kept}",
         "backend counted",
         "    stick-table type string len 64 size 10k expire 24d store gpc0",
         "backend strangers",

@@ -4,7 +4,7 @@
 member is one reading of the body."""
 from __future__ import annotations
 
-from office.doors.routes import AGENT
+from office.doors.routes import AGENT, REDEEM
 
 # HAProxy writes a number of more than six digits wrong unless it is asked for as a whole one.
 # Member of the line, where it is in the body of a request, and whether that is one of /ccr.
@@ -44,7 +44,8 @@ def of_request(role: str) -> list[str]:
     if role == "operator":
         named = " ".join(f"{AGENT}/{word}/" for word in ("account", "bar", "unbar"))
         made.append(f"{account} path,field(5,/) if {{ path_beg {named} }}")
-        made.append(f"{account} req.body,json_query('$.Account') if {{ path {AGENT}/redeem }}")
+    if role in ("operator", "shop"):
+        made.append(f"{account} req.body,json_query('$.Account') if {{ path {REDEEM} }}")
     return made
 
 

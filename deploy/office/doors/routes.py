@@ -13,8 +13,9 @@ ACCOUNT = "/accounts/[0-9]{1,15}"
 HEAD, BODY = 8000, 65536
 
 
-# The service `office agent`, behind the operators' doors alone.
+# The service `office agent`, behind the operators' doors; a shop's has one target of it.
 AGENT = "/office/agent"
+REDEEM = AGENT + "/redeem"
 # What may stand behind a target of the agent's, which judges it.
 MORE = "([?][-a-zA-Z0-9=&,:]{1,120})?"
 JSON = "application/json"
@@ -34,7 +35,7 @@ class Route:
 
     def is_of_page(self) -> bool:
         """Whether it is for a browser."""
-        return self.target.startswith("/office")
+        return self.target.startswith("/office") and not self.target.startswith(AGENT)
 
 
 OFFICE = ("operator", "script")
@@ -43,10 +44,11 @@ PEOPLE = ("shop", "operator")
 # Who asks, and what that one may do.
 ASKER = "/office/me"
 ROUTES = (
-    Route("POST", "/ccr", ("gateway", *OFFICE)),
+    # A shop's are enquiries (`rules.enquiries`).
+    Route("POST", "/ccr", ("gateway", "shop", *OFFICE)),
     Route("GET", ACCOUNT, ("shop", *OFFICE)),
     Route("PUT", ACCOUNT, OFFICE),
-    Route("GET", ACCOUNT + "/statement/[0-9]{6}", OFFICE),
+    Route("GET", ACCOUNT + "/statement/[0-9]{6}", ("shop", *OFFICE)),
     Route("POST", ACCOUNT + "/credits", OFFICE),
     Route("POST", ACCOUNT + "/allowances", OFFICE),
     Route("POST", "/vouchers/[0-9]{12}/redeem", ("shop", *OFFICE)),
@@ -62,7 +64,7 @@ ROUTES = (
     Route("GET", AGENT + "/account/[0-9]{1,15}" + MORE, ("operator",)),
     Route("POST", AGENT + "/bar/[0-9]{1,15}", ("operator",)),
     Route("POST", AGENT + "/unbar/[0-9]{1,15}", ("operator",)),
-    Route("POST", AGENT + "/redeem", ("operator",)),
+    Route("POST", REDEEM, PEOPLE),
     Route("GET", AGENT + "/books", ("operator",)),
     Route("POST", AGENT + "/trial" + MORE, ("operator",), "application/toml", True),
     Route("POST", AGENT + "/vouchers/check", ("operator",), "text/csv", True),

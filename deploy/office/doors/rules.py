@@ -14,15 +14,25 @@ from office.settings import Caller, Door, Gateway, Operator, Settings
 ROW = 16
 # Requests at once of all who ask at a door that knows nobody by name.
 NAMELESS = 200
-# Wrong answers in a minute to a stranger at the operators' door.
+# Wrong answers in a minute to a stranger at the operators' door; codes that no voucher has, to a shop.
 GUESSES = 20
 # A name that comes twice in a body would be read in its first place here and in its last by the
 # program, and a letter as `\u0061` not at all.
-ONCE = tuple(rf'"{name}"\s*:' for name in ("Subscription-Id", "Subscription-Id-Data"))
-TWICE = "(?s)(" + "|".join(f"{name}.*{name}" for name in ONCE) + ")"
+
+
+def twice(*names: str) -> str:
+    """A pattern of a body that has one of these names twice."""
+    each = [rf'"{name}"\s*:' for name in names]
+    return "(?s)(" + "|".join(f"{name}.*{name}" for name in each) + ")"
+
+
+TWICE = twice("Subscription-Id", "Subscription-Id-Data")
 DISGUISED = r"\\u00[2-7]"
 # REFUND_ACCOUNT of RFC 8506, wherever it is in the body.
 REFUND = r'"Requested-Action"\s*:\s*1(?![0-9])'
+# EVENT_REQUEST with CHECK_BALANCE or PRICE_ENQUIRY, each name once in the body: nothing is changed.
+ENQUIRY = (r'"CC-Request-Type"\s*:\s*4\s*[,}]', r'"Requested-Action"\s*:\s*[23]\s*[,}]')
+ENQUIRY_TWICE = twice("CC-Request-Type", "Requested-Action")
 
 
 def of(settings: Settings, door: Door) -> list[str]:
@@ -36,7 +46,8 @@ def of(settings: Settings, door: Door) -> list[str]:
         made += page.rules(settings, door)
     if door.role in ("gateway", "operator"):
         made.append(answered("if { path /health }"))
-    return [*made, *turns(settings, door), *account(), *refunds(settings, door)]
+    made += [*turns(settings, door), *guesses(door), *account()]
+    return [*made, *refunds(settings, door), *enquiries(door)]
 
 
 def refused(status: int, why: str, condition: str) -> list[str]:
@@ -215,6 +226,17 @@ def bounds(name: str, told: dict[str, int]) -> list[str]:
     return made
 
 
+def guesses(door: Door) -> list[str]:
+    """A shop that has tried many codes that no voucher has redeems nothing for the rest of a minute."""
+    if door.role != "shop":
+        return []
+    is_code = f"{{ path_beg /vouchers/ {routes.REDEEM} }}"
+    return [
+        *refused(429, "guesses", f"if {is_code} {{ sc0_gpc1_rate gt {GUESSES} }}"),
+        "    http-response sc-inc-gpc1(0) if { var(txn.refusal) -m str O3 }",
+    ]
+
+
 def account() -> list[str]:
     """The account that HAProxy reads is the one that the shard reads: once, and not in disguise."""
     return [
@@ -236,6 +258,16 @@ def refunds(settings: Settings, door: Door) -> list[str]:
         return refused(403, "refund", f"if {is_refund}")
     names = [gateway.name for gateway in settings.gateways if gateway.refunds]
     return listed("refunds", names) + refused(403, "refund", f"if !refunds {is_refund}")
+
+
+def enquiries(door: Door) -> list[str]:
+    """What a shop asks of /ccr is a price, or whether it would be paid: nothing that changes."""
+    if door.role != "shop":
+        return []
+    made = refused(403, "enquiry", f"if {{ path /ccr }} {{ req.body -m reg '{ENQUIRY_TWICE}' }}")
+    for pattern in ENQUIRY:
+        made += refused(403, "enquiry", f"if {{ path /ccr }} !{{ req.body -m reg '{pattern}' }}")
+    return made
 
 
 def watched() -> list[str]:

@@ -40,6 +40,12 @@ def ada(agent: Agent) -> Caller:
 
 
 @pytest.fixture
+def shop(agent: Agent) -> Caller:
+    """A shop, by certificate."""
+    return agent.at("shops", "shop-8")
+
+
+@pytest.fixture
 def audit(agent: Agent) -> Caller:
     """An operator who only reads."""
     return agent.at("operators", "audit")

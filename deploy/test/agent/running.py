@@ -24,7 +24,7 @@ locks = "{place}/locks"
 archive = "{place}/archive"
 copies = "{place}/copies"
 """
-COME = ("ada", "audit", "shop-8", "pgw-2")
+COME = ("ada", "audit", "shop-8", "shop-9", "pgw-2")
 # Codes of the first shard and of the last one, beside those of every office of tests.
 OF_FIRST = [f"30000000{at:04}" for at in range(20)]
 OF_LAST = [f"20000000{at:04}" for at in range(60)]

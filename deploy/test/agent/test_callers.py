@@ -24,13 +24,14 @@ ROUTES = {
     "shards": ("GET", "/shards", None, False),
     "redeem": ("POST", "/redeem", JSON, True),
 }
-# Door, certificate, and what it is refused with; none: it is an operator.
+# Door, certificate, and what it is refused with; none: it is an operator. Who only reads or redeems is
+# refused all else.
 CALLERS = {
     "an operator by certificate": ("operators", "ada", None),
     "an operator who only reads": ("operators", "audit", "reads"),
     "an operator of this machine": ("desk", None, None),
-    "a shop by certificate": ("shops", "shop-8", 403),
-    "a shop of this machine": ("counter", None, 403),
+    "a shop by certificate": ("shops", "shop-8", "redeems"),
+    "a shop of this machine": ("counter", None, "redeems"),
     "a gateway by certificate": ("gateways", "pgw-2", 403),
     "a gateway of this machine": ("here", None, 403),
     "a watcher": ("measures", None, 403),
@@ -52,15 +53,16 @@ def test_a_caller_at_a_route(agent: Agent, who: str, what: str) -> None:
     method, path, kind, changes = ROUTES[what]
     fields = {"Content_Type": kind} if kind else {}
     answer = agent.at(door, name).patient(90).ask(method, BASE + path, **fields)
-    if refused is None or (refused == "reads" and not changes):
+    is_let = {"reads": not changes, "redeems": what == "redeem"}
+    if refused is None or is_let.get(str(refused)):
         # Without systemd a bar is refused by the agent; a body that is empty is read by nobody.
         assert answer.status in (200, 400, 409) and "as_of" in answer.body
     elif refused == 401:
         # An address that was refused often is told to come later.
         assert answer.status in (401, 429)
     else:
-        assert answer.status == (403 if refused == "reads" else refused)
-    if refused is not None and (refused != "reads" or changes):
+        assert answer.status == (403 if refused in is_let else refused)
+    if refused is not None and not is_let.get(str(refused)):
         assert "as_of" not in answer.text
 
 
@@ -102,17 +104,25 @@ def test_a_stranger_names_itself(agent: Agent, audit: Caller, ada: Caller) -> No
     assert (line["who"], line["id"] == "mine") == ("ada", False)
 
 
-def test_the_agent_refuses_a_reader_too(agent: Agent) -> None:
+REFUSED = [
+    ("read", "POST", "/bar/55001"),
+    ("redeem", "POST", "/bar/55001"),
+    ("redeem", "GET", "/account/55001"),
+    ("redeem", "GET", "/shards"),
+    ("redeem", "POST", "/vouchers/check"),
+]
+
+
+@pytest.mark.parametrize("may, method, path", REFUSED)
+def test_the_agent_refuses_it_too(agent: Agent, may: str, method: str, path: str) -> None:
     """What the doors say is enough for the agent."""
+    fields = f"Host: x\r\nOffice-Caller: someone\r\nOffice-May: {may}\r\nContent-Length: 0"
     with socket.socket(socket.AF_UNIX) as peer:
         peer.settimeout(30)
         peer.connect(str(agent.socket))
-        peer.sendall(
-            b"POST /office/agent/bar/55001 HTTP/1.1\r\nHost: x\r\nOffice-Caller: audit\r\n"
-            b"Office-May: read\r\nContent-Length: 0\r\n\r\n"
-        )
+        peer.sendall(f"{method} {BASE}{path} HTTP/1.1\r\n{fields}\r\n\r\n".encode())
         got = b"".join(iter(lambda: peer.recv(65536), b""))
-    assert got.startswith(b"HTTP/1.1 403") and b"audit only reads" in got
+    assert got.startswith(b"HTTP/1.1 403") and f"someone may only {may}".encode() in got
 
 
 NOT_THERE = {

@@ -72,6 +72,64 @@ def test_a_code_of_its_own_shard_takes_one_request(
     assert len(buckets(script, account)) == 1
 
 
+@pytest.mark.parametrize("door, name", [("shops", "shop-8"), ("counter", None)])
+def test_a_shop_redeems_a_code_of_another_shard(
+    agent: Agent, script: Caller, door: str, name: str | None
+) -> None:
+    shop, code = agent.at(door, name), next(CODES)
+    account = at_home(agent, "01", 65000 + 100 * (name is None))
+    told = redeem(shop, account, code, "sale-1")
+    assert told.status == 200 and "office-shard" not in told.fields
+    wanted = {"account": account, "Bucket": 1, "Result-Code": 2001}
+    assert told.body == wanted | {"as_of": told.body["as_of"]}
+    scope = 10 if int(code) % 2 else None
+    assert buckets(script, account) == [(5_000_000, scope)]
+    assert redeem(shop, account, code, "sale-1").body["Bucket"] == 1
+    assert redeem(shop, account, code, "sale-2").body["Refusal"] == "O4"
+    assert len(buckets(script, account)) == 1
+    line = agent.world.line(told.fields["x-request-id"])
+    wanted = {"who": name or "counter", "account": account, "reference": "sale-1", "code": "2001"}
+    assert {each: line[each] for each in wanted} == wanted
+    assert agent.line(told.fields["x-request-id"])["shard"] == "01"
+
+
+def test_a_shop_isnt_told_what_is_inside(agent: Agent, shop: Caller, ada: Caller) -> None:
+    """A fault's sentence is the operator's; the shop is told what it may do."""
+    path = agent.world.place / "clearing"
+    account, code = at_home(agent, "01", 65200), next(CODES)
+    path.rename(path.with_suffix(".away"))
+    try:
+        told = redeem(shop, account, code, "v1")
+        assert told.status == 409
+        assert told.body["fault"] == "the office can't redeem it now; its log says why"
+        assert str(path) in redeem(ada, account, code, "v1").body["fault"]
+        line = agent.line(told.fields["x-request-id"])
+        assert str(path) in line["fault"]
+    finally:
+        path.with_suffix(".away").rename(path)
+    assert redeem(shop, account, code, "v1").body["Bucket"] == 1
+
+
+def test_a_shop_that_guesses_codes(agent: Agent, ada: Caller, script: Caller) -> None:
+    """Wrong codes count by either way, and an operator's don't."""
+    shop, account = agent.at("shops", "shop-9"), at_home(agent, "01", 65300)
+    statuses = []
+    for at in range(30):
+        code = f"{800_000_000_000 + at}"
+        if at % 2:
+            told = redeem(shop, account, code, f"g{at}")
+        else:
+            body = {"Subscription-Id-Data": account, "Reference": f"g{at}"}
+            told = shop.ask("POST", f"/vouchers/{code}/redeem", body)
+        statuses.append(told.status)
+        assert told.status == 429 or told.body["Refusal"] == "O3"
+    assert 20 <= statuses.index(429) <= 22
+    assert set(statuses[statuses.index(429) :]) == {429}
+    assert agent.world.line(told.fields["x-request-id"])["why"] == "guesses"
+    assert redeem(ada, account, "899999999999", "a1").body["Refusal"] == "O3"
+    assert redeem(agent.at("shops", "shop-8"), account, next(CODES), "v1").body["Bucket"] == 1
+
+
 def test_what_is_refused(agent: Agent, ada: Caller, script: Caller) -> None:
     one, two = at_home(agent, "01", 60300), at_home(agent, "02", 60300)
     code, other, unused = next(CODES), next(CODES), next(CODES)
@@ -154,25 +212,40 @@ KILLS = [
 def test_killed_at_a_step_and_asked_again(
     agent: Agent, relay: Relay, ada: Caller, script: Caller, step: int, is_before: bool
 ) -> None:
-    account = at_home(agent, "02", 61000 + 100 * step + 50 * is_before)
+    killed_and_asked_again(agent, relay, ada, step, is_before, 61000)
+
+
+@pytest.mark.parametrize("step", range(1, STEPS + 1))
+def test_a_shops_request_is_killed_and_asked_again(
+    agent: Agent, relay: Relay, shop: Caller, step: int
+) -> None:
+    killed_and_asked_again(agent, relay, shop, step, False, 66000)
+
+
+def killed_and_asked_again(
+    agent: Agent, relay: Relay, who: Caller, step: int, is_before: bool, first: int
+) -> None:
+    """The agent is killed at a step of somebody's request, who then asks the same again."""
+    script = agent.script()
+    account = at_home(agent, "02", first + 100 * step + 50 * is_before)
     code, file = next(CODES), agent.world.place / "relay.toml"
     agent.ensure(file)
     relay.set(step, is_before)
-    assert redeem(ada, account, code, "press").status in (502, 503)
+    assert redeem(who, account, code, "press").status in (502, 503)
     assert relay.count == step
     credited = step == STEPS and not is_before
     assert len(buckets(script, account)) == credited
     agent.start(file)
     relay.set(0, False)
-    first = redeem(ada, account, code, "press")
-    assert (first.status, first.body["Bucket"]) == (200, 1)
+    told = redeem(who, account, code, "press")
+    assert (told.status, told.body["Bucket"]) == (200, 1)
     assert len(relay.asked) == STEPS
-    again = redeem(ada, account, code, "press").body
-    assert again | {"as_of": 0} == first.body | {"as_of": 0}
+    again = redeem(who, account, code, "press").body
+    assert again | {"as_of": 0} == told.body | {"as_of": 0}
     scope = 10 if int(code) % 2 else None
     assert buckets(script, account) == [(5_000_000, scope)]
-    other = at_home(agent, "01", 61000 + 100 * step + 50 * is_before)
-    assert redeem(ada, other, code, "press").body["Refusal"] == "O4"
+    other = at_home(agent, "01", first + 100 * step + 50 * is_before)
+    assert redeem(who, other, code, "press").body["Refusal"] == "O4"
 
 
 def test_a_shard_that_is_away(agent: Agent, relay: Relay, ada: Caller, script: Caller) -> None:

@@ -1,6 +1,7 @@
 """An office with a month of charges, and browsers at its doors."""
 from __future__ import annotations
 
+import os
 import pathlib
 from collections.abc import Iterator
 
@@ -24,9 +25,9 @@ def world(tmp_path_factory: pytest.TempPathFactory) -> Iterator[World]:
 
 def person(world: World, place: pathlib.Path, door: str, name: str = "") -> Iterator[Person]:
     """Somebody at a door, against whom the browser has nothing at the end."""
-    one = Person(world, place / "browser")
+    one = Person(place / "browser")
     try:
-        one.go_to(door, name)
+        one.go_to(world.doors[door], name)
         yield one
         assert one.faults() == []
     finally:
@@ -59,3 +60,12 @@ def agent(world: World) -> Iterator[Agent]:
     yield one
     one.kill()
     one.socket.unlink(missing_ok=True)
+
+
+@pytest.fixture(scope="package")
+def pictures(tmp_path_factory: pytest.TempPathFactory) -> pathlib.Path:
+    """Where pictures are left."""
+    named = os.environ.get("OFFICE_PICTURES")
+    folder = pathlib.Path(named) if named else tmp_path_factory.mktemp("pictures")
+    folder.mkdir(exist_ok=True)
+    return folder

@@ -4,11 +4,11 @@ from __future__ import annotations
 import json
 import pathlib
 import re
+from collections.abc import Sequence
 from typing import Any
 
 from support.browser import Browser
 from support.waiting import until
-from support.world import World
 
 from console.office import SECRET
 
@@ -22,17 +22,17 @@ Shown = dict[str, Any]
 class Person(Browser):
     """A browser with the page; `way` is how it is used: "keys" or "pointer"."""
 
-    def __init__(self, world: World, place: pathlib.Path) -> None:
-        super().__init__(place, *WORDS)
-        self.world, self.way, self.top = world, "pointer", ""
+    def __init__(self, place: pathlib.Path, enter: Sequence[str] = ()) -> None:
+        super().__init__(place, *WORDS, enter=enter)
+        self.way, self.top = "pointer", ""
         self.look(1200)
 
-    def go_to(self, door: str, name: str = "") -> None:
+    def go_to(self, port: int, name: str = "", *, has_tls: bool = False) -> None:
         """Goes to the page at a door; with a name by its password."""
         if name:
             self.sign_in(name, SECRET)
-        host = "https://localhost" if name else "http://127.0.0.1"
-        self.top = f"{host}:{self.world.doors[door]}/office"
+        host = "https://localhost" if name or has_tls else "http://127.0.0.1"
+        self.top = f"{host}:{port}/office"
 
     def show(self, what: str = "") -> None:
         """The page, opened anew at what stands behind #, once it has shown it."""

@@ -122,9 +122,9 @@ def site() -> Iterator[int]:
 
 
 @pytest.fixture
-def visitor(world: World, tmp_path_factory: pytest.TempPathFactory) -> Iterator[Person]:
+def visitor(tmp_path_factory: pytest.TempPathFactory) -> Iterator[Person]:
     """Somebody who is at another site with a browser that reaches the doors."""
-    one = Person(world, tmp_path_factory.mktemp("visitor"))
+    one = Person(tmp_path_factory.mktemp("visitor"))
     yield one
     one.end()
 

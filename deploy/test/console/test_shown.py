@@ -209,8 +209,8 @@ WRONG = {
 
 
 @pytest.mark.parametrize("text", WRONG.values(), ids=list(WRONG))
-def test_what_is_no_number(operator: Person, text: str) -> None:
-    asked = len(operator.world.lines())
+def test_what_is_no_number(world: World, operator: Person, text: str) -> None:
+    asked = len(world.lines())
     operator.show(text)
     if text.startswith("49151"):
         assert operator.value("document.getElementById('account').value") == "49151"
@@ -221,4 +221,4 @@ def test_what_is_no_number(operator: Person, text: str) -> None:
     )
     assert operator.value("document.querySelectorAll('img, main script').length") == 0
     assert operator.value("document.title") == "Office"
-    assert all("/accounts" not in line["what"] for line in operator.world.lines()[asked:])
+    assert all("/accounts" not in line["what"] for line in world.lines()[asked:])

@@ -95,6 +95,9 @@ a-second = 30
 [[shop]]
 name = "shop-8"
 a-second = 10000
+[[shop]]
+name = "shop-9"
+a-second = 10000
 [[operator]]
 name = "ada"
 a-second = 10000
@@ -113,6 +116,7 @@ CLIENTS = {
     "pgw-old": "gateway",
     "shop-7": "shop",
     "shop-8": "shop",
+    "shop-9": "shop",
     "ada": "operator",
     "audit": "operator",
 }

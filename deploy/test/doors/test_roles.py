@@ -44,13 +44,16 @@ OPERATOR = {
     ("GET", "/health"),
 }
 OWN = {*PAGE, ("GET", "/health")}
+SHOP = {
+    ("POST", "/ccr"),
+    ("GET", f"/accounts/{ACCOUNT}"),
+    ("GET", f"/accounts/{ACCOUNT}/statement/202601"),
+    ("POST", "/vouchers/999999999999/redeem"),
+}
 MAY = {
     "gateway": {("POST", "/ccr"), ("GET", "/health")},
-    "shop": {("GET", f"/accounts/{ACCOUNT}"), ("POST", "/vouchers/999999999999/redeem"), *PAGE},
-    "shop without a page": {
-        ("GET", f"/accounts/{ACCOUNT}"),
-        ("POST", "/vouchers/999999999999/redeem"),
-    },
+    "shop": SHOP | PAGE,
+    "shop without a page": SHOP,
     "operator": OPERATOR,
     "reader": {(method, target) for method, target in OPERATOR if method == "GET"},
     "script": OPERATOR - OWN | {("POST", "/sweep")},

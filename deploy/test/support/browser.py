@@ -9,6 +9,7 @@ import os
 import pathlib
 import select
 import subprocess
+from collections.abc import Sequence
 from typing import Any
 
 from support.waiting import until
@@ -28,12 +29,13 @@ SHIFT = 8
 
 
 class Browser:
-    """A browser whose profile is in a folder."""
+    """A browser whose profile is in a folder; `enter` are words that run it elsewhere, as in a copy of
+    this machine."""
 
-    def __init__(self, place: pathlib.Path, *more: str) -> None:
+    def __init__(self, place: pathlib.Path, *more: str, enter: Sequence[str] = ()) -> None:
         words, self.said = pipes()
         redirect = f'exec "$@" 3<&{words[0]} 4>&{self.said[1]}'
-        asked = ["bash", "-c", redirect, "bash", *WORDS, *more, f"--user-data-dir={place}"]
+        asked = [*enter, "bash", "-c", redirect, "bash", *WORDS, *more, f"--user-data-dir={place}"]
         self.process = subprocess.Popen(
             [*asked, "about:blank"],
             pass_fds=(words[0], self.said[1]),
