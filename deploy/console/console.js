@@ -6,7 +6,7 @@ const at = id => document.getElementById(id);
 const PARTS = ["Available", "Reserved", "Charged", "Expired"];
 const NO_END = 4102444800, SVG = "http://www.w3.org/2000/svg";
 // Buckets and charges that are drawn at once; the others come by a button.
-const BUCKETS = 40, CHARGES = 500, ALL_OPEN = 200;
+const FIRST_BUCKETS = 6, BUCKETS = 40, CHARGES = 500, ALL_OPEN = 200;
 const AGENT = "/office/agent", KEPT = "unanswered";
 const REFUSALS = {
   O1: "the account is there already", O2: "there is no such account", O3: "there is no such voucher",
@@ -86,19 +86,19 @@ function sayDone(line, kind = "") {
 }
 
 /** Draws the first rows, and a button that draws more; `wrap` puts it into what the place takes. */
-function listed(place, rows, make, step, name, wrap = button => button) {
+function listed(place, rows, make, step, name, wrap = button => button, first = step) {
   let shown = 0;
   const button = made("button", "more"), holder = wrap(button);
   button.type = "button";
   const more = () => {
-    const next = rows.slice(shown, shown + step).map(make), left = rows.length - shown - next.length;
+    const next = rows.slice(shown, shown + (shown ? step : first)).map(make), left = rows.length - shown - next.length;
     holder.remove();
     place.append(...next);
     shown += next.length;
     button.textContent = `Show ${count(Math.min(step, left))} more of ${count(left)} ${name}`;
     if (left > 0) place.append(holder);
   };
-  button.addEventListener("click", more);
+  button.addEventListener("click", () => { more(); fit(); });
   place.replaceChildren();
   more();
 }
@@ -157,7 +157,6 @@ async function learn() {
   const role = me.Changes ? me.Role : `${me.Role} who only reads`;
   at("who").textContent = me.Name === me.Role ? role : `${me.Name}, ${role}`;
   offer(may());
-  at("open").hidden = !may().credit;
   at("agent").hidden = at("views").hidden = !isOperator();
 }
 
@@ -207,7 +206,7 @@ function showBalance() {
   at("barred").hidden = !balance.Barred;
   at("available").textContent = money(sums.Available);
   at("total").replaceChildren(...bar(sums, money));
-  listed(at("live"), live, bucket, BUCKETS, "buckets");
+  listed(at("live"), live, bucket, BUCKETS, "buckets", button => button, FIRST_BUCKETS);
   if (!live.length) at("live").append(made("p", "", rows.length ? "Nothing is left." : "Nothing was credited yet."));
   at("past-box").hidden = !past.length;
   at("past-box").open = false;
@@ -268,8 +267,10 @@ function stepOf(most, least) {
 /** A picture of amounts by day, each {day, main, lost}; its words say the same. */
 function chartOf(days, written, least, wide) {
   const most = days.reduce((most, one) => one.main + one.lost > most ? one.main + one.lost : most, 0n);
-  const step = stepOf(most, least), high = 220, left = 74, room = high - 34;
+  const step = stepOf(most, least), high = 220, room = high - 34;
+  const left = 16 + 7 * Math.max(...[1n, 2n, 3n, 4n].map(line => written(step * line).length));
   const y = value => 10 + room - Number(value * 10000n / (step * 4n)) / 10000 * room;
+  if (!most) return made("figure", "", made("figcaption", "", "Nothing in this month"));
   const picture = drawn("svg", {viewBox: `0 0 ${wide} ${high}`, "aria-hidden": "true"});
   for (let line = 0n; line <= 4n; line++) {
     picture.append(drawn("line", {class: "grid", x1: left, x2: wide, y1: y(step * line), y2: y(step * line)}));
@@ -281,7 +282,7 @@ function chartOf(days, written, least, wide) {
       ? [drawn("text", {x: left + (place + .5) * width, y: high - 6, "text-anchor": "middle"}, Number(one.day.slice(8)))] : [])));
   const words = days.filter(one => one.main + one.lost > 0n).map(one =>
     `${one.day}: ${written(one.main)}${one.lost > 0n ? ` and ${written(one.lost)} uncollected` : ""}`);
-  return made("figure", "", picture, made("figcaption", "off", words.join("; ") || "Nothing in this month"));
+  return made("figure", "", picture, made("figcaption", "off", words.join("; ")));
 }
 
 /** The pieces of a day's bar. */
@@ -365,7 +366,8 @@ function showCharges() {
 function dayOf(day, rows, isOpen) {
   const button = made("button", "", day), body = made("tbody", "");
   const head = chargeRow(made("th", "", button), "", "", sumsOf(rows), "day");
-  const row = one => chargeRow(made("th", "", one.at), one.group, count(one.blocks), one, "");
+  const clock = one => made("th", "", one.at.slice(0, 5), made("span", "seconds", one.at.slice(5)));
+  const row = one => chargeRow(clock(one), one.group, count(one.blocks), one, "");
   const show = isShown => {
     button.setAttribute("aria-expanded", isShown);
     if (!isShown) return body.replaceChildren(head);
@@ -610,13 +612,26 @@ function step(event) {
 function columnsOf(rows, name, columns) {
   if (!rows.length) return made("p", "", `No ${name}.`);
   const body = made("tbody", "");
-  const head = made("tr", "", ...columns.map(([title]) => title ? Object.assign(made("th", "", title), {scope: "col"}) : made("td", "")));
-  const row = one => made("tr", "", ...columns.map(([, text, kind]) => made("td", kind || "", text(one))));
+  const head = made("tr", "", ...columns.map(([title, , kind]) => title ? Object.assign(made("th", kind || "", title), {scope: "col"}) : made("td", "")));
+  const cell = (one, [title, text, kind]) => {
+    const told = made("td", kind || "", text(one));
+    if (title) told.dataset.title = title;
+    return told;
+  };
+  const row = one => made("tr", "", ...columns.map(column => cell(one, column)));
   const wrap = button => made("tr", "", Object.assign(made("td", "", button), {colSpan: columns.length}));
   listed(body, rows, row, 100, name, wrap);
   const place = made("div", "scroll", made("table", "", made("thead", "", head), body));
   place.dataset.part = name;
   return place;
+}
+
+/** Stacks the rows of each table that is wider than its place. */
+function fit() {
+  for (const place of document.querySelectorAll(".scroll")) {
+    place.classList.remove("stacked");
+    place.classList.toggle("stacked", place.scrollWidth > place.clientWidth + 1);
+  }
 }
 
 const heldOf = one => one.is_blocks ? `allowance ${one.bucket}: ${blocks(one.amount)}` : `bucket ${one.bucket}: ${money(one.amount)}`;
@@ -635,8 +650,8 @@ function endButton(session) {
 
 const SESSIONS = [
   ["Session", one => one.session, "words"], ["Touched", one => time(one.touched)], ["Ends", one => time(one.ends)],
-  ["Group", one => one.group ? String(one.group.rating_group) : ""], ["Used", one => one.group ? count(one.group.used) : ""],
-  ["Held", one => one.group ? one.group.held.map(heldOf).join(", ") : ""], ["", endButton],
+  ["Group", one => one.group ? String(one.group.rating_group) : ""], ["Used", one => one.group ? count(one.group.used) : "", "number"],
+  ["Held", one => one.group ? one.group.held.map(heldOf).join(", ") : "", "words"], ["", endButton],
 ];
 const LINES = [
   ["Time", one => time(one.moment)], ["Who", one => one.who], ["Asked", one => one.asked, "words"],
@@ -674,6 +689,7 @@ function showBehind(told) {
     row.covered = one.covered;
     if (row.cell) row.cell.textContent = coveredOf(row);
   });
+  fit();
   hasCovered = charges.some(row => row.covered);
   for (const one of at("charges").querySelectorAll(".covered")) one.hidden = !hasCovered;
 }
@@ -701,7 +717,7 @@ async function show(wanted, wantedMonth) {
   } catch (fault) {
     if (mine !== asked) return;
     at("sheet").hidden = true;
-    at("none").hidden = fault.refusal !== "O2";
+    at("none").hidden = fault.refusal !== "O2" || !may().credit;
     at("none-account").textContent = wanted;
     say(fault.refusal === "O2" ? `There is no account ${wanted} (O2).` : fault instanceof Told ? fault.message : `This page failed: ${fault.message}`, true);
   }
@@ -758,7 +774,7 @@ async function showOffice(wanted) {
   const shownMonth = wanted || new Date().toISOString().slice(0, 7), faults = [];
   for (const [id, path, shown] of [["sums", `sums?month=${shownMonth.replace("-", "")}`, showSums], ["shards", "shards", showShards], ["books", "books", showBooks]]) {
     let told = null;
-    try { told = await read(`${AGENT}/${path}`); } catch (fault) { faults.push(`${id}: ${fault.message}`); }
+    try { told = await read(`${AGENT}/${path}`); } catch (fault) { faults.push([id, fault.message]); }
     if (mine !== asked) return;
     at(id).hidden = told === null;
     at("office").hidden = false;
@@ -766,7 +782,8 @@ async function showOffice(wanted) {
   }
   at("codes").hidden = at("books").hidden;
   at("office-none").hidden = !faults.length;
-  at("office-none").textContent = `What is not here: ${faults.join("; ")}`;
+  at("office-none").textContent = [...Map.groupBy(faults, ([, why]) => why)].map(([why, rows]) => `Not here: ${rows.map(([id]) => id).join(", ")}. ${why}`).join(" ");
+  fit();
   say("");
   counted("shown");
 }
@@ -780,8 +797,9 @@ const summed = (rows, keys) => [...Map.groupBy(rows, row => JSON.stringify(keys.
 const SUMS = [
   ["Charges", one => count(one.charges)], ["Blocks", one => count(one.blocks)], ["Covered", one => count(one.covered)],
   ["Rated", one => money(one.rated)], ["Collected", one => money(one.collected)], ["Uncollected", one => money(one.uncollected)],
-];
-const BUCKET_SUMS = PARTS.map(part => [part, one => one.kind === "money" ? money(one[part.toLowerCase()]) : blocks(one[part.toLowerCase()])]);
+].map(column => [...column, "number"]);
+const BUCKET_SUMS = ["Credited", ...PARTS].map(part =>
+  [part, one => one.kind === "money" ? money(one[part.toLowerCase()]) : blocks(one[part.toLowerCase()]), "number"]);
 
 /** Draws what each day of the month has over all accounts, or over those of a group or a shard. */
 function drawSums() {
@@ -806,7 +824,8 @@ function showSums(told, shownMonth) {
   pickMonths(at("sums-month"), monthsOf(monthAfter(now, -23), now, shownMonth), shownMonth);
   drawSums();
   showFigures(at("sums-figures"), [["Collected", money(total(told.charges, "collected"))], ["Uncollected", money(lost), lost > 0n],
-    ["Charges", count(total(told.charges, "charges"))], ["As of", time(told.as_of)], ["Currency", String(told.currency)], ["Zone", told.zone]]);
+    ["Charges", count(total(told.charges, "charges"))]]);
+  at("sums-moment").textContent = `As of ${time(told.as_of)}. Amounts are in currency ${told.currency}, days are those of zone ${told.zone}.`;
   const kinds = [...Map.groupBy(told.buckets, row => row.kind)].map(([kind, rows]) =>
     ({kind, ...Object.fromEntries(["buckets", "credited", ...PARTS.map(part => part.toLowerCase())].map(part => [part, total(rows, part)]))}));
   at("sums-parts").replaceChildren(
@@ -814,8 +833,7 @@ function showSums(told, shownMonth) {
     made("h3", "", "By group"), columnsOf(groups, "charges by group", [["Group", one => String(one.rating_group)], ...SUMS]),
     made("h3", "", "By shard"), columnsOf(shards, "charges by shard", [["Shard", one => one.shard], ...SUMS]),
     ...(books.length > 1 ? [made("h3", "", "By tariff book"), columnsOf(books, "charges by book", [["Book", one => String(one.book)], ...SUMS])] : []),
-    made("h3", "", "Buckets that began in this month"), columnsOf(kinds, "buckets", [["Kind", one => one.kind], ["Buckets", one => count(one.buckets)],
-      ["Credited", one => one.kind === "money" ? money(one.credited) : blocks(one.credited)], ...BUCKET_SUMS]));
+    made("h3", "", "Buckets that began in this month"), columnsOf(kinds, "buckets", [["Kind", one => one.kind], ["Buckets", one => count(one.buckets), "number"], ...BUCKET_SUMS]));
 }
 
 // The shards and their books.
@@ -841,7 +859,7 @@ function showShards(told) {
 
 const tierOf = one => one.upto === null ? money(one.price) : `${money(one.price)} up to ${count(one.upto)}`;
 const PRICES = [
-  ["Group", one => String(one.rating_group)], ["Counts", one => one.unit], ["Block", one => count(one.block)],
+  ["Group", one => String(one.rating_group)], ["Counts", one => one.unit], ["Block", one => count(one.block), "number"],
   ["Cycle", one => one.cycle], ["Period", one => one.period], ["Price of a block", one => one.tiers.map(tierOf).join(", then "), "words"],
 ];
 
@@ -858,13 +876,14 @@ function showBooks(told) {
 
 const TRIALS = [
   ["Group", one => String(one.rating_group)], ["Period", one => one.period], ["Moment", one => time(one.moment)],
-  ["Blocks", one => count(one.blocks)], ["Now", one => known(one.old, money)], ["Then", one => known(one.new, money)],
+  ["Blocks", one => count(one.blocks), "number"], ["Now", one => known(one.old, money), "number"], ["Then", one => known(one.new, money), "number"],
 ];
 
 /** Sends a form's file, and shows what is told of it, or why nothing is. */
 async function sendFile(form, path, type, shown) {
   const [file] = form.elements.file.files, id = form.id;
-  const tell = (line, isFault) => {
+  const tell = (line, isFault, kind = "") => {
+    at(id + "-done").className = `told ${kind}`;
     at(id + "-done").textContent = isFault ? "" : line;
     at(id + "-refused").textContent = isFault ? line : "";
   };
@@ -876,8 +895,9 @@ async function sendFile(form, path, type, shown) {
     const answer = await ask("POST", path(), await file.text(), 300, type);
     if (answer.status !== 200) throw new Told(why(answer));
     const {line, isFault = false, table} = shown(object(answer.text));
-    tell(line, isFault);
+    tell(line, isFault, "good");
     at(id + "-parts").append(table);
+    fit();
   } catch (fault) {
     tell(fault instanceof Told ? fault.message : `This page failed: ${fault.message}`, true);
   }
@@ -890,7 +910,7 @@ function sendTrial(form) {
     return `${AGENT}/trial?from=${form.elements.from.value}`;
   };
   return sendFile(form, path, "application/toml", told =>
-    ({line: `The book may follow from ${told.from_shown} on; the prices are in currency ${told.currency}.`, table: columnsOf(told.prices, "prices", TRIALS)}));
+    ({line: `The book may follow ${told.from_shown} on; the prices are in currency ${told.currency}.`, table: columnsOf(told.prices, "prices", TRIALS)}));
 }
 
 const FAULTS = [["Code", one => one.code || "the whole file"], ["What stands against it", one => one.fault, "words"]];
@@ -967,7 +987,7 @@ function begin() {
   at("sums-after").addEventListener("click", () => turned("sums-month", "office", 1));
   at("series").addEventListener("change", drawMonth);
   at("sums-series").addEventListener("change", drawSums);
-  addEventListener("resize", () => { drawMonth(); drawSums(); });
+  addEventListener("resize", () => { drawMonth(); drawSums(); fit(); });
   addEventListener("hashchange", follow);
   keep(unanswered());
   follow();

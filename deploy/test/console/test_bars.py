@@ -19,6 +19,7 @@ from support.world import World, done, program
 from console.behind import behind, rows_of
 from console.office import ACCOUNT, MOMENT, balance, home, script
 from console.person import Person
+from console.test_killed import killed_within
 
 
 HELD = [
@@ -183,11 +184,15 @@ def test_a_session_is_ended(
     assert operator.again().startswith(f"Ended session {session}")
 
 
-def test_a_session_of_a_shard_that_is_away_is_ended_once(
-    world: World, operator: Person, account: str, session: str
+@pytest.mark.parametrize("when", ["before it came", "with it in its hands"])
+def test_a_session_whose_shard_dies_is_ended_once(
+    world: World, operator: Person, account: str, session: str, when: str
 ) -> None:
-    world.kill(home(world, account))
-    assert ended(operator).startswith("No answer.")
+    before = operator.counted("done")
+    with killed_within(world, home(world, account), when):
+        operator.push("[data-part='open sessions'] button")
+    operator.is_counted("done", before)
+    assert operator.outcome().startswith("No answer.")
     world.start(home(world, account))
     for _ in range(2):
         assert operator.again().startswith(f"Ended session {session}")

@@ -14,10 +14,11 @@ from support.world import World
 from console.behind import Agent, behind, rows_of, told
 from console.office import ACCOUNT, FAR, MONTH, balance, home, script
 from console.person import Person
+from console.test_killed import killed_within
 from console.test_shown import money, utc
 
 SECONDS = "%Y-%m-%d %H:%M:%S"
-NUMBERS = itertools.count(40000)
+NUMBERS, CODES = itertools.count(40000), iter(FAR)
 
 
 def test_an_office_without_an_agent_says_so(operator: Person) -> None:
@@ -26,7 +27,8 @@ def test_an_office_without_an_agent_says_so(operator: Person) -> None:
     assert operator.text("#agent-none") == said + "The office can't answer now (503)."
     assert "Bar" not in operator.texts('[role="tab"]')
     operator.show("office")
-    assert operator.text("#office-none").startswith("What is not here: sums: ")
+    said = "Not here: sums, shards, books. The office can't answer now (503)."
+    assert operator.text("#office-none") == said
     assert not operator.is_seen("#books")
 
 
@@ -85,43 +87,84 @@ def test_books_with_their_prices(world: World, agent: Agent, operator: Person) -
     assert operator.texts("#books-parts h3") == ["Holds"]
 
 
-@pytest.mark.parametrize("way, code", [("keys", FAR[0]), ("pointer", FAR[1])])
-def test_a_voucher_of_another_shard(
-    world: World, agent: Agent, operator: Person, way: str, code: str
-) -> None:
+@pytest.fixture(params=["operator", "shop"], name="person")
+def who_redeems(request: pytest.FixtureRequest, agent: Agent) -> Person:
+    """Somebody who may redeem."""
+    found: Person = request.getfixturevalue(request.param)
+    return found
+
+
+def at_home(world: World, person: Person) -> str:
+    """A new account of the first account's shard, which the page shows."""
     here = home(world, ACCOUNT)
     number = next(one for one in map(str, NUMBERS) if home(world, one) == here)
-    behind(operator, opened(script(world), number))
-    operator.way = way
-    operator.tab("redeem")
-    operator.fill("redeem", code=code)
-    assert operator.send("redeem").startswith("Redeemed the voucher as bucket 1")
-    assert operator.again().startswith("Redeemed the voucher as bucket 1")
-    operator.way = "pointer"
+    opened(script(world), number)
+    if person.texts("#who") == ["desk, operator"]:
+        behind(person, number)
+    else:
+        person.show(number)
+    return number
+
+
+@pytest.mark.parametrize("way", ["keys", "pointer"])
+def test_a_voucher_of_another_shard(world: World, person: Person, way: str) -> None:
+    person.show(ACCOUNT)
+    number = at_home(world, person)
+    person.way = way
+    person.tab("redeem")
+    person.fill("redeem", code=next(CODES))
+    assert person.send("redeem").startswith("Redeemed the voucher as bucket 1")
+    assert person.again().startswith("Redeemed the voucher as bucket 1")
+    person.way = "pointer"
     buckets = balance(world, number)["Buckets"]
     assert [one["Credited"] for one in buckets] == [5_000_000]
 
 
 def test_the_agent_dies_with_a_voucher_in_its_hands(
-    world: World, agent: Agent, operator: Person
+    world: World, agent: Agent, person: Person
 ) -> None:
-    here = home(world, ACCOUNT)
-    number = next(one for one in map(str, NUMBERS) if home(world, one) == here)
-    behind(operator, opened(script(world), number))
-    operator.tab("redeem")
-    operator.fill("redeem", code=FAR[2])
-    before = operator.counted("done")
-    with world.still(here):
-        operator.push("#redeem button.main")
+    person.show(ACCOUNT)
+    number = at_home(world, person)
+    person.tab("redeem")
+    person.fill("redeem", code=next(CODES))
+    before = person.counted("done")
+    with world.still(home(world, ACCOUNT)):
+        person.push("#redeem button.main")
         until(lambda: world.waiting() + world.admin("show sess").count("be=agent"), "the request")
         time.sleep(0.2)
         agent.kill()
-    operator.is_counted("done", before)
-    assert operator.outcome().startswith("No answer.")
+    person.is_counted("done", before)
+    assert person.outcome().startswith("No answer.")
     agent.start()
     for _ in range(2):
-        assert operator.again().startswith("Redeemed the voucher as bucket 1")
+        assert person.again().startswith("Redeemed the voucher as bucket 1")
     assert [one["Credited"] for one in balance(world, number)["Buckets"]] == [5_000_000]
+
+
+@pytest.mark.parametrize("when", ["before it came", "with it in its hands"])
+@pytest.mark.parametrize("whose", ["the account's", "the code's"])
+def test_a_shard_dies_in_the_middle_of_a_voucher(
+    world: World, person: Person, whose: str, when: str
+) -> None:
+    """The shard of the account or of the code is away: pressed again it is credited once."""
+    person.show(ACCOUNT)
+    number = at_home(world, person)
+    here = home(world, ACCOUNT)
+    at = here if whose == "the account's" else 1 + here % 2
+    person.tab("redeem")
+    person.fill("redeem", code=next(CODES))
+    before = person.counted("done")
+    with killed_within(world, at, when):
+        person.push("#redeem button.main")
+    try:
+        person.is_counted("done", before)
+        assert person.outcome().startswith("No answer.")
+    finally:
+        world.start(at)
+    for _ in range(2):
+        assert person.again().startswith("Redeemed the voucher as bucket 1")
+    assert [one["Credited"] for one in balance(world, number)["Buckets"]] == [5_000_000]
+    assert not person.is_seen("#waiting")
 
 
 def test_a_revenue_officer_sees_it_and_bars_nobody(

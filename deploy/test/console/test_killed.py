@@ -54,7 +54,7 @@ def killed_within(world: World, at: int, when: str) -> Iterator[None]:
         return
     with world.still(at):
         yield
-        until(lambda: world.admin("show sess").count("be=shards") >= 1, "the shard's request")
+        until(lambda: world.asked(at) >= 1, "the shard's request")
         world.kill(at)
 
 
@@ -134,6 +134,23 @@ def test_an_account_is_opened_once(world: World, operator: Person, account: str)
         operator.is_counted("done", before)
         assert operator.outcome().startswith(said)
     assert balance(world, number)["Buckets"] == []
+
+
+@pytest.mark.parametrize("when", ["before it came", "with it in its hands"])
+def test_a_price_of_a_shard_that_dies(
+    world: World, operator: Person, account: str, when: str
+) -> None:
+    """A price has no reference and is no command: the page says that no answer came, and keeps none."""
+    operator.tab("price")
+    operator.fill("price", scope="30", unit="events", count="2")
+    before = operator.counted("done")
+    with killed_within(world, home(world, account), when):
+        pressed(operator, "price")
+    operator.is_counted("done", before)
+    assert operator.outcome().startswith("Price: The office can't answer now (50")
+    assert not operator.is_seen("#waiting") and not operator.is_seen("#again")
+    world.start(home(world, account))
+    assert operator.send("price").startswith("It costs 0.18")
 
 
 def test_an_office_that_is_away(world: World, operator: Person) -> None:

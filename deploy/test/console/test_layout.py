@@ -31,11 +31,16 @@ SEEN = """(() => {
         const [one, other] = [light(over(parts(colour), under)), light(under)];
         const ratio = (Math.max(one, other) + .05) / (Math.min(one, other) + .05);
         if (ratio < 4.5) low.push(`${element.tagName} ${element.textContent.slice(0, 20)} ${ratio.toFixed(2)}`);
+        if (element.placeholder) {
+            const [hint, below] = [light(over(parts(getComputedStyle(element, '::placeholder').color), under)), light(under)];
+            if ((Math.max(hint, below) + .05) / (Math.min(hint, below) + .05) < 4.5) low.push(`placeholder ${element.placeholder}`);
+        }
     }
     const fields = [...document.querySelectorAll('input, select, button')];
     const unnamed = fields.filter(one => !(one.labels && one.labels.length) && !one.textContent.trim() && !one.getAttribute('aria-label'));
     const small = fields.filter(one => one.offsetParent && one.getBoundingClientRect().height < 24);
-    const wide = [...document.querySelectorAll('main *')].filter(one => one.offsetParent && !one.closest('.scroll, .off') && one.getBoundingClientRect().right > innerWidth + 1);
+    const wide = [...document.querySelectorAll('main *')].filter(one => one.offsetParent && !one.closest('.off')
+        && (one.getBoundingClientRect().right > innerWidth + 1 || one.matches('div') && one.scrollWidth > one.clientWidth + 1));
     return {low, unnamed: unnamed.map(one => one.id || one.name), small: small.map(one => one.id || one.textContent),
         wide: wide.map(one => one.tagName + ' ' + (one.id || one.className)), scroll: document.documentElement.scrollWidth,
         titles: document.querySelectorAll('h1').length, language: document.documentElement.lang};
@@ -97,7 +102,7 @@ def test_what_the_agent_tells_fits(operator: Person, agent: Agent, what: str) ->
     operator.look(1200)
 
 
-@pytest.mark.parametrize("width", [320, 1200])
+@pytest.mark.parametrize("width", WIDTHS)
 def test_the_shops_page_fits(shop: Person, width: int) -> None:
     shop.show(ACCOUNT)
     for scheme in SCHEMES:

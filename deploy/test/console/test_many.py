@@ -3,6 +3,7 @@ to make so many takes the program minutes."""
 from __future__ import annotations
 
 import http.server
+import itertools
 import json
 import threading
 import time
@@ -14,6 +15,7 @@ from support.world import World
 
 from console.office import ACCOUNT, BEGIN, DAY, MOMENT, home
 from console.person import Person
+from console.test_layout import SCHEMES, WIDTHS, looked_at
 
 MANY, LIVE = 10_000, 2_500
 
@@ -79,16 +81,36 @@ def test_ten_thousand_buckets_and_charges(operator: Person) -> None:
     print(f"shown after {time.monotonic() - begun:.1f} s")
     assert operator.text("#available") == f"{LIVE:,}.00"
     assert operator.text("#past-count") == "7,500 used up or over"
-    assert operator.value("document.querySelectorAll('#live [data-bucket]').length") == 40
+    assert operator.value("document.querySelectorAll('#live [data-bucket]').length") == 6
+    operator.click("#live > button")
+    assert operator.value("document.querySelectorAll('#live [data-bucket]').length") == 46
     ends = operator.value(
         "[...document.querySelectorAll('#live [data-bucket] > .parts:last-child span:last-child')].map(one => one.textContent)"
     )
     assert ends == sorted(ends)
     operator.click("#live > button")
-    assert operator.value("document.querySelectorAll('#live [data-bucket]').length") == 80
-    assert operator.text("#live > button") == "Show 40 more of 2,420 buckets"
+    assert operator.value("document.querySelectorAll('#live [data-bucket]').length") == 86
+    assert operator.text("#live > button") == "Show 40 more of 2,414 buckets"
     operator.click("#past-box summary")
     assert operator.value("document.querySelectorAll('#past [data-bucket]').length") in (0, 40)
+
+
+COVERED = "charges.forEach(row => { row.covered = 1234; }); hasCovered = true; showCharges();"
+
+
+@pytest.mark.usefixtures("crowded")
+def test_all_columns_of_charges_fit(operator: Person) -> None:
+    """Covered and uncollected beside the others, from 320 pixels on."""
+    operator.show(ACCOUNT)
+    operator.value(COVERED)
+    assert operator.texts("#charges thead th")[-1].replace("\u00ad", "") == "Uncollected"
+    try:
+        for width, scheme in itertools.product(WIDTHS, SCHEMES):
+            seen = looked_at(operator, width, scheme)
+            assert (width, scheme, seen["low"], seen["wide"]) == (width, scheme, [], [])
+            assert seen["scroll"] <= width
+    finally:
+        operator.look(1200)
 
 
 @pytest.mark.usefixtures("crowded")

@@ -2,6 +2,7 @@
 from __future__ import annotations
 
 import json
+import re
 from typing import Any
 
 import pytest
@@ -10,6 +11,7 @@ from support.world import World
 
 from console.office import ACCOUNT, CODES, FAR, NOBODY, balance, charges, home, script
 from console.person import Person
+from console.test_shown import money
 
 NUMBERS = map(str, range(80000, 90000))
 
@@ -31,8 +33,9 @@ def test_a_shop_sees_a_balance_and_redeems(
     shop.show()
     shop.find(account)
     assert (shop.text("#who"), shop.text("#available")) == ("counter, shop", "1.00")
-    assert shop.texts('[role="tab"]') == ["Voucher"]
-    assert not shop.is_seen("#month-side") and not shop.is_seen("#views")
+    assert shop.texts('[role="tab"]') == ["Voucher", "Price"]
+    assert not shop.is_seen("#agent") and not shop.is_seen("#views")
+    shop.tab("redeem")
     shop.fill("redeem", code=code)
     assert shop.send("redeem").startswith("Redeemed the voucher as bucket 2")
     assert balance(world, account)["Buckets"][1]["Credited"] == 5_000_000
@@ -40,15 +43,70 @@ def test_a_shop_sees_a_balance_and_redeems(
 
 
 def test_a_shop_is_told_where_was_looked(shop: Person, account: str) -> None:
+    """No agent is there: nobody was asked, so the page asks the account's own shard."""
     shop.show(account)
+    shop.tab("redeem")
     shop.fill("redeem", code=FAR[0])
     told = shop.send("redeem")
     assert "there is no such voucher (O3). Only the codes of this account's shard" in told
+    assert not shop.is_seen("#waiting")
+
+
+@pytest.mark.parametrize("way", ["keys", "pointer"])
+def test_a_shop_sees_what_was_charged_and_when(world: World, shop: Person, way: str) -> None:
+    """What was charged today, and why: each charge of the month, by day, as the statement has it."""
+    shop.way = way
+    shop.show()
+    shop.find(ACCOUNT)
+    rows = "document.querySelectorAll('#charges tbody tr:not(.day)').length"
+    assert shop.value(rows) == len(charges(world))
+    figure = "document.querySelector('#figures [data-figure=\"Collected this month\"]').textContent"
+    assert shop.value(figure) == money(sum(row[4] for row in charges(world)))
+    before = shop.counted("shown")
+    shop.push("#before")
+    shop.is_counted("shown", before)
+    assert shop.text("#charges tbody") == "No charge in this month."
+    shop.way = "pointer"
+
+
+@pytest.mark.parametrize("way", ["keys", "pointer"])
+def test_a_shop_asks_for_a_price(world: World, shop: Person, account: str, way: str) -> None:
+    """Would ten minutes be paid, and what would they cost? Nothing is charged."""
+    shop.show(account)
+    shop.way, before = way, balance(world, account)
+    shop.tab("price")
+    shop.fill("price", scope="10", unit="seconds", count="600")
+    told = shop.send("price")
+    assert re.fullmatch(
+        r"It costs (0\.50|1\.00) without allowances; the account can pay it\.", told
+    )
+    shop.fill("price", scope="10", unit="seconds", count="999999999")
+    assert "the account can't pay it" in shop.send("price")
+    assert balance(world, account) == before
+    shop.way = "pointer"
+
+
+def test_a_shop_that_guesses_codes(world: World, shop: Person, account: str) -> None:
+    """After twenty that no voucher has the page says that it has to wait, and others go on."""
+    shop.show(account)
+    shop.tab("redeem")
+    for at in range(25):
+        shop.fill("redeem", code=f"{600_000_000_000 + at}")
+        told = shop.send("redeem")
+        if "(429)" in told:
+            break
+        assert "there is no such voucher (O3)" in told
+    assert at in (20, 21, 22)
+    assert "Too much was asked at once (429)." in told
+    assert "Codes that no voucher has count for a minute." in told
+    shop.find(ACCOUNT)
+    assert shop.is_seen("#sheet")
+    world.admin("clear table callers")
 
 
 def test_a_shop_opens_no_account(shop: Person) -> None:
     shop.show(NOBODY)
-    assert shop.is_seen("#none") and not shop.is_seen("#open")
+    assert shop.told() == f"There is no account {NOBODY} (O2)." and not shop.is_seen("#none")
 
 
 def test_a_revenue_officer_sees_all_and_changes_nothing(world: World, reader: Person) -> None:
@@ -58,7 +116,7 @@ def test_a_revenue_officer_sees_all_and_changes_nothing(world: World, reader: Pe
     found = reader.value("document.querySelectorAll('#charges tbody tr:not(.day)').length")
     assert found == len(charges(world))
     reader.show(NOBODY)
-    assert reader.is_seen("#none") and not reader.is_seen("#open")
+    assert reader.told() == f"There is no account {NOBODY} (O2)." and not reader.is_seen("#none")
 
 
 @pytest.mark.parametrize("way", ["keys", "pointer"])
@@ -79,12 +137,29 @@ def test_an_operator_by_name_is_offered_all(world: World, operator: Person) -> N
     assert operator.is_seen("#month-side") and operator.is_seen("#views")
 
 
+DEBIT = """ask('POST', '/ccr', JSON.stringify({'Session-Id': 'by-hand', 'CC-Request-Type': 4,
+    'CC-Request-Number': 0, 'Requested-Action': 0, 'Subscription-Id': {'Subscription-Id-Type': 0,
+    'Subscription-Id-Data': ACCOUNT}, 'Multiple-Services-Credit-Control': [{'Rating-Group': 30,
+    'Requested-Service-Unit': {'CC-Service-Specific-Units': 1}}]})).then(one => one.status)"""
+
+
+@pytest.mark.parametrize("who", ["shop", "reader"])
+def test_the_door_refuses_a_debit(world: World, request: pytest.FixtureRequest, who: str) -> None:
+    """A price goes the way of a debit, which a shop and a revenue officer may not."""
+    person: Any = request.getfixturevalue(who)
+    person.show(ACCOUNT)
+    before = balance(world)
+    assert person.value(DEBIT.replace("ACCOUNT", json.dumps(ACCOUNT))) == 403
+    assert balance(world) == before
+
+
 # What isn't offered is shown by hand, as somebody might who can change his page.
-FORBIDDEN = {
+FORBIDDEN: dict[str, dict[str, str]] = {
     "credit": {"amount": "5"},
     "allow": {"blocks": "5", "scope": "10"},
     "price": {"scope": "10", "count": "5"},
     "redeem": {"code": CODES[4]},
+    "bar": {},
 }
 UNHIDE = """(() => {
     for (let one = document.getElementById(FORM); one; one = one.parentElement) one.hidden = false;
@@ -102,7 +177,7 @@ def forced(person: Person, form: str, fields: dict[str, str]) -> str:
     return person.outcome() + person.told()
 
 
-@pytest.mark.parametrize("form", ["credit", "allow", "price"])
+@pytest.mark.parametrize("form", ["credit", "allow", "bar"])
 def test_the_door_refuses_a_shop(world: World, shop: Person, form: str) -> None:
     shop.show(ACCOUNT)
     before = balance(world)

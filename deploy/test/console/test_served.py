@@ -132,6 +132,7 @@ def visitor(tmp_path_factory: pytest.TempPathFactory) -> Iterator[Person]:
 TRIES = """Promise.allSettled([
     fetch(TO + '/accounts/ACCOUNT/credits', {method: 'POST', mode: 'no-cors', body: BODY}),
     fetch(TO + '/accounts/ACCOUNT/credits', {method: 'POST', headers: {'Content-Type': 'application/json'}, body: BODY}),
+    fetch(TO + '/office/agent/redeem', {method: 'POST', headers: {'Content-Type': 'application/json'}, body: BODY}),
     fetch(TO + '/accounts/ACCOUNT').then(one => one.text()),
     fetch(TO + '/office/me').then(one => one.text()),
     fetch(TO + '/office/console.js').then(one => one.text()),
@@ -146,7 +147,7 @@ def test_a_page_of_another_origin(world: World, visitor: Person, site: int, door
     body = json.dumps(json.dumps({"Amount": 9, "Reference": "from-elsewhere"}))
     tries = TRIES.replace("TO", to).replace("ACCOUNT", ACCOUNT).replace("BODY", body)
     told = visitor.value(tries)
-    assert told[1:] == ["undefined"] * 4 and "Bucket" not in told[0]
+    assert told[1:] == ["undefined"] * 5 and "Bucket" not in told[0]
     assert balance(world) == before
 
 

@@ -193,7 +193,7 @@ def test_a_barred_account(operator: Person) -> None:
 def test_an_account_that_isnt_there(operator: Person) -> None:
     operator.show(NOBODY)
     assert operator.told() == f"There is no account {NOBODY} (O2)."
-    assert operator.text("#none-title") == f"There is no account {NOBODY}"
+    assert operator.text("#none-title") == f"Open account {NOBODY}"
     assert not operator.is_seen("#sheet") and operator.is_seen("#open")
 
 

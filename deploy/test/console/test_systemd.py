@@ -257,9 +257,8 @@ def test_a_book_is_tried(desk: Desk, rosa: Person) -> None:
     before = rosa.counted("done")
     rosa.push("#trial button.main")
     rosa.is_counted("done", before)
-    assert rosa.text("#trial-done").startswith(
-        f"The book may follow from {start.replace('T', ' ')}"
-    )
+    said = f"The book may follow from ... {start.replace('T', ' ')} "
+    assert re.match(said, rosa.text("#trial-done")), rosa.text("#trial-done")
     assert len(rows_of(rosa, "#trial-parts")) > 20
 
 
@@ -333,12 +332,15 @@ def test_the_agent_is_killed_in_the_middle_of_a_bar(desk: Desk, ada: Person, slo
     )
     desk.office.run("systemctl kill --kill-whom=main -s KILL office-agent; rm /run/slow")
     ada.is_counted("done", before)
-    assert ada.outcome().startswith("No answer.")
-    assert ada.texts("#unanswered span") == [f"Bar for account {account}"]
-    wait_until(lambda: desk.office.is_up("01"), "the shard")
-    assert desk.office.ask("GET", f"/accounts/{account}")["Barred"] is False
-    assert ada.again().startswith("Barred; others of its shard waited")
-    assert not ada.is_seen("#waiting")
+    # HAProxy says 502, or lets a browser whose connection it has kept ask again by itself.
+    if ada.outcome().startswith("No answer."):
+        assert ada.texts("#unanswered span") == [f"Bar for account {account}"]
+        wait_until(lambda: desk.office.is_up("01"), "the shard")
+        ada.again()
+    assert ada.outcome().startswith("Barred; others of its shard waited")
+    assert not ada.is_seen("#waiting") and desk.office.is_up("01")
+    begins = [one for one in desk.lines() if one["what"].endswith(f"/bar/{account}")]
+    assert ["begins" in one for one in begins] == [True, True, False]
     assert desk.office.ask("GET", f"/accounts/{account}")["Barred"] is True
 
 
@@ -411,4 +413,4 @@ def test_its_pictures(desk: Desk, ada: Person, pictures: pathlib.Path) -> None:
 
 
 def test_the_audit_finds_nothing(desk: Desk) -> None:
-    assert desk.office.run("office audit") == ""
+    assert desk.office.run("office audit") == "findings 0 in 4 databases\n"
