@@ -276,7 +276,7 @@ function chartOf(days, written, least, wide) {
     picture.append(drawn("line", {class: "grid", x1: left, x2: wide, y1: y(step * line), y2: y(step * line)}));
     picture.append(drawn("text", {x: left - 8, y: y(step * line) + 4, "text-anchor": "end"}, written(step * line)));
   }
-  const width = (wide - left) / days.length, every = wide < 500 ? 10 : 5;
+  const width = (wide - left - 8) / days.length, every = wide < 500 ? 10 : 5;
   days.forEach((one, place) => picture.append(...pieces(one, left + place * width, width, y, written),
     ...(place === 0 || (place + 1) % every === 0
       ? [drawn("text", {x: left + (place + .5) * width, y: high - 6, "text-anchor": "middle"}, Number(one.day.slice(8)))] : [])));
@@ -333,6 +333,7 @@ function showMonth(path) {
   at("caption").textContent = `Charges of ${month} by day, the newest first`;
   at("chart-title").textContent = `${month} by day`;
   at("text").href = path;
+  at("csv").hidden = true;
 }
 
 const sumsOf = rows => Object.fromEntries(["rated", "collected", "uncollected"].map(part => [part, total(rows, part)]));
@@ -675,14 +676,41 @@ async function showAgent(mine) {
   counted("behind");
 }
 
+const isLook = one => one.asked.startsWith("reading ") && one.answered === "answered";
+
+/** The lines of the log, the newest first; looks that were answered come by a button. */
+function logOf(lines) {
+  const told = lines.filter(one => !isLook(one)), looks = lines.length - told.length;
+  const place = made("div", "", columnsOf(told, "lines", LINES));
+  if (!looks) return [place];
+  const button = made("button", "more", `Show ${count(looks)} looks too`);
+  button.type = "button";
+  button.addEventListener("click", () => { place.replaceChildren(columnsOf(lines, "lines", LINES)); button.remove(); fit(); });
+  return [place, button];
+}
+
+const field = text => text === "" || /[",\r\n]/.test(text) ? `"${text.replaceAll('"', '""')}"` : text;
+/** Charges in the bytes of the program's export of a month. */
+const csvOf = rows => ["moment,session,group,blocks,rated,collected,uncollected,covered", ...rows.map(one =>
+  [one.moment, field(one.session), one.rating_group, one.blocks, one.rated, one.collected, one.uncollected, one.covered].join(","))].join("\n") + "\n";
+
+/** Offers the charges as a file. */
+function offerFile(rows) {
+  URL.revokeObjectURL(at("csv").href);
+  at("csv").href = URL.createObjectURL(new Blob([csvOf(rows)], {type: "text/csv"}));
+  at("csv").download = `${account}-${month.replace("-", "")}.csv`;
+  at("csv").hidden = false;
+}
+
 function showBehind(told) {
+  offerFile(told.charges);
   const sessions = told.sessions.flatMap(one => one.groups.length
     ? one.groups.map((group, place) => ({...one, group, isFirst: place === 0})) : [{...one, isFirst: true}]);
   const more = told.lines_before ? `, ${count(told.lines_before)} older ones left out` : "";
   at("agent-parts").append(
     made("h3", "", "Open sessions"), columnsOf(sessions, "open sessions", SESSIONS),
     ...(me.Changes && sessions.length ? [made("p", "quiet", "An ended session holds nothing more. What its gateway reports of it afterwards isn't charged.")] : []),
-    made("h3", "", `The doors' log since ${time(told.lines_since)}${more}`), columnsOf(told.lines.toReversed(), "lines", LINES));
+    made("h3", "", `The doors' log since ${time(told.lines_since)}${more}`), ...logOf(told.lines.toReversed()));
   told.charges.forEach((one, place) => {
     const row = charges[place];
     if (!row || row.number !== place || row.group !== String(one.rating_group) || row.blocks !== String(one.blocks)) return;

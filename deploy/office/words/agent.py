@@ -2,7 +2,7 @@
 
     office agent
 
-It listens at the socket of the file ([agent] socket), which the operators' doors alone reach, until
+It listens at the socket of the file ([agent] socket), which HAProxy alone reaches, until
 it is stopped; the unit office-agent runs it, as root: it reads the doors' log and copies of the
 shards, and stops a shard for a bar. Stopped, it lets what is under way end; killed, it leaves no
 shard stopped. Standard output has a JSON line an answer, with who asked. deploy/AGENT.md has what it

@@ -122,11 +122,11 @@ def stood() -> Iterator[Desk]:
     vouchers, and a book that comes tomorrow."""
     with stand() as office:
         hashed = done("openssl", "passwd", "-5", "-salt", "rounds=1000$abc", SECRET).strip()
+        history(office)
         office.machine.write("/etc/ocs/office.toml", FILE.replace("HASH", hashed))
         office.run(SET_UP)
         office.run(KEYS)
         office.machine.write(POLICIES, json.dumps(POLICY))
-        history(office)
         rows = "".join(f"{code},5000000,30,\n" for code in CODES)
         office.machine.write("/tmp/vouchers.csv", "code,amount,days,scope\n" + rows)
         office.run(f"office import --shard {OF_CODES} /tmp/vouchers.csv")

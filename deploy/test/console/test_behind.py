@@ -3,6 +3,7 @@ of another shard; and what the page says where no agent is."""
 from __future__ import annotations
 
 import itertools
+import pathlib
 import re
 import time
 
@@ -53,13 +54,39 @@ def test_what_covered_a_charge(world: World, agent: Agent, operator: Person) -> 
     assert operator.is_seen("#charges th.covered")
 
 
+@pytest.mark.parametrize("who, way", [("operator", "pointer"), ("reader", "keys")])
+def test_a_month_as_csv(
+    world: World,
+    agent: Agent,
+    request: pytest.FixtureRequest,
+    tmp_path: pathlib.Path,
+    who: str,
+    way: str,
+) -> None:
+    """The file has the bytes of the program's own word."""
+    person: Person = request.getfixturevalue(who)
+    behind(person, ACCOUNT)
+    words = {"behavior": "allow", "downloadPath": str(tmp_path)}
+    person.do("Browser.setDownloadBehavior", **words)
+    person.way, file = way, tmp_path / f"{ACCOUNT}-{MONTH}.csv"
+    person.push("#csv")
+    until(file.exists, "the file")
+    assert file.read_text() == world.command("statement", ACCOUNT, MONTH, "--csv")
+    assert len(file.read_text().splitlines()) == 41
+    person.way = "pointer"
+
+
 def test_why_she_was_refused(world: World, agent: Agent, operator: Person) -> None:
     number = opened(script(world), str(next(NUMBERS)), 1_000_000)
     body = {"Amount": 7, "Reference": f"first-{number}"}
     desk = Caller(world, world.doors["desk"])
     assert desk.ask("POST", f"/accounts/{number}/credits", body).body == {"Refusal": "O5"}
     behind(operator, number)
+    few = rows_of(operator, "[data-part=lines]")
+    assert not [row for row in few if row[2].startswith("reading")]
+    operator.click("#agent-parts > button.more")
     shown = rows_of(operator, "[data-part=lines]")
+    assert [row for row in shown if row in few] == few and len(few) >= 3
     answer = told(world, f"account/{number}?month={MONTH}")
     wanted = [
         [utc(int(one["moment"]), SECONDS), one["who"], one["asked"], one["answered"], one["id"][:8]]
@@ -171,7 +198,7 @@ def test_a_revenue_officer_sees_it_and_bars_nobody(
     world: World, agent: Agent, reader: Person
 ) -> None:
     behind(reader, ACCOUNT)
-    assert rows_of(reader, "[data-part=lines]")
+    assert reader.texts("#agent-parts h3")[1].startswith("The doors' log since ")
     assert not reader.is_seen("#do")
     reader.show("office")
     assert len(rows_of(reader, "#books-parts")) == 6
