@@ -452,12 +452,6 @@ async function send(command) {
   try { answer = await ask(command.method, command.path, command.body, command.seconds); } catch (fault) {
     if (!(fault instanceof Told)) throw fault;
   }
-  if (answer?.status === 503 && command.instead && command.times === 1) {
-    // Nobody was asked: the agent is away.
-    keep(unanswered().filter(isOther(command)));
-    busy(false);
-    return send(command.instead);
-  }
   const told = outcome(command, answer);
   if (told.kind !== "unknown") keep(unanswered().filter(isOther(command)));
   if (told.kind === "good" && (command.account === account || command.kind === "open")) {
@@ -537,15 +531,27 @@ function sendAllowance(form) {
 
 const codeOf = form => form.elements.code.value.replaceAll(/[ -]/g, "");
 
+/** Whether the agent is away: it is asked for what it can't read, which changes nothing. A 503 to a command
+    wouldn't say so, for a browser may have asked before by itself. */
+async function isAway() {
+  if (hasAgent) return false;
+  try { return (await ask("POST", `${AGENT}/redeem`, "{}")).status === 503; } catch { return false; }
+}
+
 /** Redeems a voucher: by the agent, which asks all shards; where it is away, in the account's own. */
-function sendVoucher(form) {
+async function sendVoucher(form) {
   const code = codeOf(form), reference = `redeem-${code}`;
   if (!/^[0-9]{12}$/.test(code)) return unread(form, "code", "A code is 12 digits.");
   form.elements.code.setAttribute("aria-invalid", "false");
+  if (isBusy) return;
+  busy(true);
+  sayDone("Asking the office ..");
   const words = {kind: "redeem", account, words: {code}, reference, method: "POST"};
-  const own = {...words, path: `/vouchers/${code}/redeem`, body: json({"Subscription-Id-Data": account, Reference: reference})};
-  const any = {...words, path: `${AGENT}/redeem`, body: json({Account: account, Code: code, Reference: reference}), seconds: 300};
-  return send(hasAgent || !isOperator() ? {...any, instead: own} : own);
+  const own = {path: `/vouchers/${code}/redeem`, body: json({"Subscription-Id-Data": account, Reference: reference})};
+  const any = {path: `${AGENT}/redeem`, body: json({Account: account, Code: code, Reference: reference}), seconds: 300};
+  const isOwn = await isAway();
+  busy(false);
+  return send({...words, ...(isOwn ? own : any)});
 }
 
 function sendBar() {

@@ -43,7 +43,7 @@ def test_a_shop_sees_a_balance_and_redeems(
 
 
 def test_a_shop_is_told_where_was_looked(shop: Person, account: str) -> None:
-    """No agent is there: nobody was asked, so the page asks the account's own shard."""
+    """No agent is there, which the page finds out before, so it asks the account's own shard."""
     shop.show(account)
     shop.tab("redeem")
     shop.fill("redeem", code=FAR[0])
