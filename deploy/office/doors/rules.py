@@ -232,7 +232,7 @@ def guesses(door: Door) -> list[str]:
         return []
     is_code = f"{{ path_beg /vouchers/ {routes.REDEEM} }}"
     return [
-        *refused(429, "guesses", f"if {is_code} {{ sc0_gpc1_rate gt {GUESSES} }}"),
+        *refused(429, "codes", f"if {is_code} {{ sc0_gpc1_rate gt {GUESSES} }}"),
         "    http-response sc-inc-gpc1(0) if { var(txn.refusal) -m str O3 }",
     ]
 

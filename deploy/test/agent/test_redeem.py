@@ -125,7 +125,7 @@ def test_a_shop_that_guesses_codes(agent: Agent, ada: Caller, script: Caller) ->
         assert told.status == 429 or told.body["Refusal"] == "O3"
     assert 20 <= statuses.index(429) <= 22
     assert set(statuses[statuses.index(429) :]) == {429}
-    assert agent.world.line(told.fields["x-request-id"])["why"] == "guesses"
+    assert agent.world.line(told.fields["x-request-id"])["why"] == "codes"
     assert redeem(ada, account, "899999999999", "a1").body["Refusal"] == "O3"
     assert redeem(agent.at("shops", "shop-8"), account, next(CODES), "v1").body["Bucket"] == 1
 

@@ -120,7 +120,7 @@ def test_a_guesser_of_codes(at: Callable[..., Caller], world: World, script: Cal
     assert {one.text for one in wrong} == {'{"Refusal":"O3"}'}
     assert {one.status for one in told[len(wrong) :]} == {429}
     line = world.line(told[-1].fields["x-request-id"])
-    assert (line["why"], line["who"], line["shard"]) == ("guesses", "shop-9", "<NOSRV>")
+    assert (line["why"], line["who"], line["shard"]) == ("codes", "shop-9", "<NOSRV>")
     assert guess(shop, 123456789012).status == 429
     assert shop.ask("POST", "/office/agent/redeem", {}).status == 429
     assert shop.ask("GET", f"/accounts/{ACCOUNT}").status == 200
