@@ -14,8 +14,8 @@ from office.faults import Unread
 from office.settings import Settings
 
 Body = dict[str, Any]
-# Rights that are less than all, as the doors name them.
-READS, REDEEMS = "read", "redeem"
+# Rights as the doors name them.
+ALL, READS, REDEEMS = "", "read", "redeem"
 
 
 class Office:
@@ -48,8 +48,9 @@ class Asked:
         return self.may == REDEEMS
 
     def is_let(self, path: str, changes: bool) -> bool:
-        """Whether the one who asks may ask for this route."""
-        return path == routes.REDEEM if self.is_shop else self.may != READS or not changes
+        """Whether the one who asks may ask for this route; a right that isn't known is none."""
+        rights = {ALL: True, READS: not changes, REDEEMS: path == routes.REDEEM}
+        return rights.get(self.may, False)
 
     @property
     def path(self) -> str:

@@ -110,6 +110,7 @@ REFUSED = [
     ("redeem", "GET", "/account/55001"),
     ("redeem", "GET", "/shards"),
     ("redeem", "POST", "/vouchers/check"),
+    ("another", "GET", "/shards"),
 ]
 
 
