@@ -153,6 +153,27 @@ def test_the_door_refuses_a_debit(world: World, request: pytest.FixtureRequest, 
     assert balance(world) == before
 
 
+BEHIND = {
+    "an account": ("GET", f"account/{ACCOUNT}", ""),
+    "sums": ("GET", "sums?month=202601", ""),
+    "shards": ("GET", "shards", ""),
+    "books": ("GET", "books", ""),
+    "a trial": ("POST", "trial?from=1", "application/toml"),
+    "vouchers": ("POST", "vouchers/check", "text/csv"),
+    "a bar": ("POST", f"bar/{ACCOUNT}", "application/json"),
+}
+
+
+@pytest.mark.parametrize("method, path, kind", BEHIND.values(), ids=list(BEHIND))
+def test_the_door_refuses_a_shop_all_else_of_the_agent(
+    shop: Person, method: str, path: str, kind: str
+) -> None:
+    shop.show(ACCOUNT)
+    body = "'x'" if kind else "undefined"
+    asked = f"ask('{method}', '/office/agent/{path}', {body}, 30, '{kind}')"
+    assert shop.value(f"{asked}.then(one => one.status)") == 403
+
+
 # What isn't offered is shown by hand, as somebody might who can change his page.
 FORBIDDEN: dict[str, dict[str, str]] = {
     "credit": {"amount": "5"},
