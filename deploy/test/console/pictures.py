@@ -17,9 +17,9 @@ SHOWN = {
     "account-1200-light": 1900,
     "account-1600-dark": 1500,
     "account-320-light": 1900,
-    "shop-400-light": 1500,
+    "shop-400-light": 1850,
     "no-answer-400-dark": 1100,
-    "behind-1200-light": 1400,
+    "behind-400-light": 1200,
     "office-1200-light": 2300,
 }
 # Bytes of a picture of nothing, and of one that a page may show.

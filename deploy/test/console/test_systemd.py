@@ -205,7 +205,7 @@ def test_why_she_was_refused(desk: Desk, operator: Person) -> None:
     wanted = [
         [utc(int(one["moment"]), SECONDS), one["who"], one["asked"], one["answered"], one["id"][:8]]
         for one in reversed(told_of(desk, account)["lines"])
-        if not one["asked"].startswith("reading ")
+        if not (one["asked"].startswith("reading ") and one["answered"] == "answered")
     ]
     assert shown == wanted
     refused = [row for row in shown if "(4012)" in row[3]]
@@ -405,7 +405,7 @@ def test_an_office_whose_agent_is_stopped(desk: Desk, ada: Person, shop: Person)
 def test_its_pictures(desk: Desk, ada: Person, pictures: pathlib.Path) -> None:
     """What is behind an account: open sessions, covered charges, the log; and the tab of bars."""
     behind(ada, ACCOUNT)
-    taken(ada, pictures, "behind", "#month-side")
+    taken(ada, pictures, "behind", "#agent")
     ada.tab("bar")
     taken(ada, pictures, "bar", "#do")
     ada.show("office")
