@@ -886,8 +886,10 @@ function showShards(told) {
   at("shards-moment").textContent = `as of ${time(told.as_of)}`;
   at("shards-parts").replaceChildren(columnsOf(told.shards, "shards", SHARDS));
   if (!told.machines) return;
-  const lines = [...told.machines.lacking.map(one => `This machine lacks ${one}`), ...Object.entries(told.machines.votes).map(([name, value]) => `Votes, ${name}: ${value}`),
-    ...Object.entries(told.machines.mirrored).map(([shard, is]) => `Shard ${shard}: ${is === true ? "in step" : is === false ? "not in step" : is}`)];
+  const {votes, mirrored, lacking} = told.machines;
+  const lines = [`Votes: ${votes.there} of ${votes.expected}, ${votes.is_majority ? "a majority" : "no majority"}.`,
+    ...Object.entries(mirrored).map(([shard, isInStep]) => `Shard ${shard}: both copies are ${isInStep ? "the same" : "not the same"}.`),
+    ...lacking.map(one => `This machine lacks: ${one}.`)];
   at("shards-parts").append(made("h3", "", "Two machines"), made("ul", "", ...lines.map(line => made("li", "", line))));
 }
 

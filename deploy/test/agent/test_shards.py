@@ -1,11 +1,16 @@
 """The state of shards, what waits, and the ages of copies."""
 from __future__ import annotations
 
+import pathlib
 import threading
 import time
 from typing import Any
 
+from office import settings
+from office.agent import state
+
 from agent.running import Agent
+from core.test_example import MACHINES, TEXT
 from support.callers import Caller, debit, opened
 from support.waiting import until
 
@@ -65,3 +70,14 @@ def test_a_shard_that_stands_still(agent: Agent, audit: Caller, script: Caller) 
 
 def test_nothing_stands_behind_it(ada: Caller) -> None:
     assert ada.ask("GET", "/office/agent/shards?x=1").status == 404
+
+
+def test_two_machines(tmp_path: pathlib.Path) -> None:
+    """An office of two machines, told of a machine that is none of them: nothing is in step."""
+    path = tmp_path / "office.toml"
+    path.write_text(TEXT + MACHINES, encoding="utf-8")
+    told = state.machines(settings.read(path))
+    assert told is not None
+    assert told["mirrored"] == {number: False for number in ("01", "02", "03", "04")}
+    assert told["votes"].keys() == {"there", "expected", "is_majority"}
+    assert "the file has m1, m2, m3" in told["lacking"][0]

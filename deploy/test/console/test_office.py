@@ -3,6 +3,7 @@ vouchers that are checked; by an operator and by a revenue officer, who may do a
 from __future__ import annotations
 
 import collections
+import json
 import pathlib
 from collections.abc import Iterator
 from typing import Any
@@ -99,6 +100,26 @@ def test_the_shards(world: World, person: Person) -> None:
     assert [row[0] for row in shown] == [row["shard"] for row in rows] == ["01", "02"]
     assert all(row[2].startswith("in 0.") or row[2].startswith("in ") for row in shown)
     assert [row[3] for row in shown] == ["0", "0"]
+
+
+MACHINES = {
+    "votes": {"there": 2, "expected": 3, "is_majority": True},
+    "mirrored": {"01": True, "02": False},
+    "lacking": ["the unit <b>drbd</b>"],
+}
+
+
+def test_two_machines(operator: Person) -> None:
+    """What the agent tells where an office has two; here there is one, so the page is handed it."""
+    operator.show("office")
+    told = json.dumps({"as_of": 0, "shards": [], "machines": MACHINES})
+    operator.value(f"at('shards').hidden = false; showShards({told})")
+    assert operator.texts("#shards-parts li") == [
+        "Votes: 2 of 3, a majority.",
+        "Shard 01: both copies are the same.",
+        "Shard 02: both copies are not the same.",
+        "This machine lacks: the unit <b>drbd</b>.",
+    ]
 
 
 def test_a_shard_that_is_away_is_seen(world: World, operator: Person, agent: Agent) -> None:
