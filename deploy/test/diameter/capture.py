@@ -4,7 +4,6 @@ from __future__ import annotations
 import pathlib
 import signal
 import subprocess
-import time
 import xml.etree.ElementTree
 from collections.abc import Iterator, Sequence
 
@@ -13,8 +12,8 @@ from support.waiting import until
 Element = xml.etree.ElementTree.Element
 # tshark finds a frame malformed, or at fault.
 FAULTY = "_ws.malformed or _ws.expert.severity >= 8388608"
-# Seconds without a packet, after which all that passed is in the file.
-STILL = 3
+# The head of a Session-Id up to the last byte of its length.
+SESSION_ID = bytes.fromhex("00000107400000")
 
 
 class Capture:
@@ -40,12 +39,9 @@ class Capture:
         """Waits until the file has these bytes of a message."""
         until(lambda: raw in self.file.read_bytes(), "the last message")
 
-    def settled(self) -> None:
-        """Waits until nothing has come for a moment: what passes is written a while later."""
-        sizes = [-1, self.file.stat().st_size]
-        while sizes[-2] != sizes[-1]:
-            time.sleep(STILL)
-            sizes.append(self.file.stat().st_size)
+    def sessions(self) -> int:
+        """How often the file has a Session-Id."""
+        return self.file.read_bytes().count(SESSION_ID)
 
     def stop(self) -> None:
         """Ends it; the file is whole afterwards."""

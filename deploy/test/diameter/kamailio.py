@@ -2,6 +2,7 @@
 capture of all of it."""
 from __future__ import annotations
 
+import contextlib
 import dataclasses
 import os
 import pathlib
@@ -183,6 +184,15 @@ class Calls:
         assert process.wait(240) == 0
         time.sleep(2)
 
+    def captured(self) -> None:
+        """Waits until what passed is in the capture: a request and an answer for each of the bridge's
+        lines. A bridge that was killed may have written a line without its answer: then not long.
+        """
+        lines = sum(line["what"] == "CCR" for line in self.bridge.lines())
+        wanted = 2 * lines * len(self.capture.ports)
+        with contextlib.suppress(TimeoutError):
+            until(lambda: self.capture.sessions() >= wanted, "the capture", 30)
+
     def reported(self) -> dict[str, Reported]:
         """What the capture says was reported, by account; each key of a session once."""
         asked: dict[tuple[str, str], tuple[Key, int]] = {}
@@ -209,7 +219,7 @@ class Calls:
 
     def compared(self, accounts: Sequence[str], may_hold: bool = False) -> int:
         """Each balance is its credit less what was reported, and nothing is held. The seconds."""
-        self.capture.settled()
+        self.captured()
         reported, total = self.reported(), 0
         for account in accounts:
             credited, available, reserved, charged = self.office.sums(account)
@@ -226,7 +236,7 @@ class Calls:
     def frames(self) -> tuple[int, list[list[str]], int]:
         """Frames of Diameter; those that are malformed; and those in which Kamailio's
         User-Equipment-Info-Value has a length that tshark doesn't know."""
-        self.capture.settled()
+        self.captured()
         self.capture.stop()
         faults, own = self.capture.faults(), str(self.bridge.port)
         bad = [row for row in faults if row[1] == own or "User-Equipment-Info-Value" not in row[2]]

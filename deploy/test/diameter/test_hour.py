@@ -171,7 +171,7 @@ def test_calls_over_a_change_of_the_clock_and_a_later_book(calls: Calls, clock: 
     assert not clock.is_past(CHANGE), "the change of the clock is past before the first call"
     process = calls.call(callers, ms=CALL_MS, rate=1, seconds=2 * SECONDS + 300)
     memory = watched(calls, clock, process)
-    calls.capture.settled()
+    calls.captured()
     seen = sessions(calls)
     rows = [row for parts in seen.values() for each in parts.values() for row in each]
     answers = [row.code for row in rows]
