@@ -11,6 +11,7 @@ use Rattle.sqlite.specs.Effect.{Database}
 use Rattle.sql_tables.specs.Schema.{book_schema, latest}
 use Rattle.sql_tables.specs.Stages.{AreStoredAt}
 use Rattle.sql_tables.specs.Statements.{AreStored}
+use Rattle.sql_rows.specs.Ruled.{IsMetaOther}
 use Rattle.sql_rows.specs.Values.{BookRow, Meta}
 use Rattle.sql_rows.specs.Content.{tables_content}
 use Rattle.sql_tables.specs.declared.fault.OpenFault.{OpenFault}
@@ -100,21 +101,21 @@ pub no_fault : (text : List ℕ) (db : Database) (fault : OpenFault) → IsLeft 
     → db.schema ≡ book_schema → ¬ HasFault fault db
 no_fault text db Foreign left same h = h latest latest_known same
 no_fault text db Version left same h =
-    let one : Some h.other.row ≡ Some left.kept.row = sym h.other.is ∙ left.kept.is in
-    let row : h.other.row ≡ left.kept.row = cc one in
     let v = same_version h.version latest h.known latest_known (sym h.schema ∙ same) in
-    h.other.other (ap (λ (m : Meta). m.version) row ∙ left.kept.version ∙ sym v)
+    let other : ¬ (left.kept.row.version ≡ h.version) =
+    subst (IsMetaOther h.version) left.kept.is h.other in
+    other (left.kept.version ∙ sym v)
 no_fault text db Rules left same h =
     let v = same_version h.version latest h.known latest_known (sym h.schema ∙ same) in
     let stored = subst (λ n. AreStoredAt n db.trees) (sym v) left.stored in
     let number : left.kept.row.version < 2 ^ 32 =
     (let is : left.kept.row.version ≡ 3 = left.kept.version in omega (arith, is)) in
-    let told = h.unruled stored left.kept.row left.kept.is (record {
+    let told = (h.unruled stored left.kept.row left.kept.is).1 (record {
       version = number;
       book = subst IsUtf8 (sym left.kept.book) left.utf8;
       last = left.kept.last;
     }) in
-    told.2 (subst (λ t. HasShelf t (tables_content db.trees).books) (sym left.kept.book) left.shelf)
+    told.1 (subst (λ t. HasShelf t (tables_content db.trees).books) (sym left.kept.book) left.shelf)
 no_fault text db Store left same h = h
 no_fault text db Memory left same h = h
 no_fault text db Older left same h =

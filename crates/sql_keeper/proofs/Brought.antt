@@ -1,9 +1,9 @@
 -- Within the transaction that brings a database of an older version to the latest.
 use Rattle.std.proofs.Common.{◌≡◌, ◌<◌, ◌≤◌, ◌⊎◌, inl, inr, ◌∙◌, ap, refl, sym, subst, ℕ, List}
-use Rattle.std.proofs.Common.{Some}
+use Rattle.std.proofs.Common.{Option, Some}
 use Rattle.std.proofs.Common.{arith, length}
 use Rattle.std.proofs.lemmas.Option.{same_Some}
-use Rattle.std.specs.Prelude.{◌^◌, Ok, Err, Result, IfErr, IfOk, OnOk, Vec, map}
+use Rattle.std.specs.Prelude.{◌^◌, Ok, Err, Result, IfErr, IfOk, Vec, map}
 use Rattle.std.specs.Global.{Global}
 use Rattle.std.specs.Str.{IsUtf8}
 use Rattle.std.specs.String.{string_bytes}
@@ -24,7 +24,7 @@ use Rattle.sql_tables.proofs.Keeps.{sound_fits}
 use Rattle.sql_rows.specs.Content.{TablesContent, tables_content}
 use Rattle.sql_rows.specs.Lists.{AreBooks}
 use Rattle.sql_rows.specs.Makes.{Makes}
-use Rattle.sql_rows.specs.Ruled.{AreRuledBooks, AreRuledReserved}
+use Rattle.sql_rows.specs.Ruled.{AreRuledBooks, AreRuledReserved, IsMetaOther, IsRefusedMeta}
 use Rattle.sql_rows.specs.Texts.{book_at, meta_of}
 use Rattle.sql_rows.specs.Values.{Meta}
 use Rattle.sql_rules.specs.Ruled.{IsInRules}
@@ -40,6 +40,7 @@ use Rattle.sql_keeper.specs.Migrates.{AreUnruledReserved, BringsToLatest, HasAt,
 use Rattle.sql_keeper.specs.Migrates.{HasRuledRows, ReadsShelf, content_at}
 use Rattle.sql_keeper.specs.OlderVersions.{AsksVersion}
 use Rattle.sql_keeper.specs.Causes.{IsOtherThan, IsUnruledMeta}
+use Rattle.sql_keeper.specs.Finds.{IsMetaFound}
 use Rattle.sql_keeper.specs.Left.{IsLeftRuled}
 use Rattle.sql_keeper.proofs.Causes.{ruled_row}
 use Rattle.sql_keeper.specs.Shelves.{HasShelf, IsNoShelf, IsShelfOf, IsShelfRead, row_numbered}
@@ -222,19 +223,29 @@ module _ (v : ℕ) (known : IsVersion v) (less : v < latest) (old mid : State)
       sym (meta_at v known less old.now.trees)
       ∙ sym (ap (λ (c : TablesContent). c.meta) (made_content v old mid has known less clean)) ∙ is
 
+  -- what is said of it since is said of it before
+  kept_before : (P : Option Meta → Type 0) → HasCleanDisk mid
+      → P (tables_content mid.now.trees).meta → P (tables_content old.now.trees).meta
+  kept_before P clean = subst P
+      (ap (λ (c : TablesContent). c.meta) (made_content v old mid has known less clean)
+      ∙ meta_at v known less old.now.trees)
+
   -- what is kept once wasn't read
   pub no_meta : (new : State) (e : OpenFault)
       → ReadsWithin {A = MetaColumns} {E = OpenFault}
-      (λ trees m. (tables_content trees).meta ≡ Some (meta_of m)) mid new (Err e) → IsNoVersion e
-      → ¬ (e ≡ Foreign)
-      → (HasCleanDisk new → e ≡ Rules → IsUnruledMeta mid.now.trees)
-      → BringsToLatest v old new (Err e)
-  no_meta new e reads told ours rules =
-      ends_after v old mid new e has (λ clean is. absurd (told.0 is))
-      (λ clean is ruled. rules clean is ruled.row
-      (meta_before (omega (arith, reads.still.survives.clean, clean)) ruled.row ruled.is)
-      ruled.ruled)
-      (ours, told.1) IsUnchanged e reads.still
+      (λ trees m. (tables_content trees).meta ≡ Some (meta_of m)) mid new (Err e)
+      → IsMetaFound v mid new (Err e) → BringsToLatest v old new (Err e)
+  no_meta new e reads finds =
+      ends_after v old mid new e has
+      (λ clean is. kept_before (IsMetaOther v) (was clean) (finds.version clean is))
+      (λ clean is ruled.
+      let it = subst (IsRefusedMeta v) (meta_before (was clean) ruled.row ruled.is)
+      (finds.rules clean is) in
+      it.1 (ruled.of_version it.0).ruled)
+      finds.other IsUnchanged e reads.still
+    where
+      was : HasCleanDisk new → HasCleanDisk mid
+      was clean = omega (arith, reads.still.survives.clean, clean)
 
 -- what is kept once is read
 pub record HasMeta (v : ℕ) (old mid : State) (m : MetaColumns) : Type 0 where
@@ -254,22 +265,6 @@ meta_read v known less old mid new m has reads = record {
 
 module _ (v : ℕ) (known : IsVersion v) (less : v < latest) (old mid : State) (m : MetaColumns)
     (read : HasMeta v old mid m) where
-  -- it is of another version
-  pub other_version : (e : OpenFault) → (e ≡ Version) × (¬ (m.version ≡ v))
-      → m.version < 2 ^ 32 → m.last ≤ 4_102_488_000 → BringsToLatest v old mid (Err e)
-  other_version e told number last =
-      ends_here v old mid e read.has
-      (λ clean is. record {
-        row = meta_of m;
-        is = read.is clean;
-        ruled = ruled_row m number last;
-        other = told.1;
-      })
-      (λ clean is. absurd (let no : Version ≡ Rules = sym told.0 ∙ is in cc)) (
-        (λ is. let no : Version ≡ Foreign = sym told.0 ∙ is in cc),
-        (λ is. let no : Version ≡ Older = sym told.0 ∙ is in cc),
-      )
-
   -- the row in the rules is the one that was read
   same_row : HasCleanDisk mid → (ruled : IsRuledVersion v old.now.trees) → ruled.row ≡ meta_of m
   same_row clean ruled =
@@ -281,7 +276,8 @@ module _ (v : ℕ) (known : IsVersion v) (less : v < latest) (old mid : State) (
   shelf_before clean version ruled =
       let row = same_row clean ruled in
       subst (λ t. HasShelf t (content_at v old.now.trees).books)
-      (ap (λ (x : Meta). x.book) row) (ruled.shelf (ap (λ (x : Meta). x.version) row ∙ version))
+      (ap (λ (x : Meta). x.book) row)
+      (ruled.of_version (ap (λ (x : Meta). x.version) row ∙ version)).shelf
 
   books_at : HasCleanDisk mid →
       (tables_content mid.now.trees).books ≡ (content_at v old.now.trees).books
@@ -442,15 +438,17 @@ module _ (v : ℕ) (known : IsVersion v) (less : v < latest) (old mid : State) (
       (λ clean is ruled.
       let before : HasCleanDisk mid = omega (arith, failed.survives.clean, clean) in
       let it = refused clean (rules is) in
+      let row = same_row v known less old mid m read.meta before ruled in
+      let own = ruled.of_version (ap (λ (x : Meta). x.version) row ∙ version) in
       it.1 (subst AreRuledReserved
-      (sym (made_content v old mid read.meta.has known less before)) (ruled.reserved it.0)))
+      (sym (made_content v old mid read.meta.has known less before)) (own.reserved it.0)))
       (ours, of_rows.1) does f failed
 
 -- ---- the version alone is asked
 
 asks_err : {A : Type 0} (v : ℕ) (old new : State) (e : OpenFault)
     → BringsToLatest v old new (Err e)
-    → (HasCleanDisk new → e ≡ Rules → IsUnruledMeta old.now.trees)
+    → (HasCleanDisk new → e ≡ Rules → IsUnruledMeta v old.now.trees)
     → AsksVersion {A = A} v old new (Err e)
 asks_err v old new e b rules = record {
   keeps = λ clean. tt;
@@ -482,19 +480,17 @@ module _ (v : ℕ) (known : IsVersion v) (less : v < latest) (old mid : State) w
   -- what is kept once wasn't read
   pub asks_no_meta : {A : Type 0} → HasMade v old mid → (new : State) (e : OpenFault)
       → ReadsWithin {A = MetaColumns} {E = OpenFault}
-      (λ trees m. (tables_content trees).meta ≡ Some (meta_of m)) mid new (Err e) → IsNoVersion e
-      → ¬ (e ≡ Foreign) → (HasCleanDisk new → e ≡ Rules → IsUnruledMeta mid.now.trees)
-      → AsksVersion {A = A} v old new (Err e)
-  asks_no_meta has new e reads told ours rules =
-      asks_err v old new e (no_meta v known less old mid has new e reads told ours rules)
-      (λ clean is row at. rules clean is row (meta_before v known less old mid has
-      (omega (arith, reads.still.survives.clean, clean)) row at))
+      (λ trees m. (tables_content trees).meta ≡ Some (meta_of m)) mid new (Err e)
+      → IsMetaFound v mid new (Err e) → AsksVersion {A = A} v old new (Err e)
+  asks_no_meta has new e reads finds =
+      asks_err v old new e (no_meta v known less old mid has new e reads finds)
+      (λ clean is. kept_before v known less old mid has (IsRefusedMeta v)
+      (omega (arith, reads.still.survives.clean, clean)) (finds.rules clean is))
 
   -- it was
-  pub asks_meta : {A : Type 0} (m : MetaColumns) → HasMeta v old mid m → (r : Result A OpenFault)
-      → OnOk r (m.version ≡ v) → IfErr r (λ e. (e ≡ Version) × (¬ (m.version ≡ v)))
-      → m.version < 2 ^ 32 → m.last ≤ 4_102_488_000 → AsksVersion {A = A} v old mid r
-  asks_meta m read (Ok u) version told number last = record {
+  pub asks_meta : {A : Type 0} (m : MetaColumns) → HasMeta v old mid m → (u : A)
+      → m.version ≡ v → m.last ≤ 4_102_488_000 → AsksVersion {A = A} v old mid (Ok u)
+  asks_meta m read u version last = record {
     keeps = λ clean. record {
       row = meta_of m;
       is = read.is clean;
@@ -509,9 +505,10 @@ module _ (v : ℕ) (known : IsVersion v) (less : v < latest) (old mid : State) w
     other = tt;
     survives = read.has.survives;
   }
-  asks_meta m read (Err e) version told number last =
-      asks_err v old mid e (other_version v known less old mid m read e told number last)
-      (λ clean is. absurd (let no : Version ≡ Rules = sym told.0 ∙ is in cc))
+    where
+      number : m.version < 2 ^ 32
+      number = let is : m.version ≡ v = version in let low : v < 3 = less in
+          omega (arith, is, low)
 
 -- ---- the shelf alone is read
 
@@ -543,6 +540,7 @@ module _ (v : ℕ) (known : IsVersion v) (less : v < latest) (old mid : State) (
     shelf = λ clean. record {
       row = meta_of m;
       is = read.meta.is clean;
+      version = version;
       shelf = shelf_at v known less old mid m items read version text text_is b.own shelf clean;
     };
     kept = λ clean.

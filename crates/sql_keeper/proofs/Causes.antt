@@ -1,13 +1,14 @@
 -- A database has one cause at most not to be opened.
 use Rattle.std.proofs.Common.{◌≡◌, ◌≤◌, ◌<◌, ◌⊎◌, ◌+◌, inl, inr, ◌∙◌, ap, refl, sym, subst, ℕ, Some}
-use Rattle.std.proofs.Common.{arith}
+use Rattle.std.proofs.Common.{None, Option, arith}
 use Rattle.std.proofs.lemmas.Str.{IsUtf8-string_bytes}
 use Rattle.std.specs.Prelude.{◌^◌, length, zero, suc}
 use Rattle.sqlite.specs.Effect.{Database}
 use Rattle.sqlite_schema.specs.declared.schema.Schema.{Schema}
 use Rattle.sql_tables.specs.Schema.{latest, schema_at}
 use Rattle.sql_tables.specs.Stages.{AreStoredAt}
-use Rattle.sql_rows.specs.Ruled.{IsRuledMeta}
+use Rattle.sql_rows.specs.Content.{tables_content}
+use Rattle.sql_rows.specs.Ruled.{IsMetaOther, IsRuledMeta}
 use Rattle.sql_rows.specs.Texts.{meta_of}
 use Rattle.sql_rows.specs.Values.{Meta}
 use Rattle.sql_rows.specs.declared.meta_rows.MetaColumns.{MetaColumns}
@@ -44,6 +45,12 @@ same_version v w first second is =
 
 -- ---- the row that is kept once
 
+-- another version is kept by a row
+other_row : (v : ℕ) (o : Option Meta) → IsMetaOther v o
+    → (row : Meta) × (o ≡ Some row) × (¬ (row.version ≡ v))
+other_row v None other = absurd other
+other_row v (Some row) other = (row, refl, other)
+
 -- one that was read is in its rules
 pub ruled_row : (m : MetaColumns) → m.version < 2 ^ 32 → m.last ≤ 4_102_488_000 →
     IsRuledMeta (meta_of m)
@@ -68,22 +75,23 @@ version_rules : (db : Database) → IsOtherVersion db → ¬ IsUnruled db
 version_rules db h k =
     let same = same_version h.version k.version h.known k.known (sym h.schema ∙ k.schema) in
     let stored = subst (λ v. AreStoredAt v db.trees) same h.stored in
-    let told = k.unruled stored h.other.row h.other.is h.other.ruled in
-    h.other.other (told.0 ∙ sym same)
+    let it = other_row h.version (tables_content db.trees).meta h.other in
+    let told = k.unruled stored it.0 it.1 in
+    it.2 (told.0 ∙ sym same)
 
 version_older : (db : Database) → IsOtherVersion db → ¬ IsOlder db
 version_older db h k =
     let same = same_version h.version k.version h.known k.known (sym h.schema ∙ k.schema) in
-    let one : Some h.other.row ≡ Some k.kept.row = sym h.other.is ∙ k.kept.is in
-    let row : h.other.row ≡ k.kept.row = cc one in
-    h.other.other (ap (λ (m : Meta). m.version) row ∙ k.kept.version ∙ sym same)
+    let other : ¬ (k.kept.row.version ≡ h.version) =
+    subst (IsMetaOther h.version) k.kept.is h.other in
+    other (k.kept.version ∙ sym same)
 
 rules_older : (db : Database) → IsUnruled db → ¬ IsOlder db
 rules_older db h k =
     let same = same_version h.version k.version h.known k.known (sym h.schema ∙ k.schema) in
     let stored = subst (λ v. AreStoredAt v db.trees) (sym same) k.stored in
-    let told = h.unruled stored k.kept.row k.kept.is k.kept.ruled in
-    let top : h.version ≡ 3 = told.1 in
+    let told = (h.unruled stored k.kept.row k.kept.is).1 k.kept.ruled in
+    let top : h.version ≡ 3 = told.0 in
     let low : k.version < 3 = k.older in
     omega (arith, same, top, low)
 

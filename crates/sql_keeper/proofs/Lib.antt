@@ -32,6 +32,7 @@ pub mod LiveGroups
 pub mod LiveRows
 pub mod LoadedAlone
 pub mod Made
+pub mod MetaFound
 pub mod Migrated
 pub mod MigratedRules
 pub mod Moved

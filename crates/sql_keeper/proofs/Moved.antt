@@ -338,18 +338,12 @@ module _ (v : ℕ) (old mid new : State) (same : v ≡ latest)
   pub any_unread : (e : OpenFault) → ReadsBooks mid new (Err e) → FindsAny old new (Err e)
   any_unread e reads =
       none_from v old mid new found one known e reads.only.cleanness
-      (λ clean is.
-      let it = reads.version clean is in
-      record {
-        row = it.row;
-        is = it.is;
-        ruled = it.ruled;
-        other = λ e. it.other (e ∙ same);
-      })
+      (λ clean is. subst (λ n. IsOtherThan n mid.now.trees) (sym same) (reads.version clean is))
       (λ clean is ruled.
       let r = subst (λ n. IsRuledVersion n mid.now.trees) same ruled in
-      let told = reads.rules clean is r.row r.is r.ruled in
-      told.2 (r.shelf told.0))
+      let told = reads.rules clean is r.row r.is in
+      let own = r.of_version told.0 in
+      (told.1 own.ruled).1 own.shelf)
       reads.ours reads.only.still
       (survives_weaker old new (λ _. ⊥)
       (λ db. (n : ℕ) × IsVersion n × IsLeftLatest n old.now.trees db) (λ clean db no. absurd no)
@@ -397,7 +391,9 @@ module _ (v : ℕ) (old mid new : State) (same : v ≡ latest)
                 let row : at.row ≡ it.0.kept.row = same_Some at.row it.0.kept.row kept in
                 let text : at.row.book ≡ string_bytes r.text =
                 ap (λ (m : Meta). m.book) row ∙ it.0.kept.book in
-                tells.means clean is (at.rows r.own
+                let version : at.row.version ≡ latest =
+                ap (λ (m : Meta). m.version) row ∙ it.0.kept.version in
+                tells.means clean is ((at.of_version version).rows r.own
                 (subst (λ t. IsShelfOf t (tables_content new.now.trees).books r.own) (sym text)
                 it.0.books)),
           );

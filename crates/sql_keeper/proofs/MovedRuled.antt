@@ -189,9 +189,11 @@ untested_rows v old mid new r e idle has tells = record {
       let own : IsShelfOf ruled.row.book (content_at v old.now.trees).books r.own =
       subst (λ (m : Meta). IsShelfOf m.book (content_at v old.now.trees).books r.own)
       (same_Some at.row ruled.row one) at.shelf in
+      let version : ruled.row.version ≡ v =
+      ap (λ (m : Meta). m.version) (sym (same_Some at.row ruled.row one)) ∙ at.version in
       tells.means clean is
       (subst (λ (d : Database). AreRuled r.own v d.trees) (sym (has.still before).now_is)
-      (ruled.rows r.own own));
+      ((ruled.of_version version).rows r.own own));
   other = (tells.told.ours, tells.told.latest);
   still = λ clean. spared_since v old mid new idle
       (λ before. omega (arith, has.survives.clean, before)) (λ before on. has.still before)

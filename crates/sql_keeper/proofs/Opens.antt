@@ -2,7 +2,7 @@
 use Rattle.std.proofs.Common.{◌≡◌, ◌≤◌, ◌⊎◌, inr, ◌∙◌, ap, refl, sym, subst, ℕ, List, Some}
 use Rattle.std.proofs.Common.{IsTrue, true, false, arith, ◌<◌, Bool, nat_lt, ltb-true}
 use Rattle.std.proofs.Common.{ltb-false}
-use Rattle.std.specs.Prelude.{◌^◌, Ok, Err, Result, IfErr, IfOk, map, Vec}
+use Rattle.std.specs.Prelude.{Ok, Err, Result, IfErr, IfOk, map, Vec}
 use Rattle.std.specs.Global.{Global}
 use Rattle.std.specs.Str.{IsUtf8}
 use Rattle.std.specs.String.{string_bytes}
@@ -23,7 +23,7 @@ use Rattle.sql_tables.proofs.Telling.{survive_then}
 use Rattle.sql_tables.specs.Texts.{stage}
 use Rattle.sql_rows.specs.Content.{tables_content}
 use Rattle.sql_rules.specs.Tables.{AreRuled}
-use Rattle.sql_rows.specs.Ruled.{AreRuledBooks}
+use Rattle.sql_rows.specs.Ruled.{AreRuledBooks, IsRefusedMeta}
 use Rattle.sql_rows.specs.Lists.{AreBooks}
 use Rattle.sql_rows.specs.Texts.{book_at, meta_of}
 use Rattle.sql_rows.specs.declared.book_rows.BookColumns.{BookColumns}
@@ -34,12 +34,12 @@ use Rattle.sql_tables.specs.declared.fault.OpenFault.{OpenFault}
 use Rattle.sql_tables.specs.declared.fault.OpenFault.TheVariants.{Foreign, Version, Rules, Older}
 use Rattle.sql_tables.specs.declared.fault.OpenFault.TheVariants.{Memory as Memory'}
 use Rattle.sql_keeper.specs.Books.{IsBookOf}
-use Rattle.sql_keeper.specs.Causes.{AreUnruled, HasFault, IsOtherThan, IsStores, IsUnruledMeta}
+use Rattle.sql_keeper.specs.Causes.{AreUnruled, HasFault, IsOtherThan, IsStores}
 use Rattle.keepers.specs.Tables.{no_tables}
 use Rattle.sql_keeper.specs.Content.{last_in, tables_of}
 use Rattle.sql_keeper.specs.Creates.{CreatesBook, IsNewBook, first_meta}
 use Rattle.sql_keeper.specs.Faults.{IsCreateFault}
-use Rattle.sql_keeper.specs.Finds.{FindsBooks, IsReadOf, ReadsBooks}
+use Rattle.sql_keeper.specs.Finds.{FindsBooks, IsMetaFound, IsReadOf, ReadsBooks}
 use Rattle.sql_keeper.specs.Inside.{KeeperState, IsClean, IsKeeper, names_in}
 use Rattle.sql_keeper.specs.Left.{IsLeftRuled}
 use Rattle.sql_keeper.specs.Opened.{IsCreated, IsFresh, IsKept, IsLeft, IsNotCreated, IsOpened}
@@ -48,7 +48,7 @@ use Rattle.sql_keeper.specs.Shelves.{HasShelf, IsAlone, IsNoShelf, IsShelfOf, Is
 use Rattle.sql_keeper.specs.declared.books.ReadBooks.{ReadBooks}
 use Rattle.sql_keeper.specs.declared.create_fault.CreateFault.{CreateFault}
 use Rattle.sql_keeper.proofs.Again.{alone_shelf}
-use Rattle.sql_keeper.proofs.Causes.{caused, ruled_row}
+use Rattle.sql_keeper.proofs.Causes.{caused}
 use Rattle.sql_keeper.proofs.Shelved.{shelf_ruled}
 use Rattle.sql_keeper.proofs.InTurn.{have_read, have_read_then}
 use Rattle.sql_keeper.proofs.Whole.{not_shut}
@@ -295,7 +295,9 @@ finds_older v old mid new e other found one asked = record {
         version = v;
         known = was.version;
         schema = was.schema;
-        unruled = λ stored row at ruled. absurd (asked.rules clean is row at ruled);
+        unruled = λ stored row at.
+            let it = subst (IsRefusedMeta v) at (asked.rules clean is) in
+            (it.0, λ ruled. absurd (it.1 ruled));
       }) (λ is. record {
         version = v;
         known = was.version;
@@ -328,45 +330,24 @@ finds_older v old mid new e other found one asked = record {
 
 -- what is kept once wasn't read
 pub reads_no_meta : {A : Type 0} (told : Trees → A → Type 0) (old new : State) (e : OpenFault)
-    → Reads {A = A} {E = OpenFault} told old new (Err e) → IsNoVersion e
-    → ¬ (e ≡ Foreign) → (HasCleanDisk new → e ≡ Rules → IsUnruledMeta old.now.trees)
+    → Reads {A = A} {E = OpenFault} told old new (Err e) → IsMetaFound latest old new (Err e)
     → ReadsBooks old new (Err e)
-reads_no_meta told old new e reads no_version ours rules = record {
+reads_no_meta told old new e reads finds = record {
   found = λ clean. tt;
   given = tt;
   read = tt;
   only = reads.only;
-  version = λ clean is. absurd (no_version.0 is);
-  rules = λ clean is row at ruled. absurd (rules clean is row at ruled);
-  ours = (ours, no_version.1);
+  version = finds.version;
+  rules = λ clean is row at.
+      let it = subst (IsRefusedMeta latest) at (finds.rules clean is) in
+      (it.0, λ ruled. absurd (it.1 ruled));
+  ours = finds.other;
   survives = reads.survives;
 }
 
 module _ {E : Type 0} (old mid : State) (m : MetaColumns)
     (meta : Reads {A = MetaColumns} {E = E}
     (λ trees m. (tables_content trees).meta ≡ Some (meta_of m)) old mid (Ok m)) where
-  -- it is of another version
-  pub reads_other : (e : OpenFault) → (e ≡ Version) × (¬ (m.version ≡ latest))
-      → m.version < 2 ^ 32 → m.last ≤ 4_102_488_000 → ReadsBooks old mid (Err e)
-  reads_other e other number last = record {
-    found = λ clean. tt;
-    given = tt;
-    read = tt;
-    only = meta.only;
-    version = λ clean is. record {
-      row = meta_of m;
-      is = meta.found clean;
-      ruled = ruled_row m number last;
-      other = other.1;
-    };
-    rules = λ clean is. absurd (let no : Version ≡ Rules = sym other.0 ∙ is in cc);
-    ours = (
-      (λ is. let no : Version ≡ Foreign = sym other.0 ∙ is in cc),
-      (λ is. let no : Version ≡ Older = sym other.0 ∙ is in cc),
-    );
-    survives = meta.survives;
-  }
-
   -- what was read first is said of the state before
   told_first : (P : Trees → Type 0) → HasCleanDisk mid → P mid.now.trees → P old.now.trees
   told_first P clean = subst (λ (d : Database). P d.trees)
@@ -391,14 +372,16 @@ module _ {E : Type 0} (old mid : State) (m : MetaColumns)
         read = tt;
         only = only_reads_then old mid new read.only reads.only;
         version = λ clean is. absurd (no_version.0 is);
-        rules = λ clean is row at ruled.
+        rules = λ clean is row at.
             let before = reads.only.cleanness clean in
             let same : row ≡ meta_of m = cc (sym at ∙ meta.found before) in (
               ap (λ (x : Meta). x.version) same ∙ version,
-              refl,
-              λ has. rules clean is
-                  (told_last (λ trees. AreRuledBooks (tables_content trees).books) before
-                  (shelf_ruled row.book (tables_content old.now.trees).books has.0 has.1)),
+              λ ruled. (
+                refl,
+                λ has. rules clean is
+                    (told_last (λ trees. AreRuledBooks (tables_content trees).books) before
+                    (shelf_ruled row.book (tables_content old.now.trees).books has.0 has.1)),
+              ),
             );
         ours = (ours, no_version.1);
         survives = survive_then old mid new read.stays read.survives reads.survives;
@@ -464,19 +447,21 @@ module _ {E : Type 0} (old mid : State) (m : MetaColumns)
         only = both.only;
         version = λ clean is. absurd (let no : Version ≡ Memory' =
             sym is ∙ either (λ rule. let no : Version ≡ Rules = sym is ∙ rule in cc) in cc);
-        rules = λ clean rule row at ruled.
+        rules = λ clean rule row at.
             let before = reads.only.cleanness clean in
             let kept : row ≡ meta_of m = cc (sym at ∙ meta.found before) in (
               ap (λ (x : Meta). x.version) kept ∙ version,
-              refl,
-              λ has.
-                  let of_text : HasShelf text (tables_content old.now.trees).books =
-                  subst (λ t. HasShelf t (tables_content old.now.trees).books)
-                  (ap (λ (x : Meta). x.book) kept ∙ sym is) has in
-                  let at_mid =
-                  told_last (λ trees. HasShelf text (tables_content trees).books) before of_text in
-                  subst (λ l. IsNoShelf text (map book_at l)) same (rules rule)
-                  (subst (λ f. HasShelf text f) (λ i n. sym (reads.found clean n) i) at_mid),
+              λ ruled. (
+                refl,
+                λ has.
+                    let of_text : HasShelf text (tables_content old.now.trees).books =
+                    subst (λ t. HasShelf t (tables_content old.now.trees).books)
+                    (ap (λ (x : Meta). x.book) kept ∙ sym is) has in
+                    let at_mid =
+                    told_last (λ trees. HasShelf text (tables_content trees).books) before of_text in
+                    subst (λ l. IsNoShelf text (map book_at l)) same (rules rule)
+                    (subst (λ f. HasShelf text f) (λ i n. sym (reads.found clean n) i) at_mid),
+              ),
             );
         ours = (
           (λ is. absurd (let no : Foreign ≡ Memory' =

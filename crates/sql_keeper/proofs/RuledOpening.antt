@@ -1,5 +1,5 @@
 -- A database whose rows were read when it was opened, each once.
-use Rattle.std.proofs.Common.{◌≡◌, ◌<◌, inl, inr, ◌∙◌, ap, refl, sym, subst, ℕ, Some, arith, List}
+use Rattle.std.proofs.Common.{◌≡◌, ◌<◌, inl, inr, ◌∙◌, ap, refl, sym, subst, ℕ, arith, List}
 use Rattle.std.proofs.Common.{IsTrue}
 use Rattle.std.proofs.lemmas.Str.{IsUtf8-string_bytes}
 use Rattle.std.specs.Prelude.{Ok, Err}
@@ -14,7 +14,7 @@ use Rattle.sql_tables.specs.Stages.{AreStoredAt}
 use Rattle.sql_tables.specs.Statements.{AreStored, IsStill, Spares}
 use Rattle.sql_tables.proofs.Keeps.{spares_still}
 use Rattle.sql_rows.specs.Content.{tables_content}
-use Rattle.sql_rows.specs.Values.{Meta}
+use Rattle.sql_rows.specs.Ruled.{IsMetaOther}
 use Rattle.sql_tables.specs.declared.fault.OpenFault.{OpenFault}
 use Rattle.sql_tables.specs.declared.fault.OpenFault.TheVariants.{Foreign, Version, Rules, Store}
 use Rattle.sql_tables.specs.declared.fault.OpenFault.TheVariants.{Memory, Older}
@@ -190,13 +190,13 @@ pub rows_apart : AreRowsApart
 rows_apart db Foreign h k = h latest latest_known k.schema
 rows_apart db Version h k =
     let same = same_version h.version latest h.known latest_known (sym h.schema ∙ k.schema) in
-    let one : Some h.other.row ≡ Some k.kept.row = sym h.other.is ∙ k.kept.is in
-    let row : h.other.row ≡ k.kept.row = cc one in
-    h.other.other (ap (λ (m : Meta). m.version) row ∙ k.kept.version ∙ sym same)
+    let other : ¬ (k.kept.row.version ≡ h.version) =
+    subst (IsMetaOther h.version) k.kept.is h.other in
+    other (k.kept.version ∙ sym same)
 rows_apart db Rules h k =
     let same = same_version h.version latest h.known latest_known (sym h.schema ∙ k.schema) in
     let stored = subst (λ v. AreStoredAt v db.trees) (sym same) k.stored in
-    (h.unruled stored k.kept.row k.kept.is k.kept.ruled).2 (k.shelf, k.books)
+    ((h.unruled stored k.kept.row k.kept.is).1 k.kept.ruled).1 (k.shelf, k.books)
 rows_apart db Store h k = h
 rows_apart db Memory h k = h
 rows_apart db Older h k =

@@ -7,7 +7,7 @@ use Rattle.sqlite.specs.Effect.{Database}
 use Rattle.sql_tables.specs.Schema.{latest, schema_at}
 use Rattle.sql_tables.specs.Stages.{AreStoredAt}
 use Rattle.sql_rows.specs.Content.{tables_content}
-use Rattle.sql_rows.specs.Ruled.{IsRuledMeta}
+use Rattle.sql_rows.specs.Ruled.{IsMetaOther, IsRefusedMeta, IsRuledMeta}
 use Rattle.sql_rows.specs.Values.{Meta}
 use Rattle.sql_tables.specs.Opens.{IsVersion}
 use Rattle.sql_tables.specs.declared.fault.OpenFault.{OpenFault}
@@ -24,22 +24,19 @@ pub record KeepsVersion (v : TablesVersion) (trees : Trees) : Type 0 where
   pub ruled : IsRuledMeta row
   pub version : row.version ≡ v
 
--- it is there in its rules, and keeps another version than this
-pub record IsOtherThan (v : TablesVersion) (trees : Trees) : Type 0 where
-  pub row : Meta
-  pub is : (tables_content trees).meta ≡ Some row
-  pub ruled : IsRuledMeta row
-  pub other : ¬ (row.version ≡ v)
+-- it is there, and keeps another version than this, whatever else it holds
+abbrev pub IsOtherThan : TablesVersion → Trees → Type 0
+IsOtherThan v trees = IsMetaOther v (tables_content trees).meta
 
--- a row of it, if there is one, is out of its rules
-abbrev pub IsUnruledMeta : Trees → Type 0
-IsUnruledMeta trees = (row : Meta) → (tables_content trees).meta ≡ Some row → ¬ IsRuledMeta row
+-- it isn't there; or it keeps this version, and is out of its rules
+abbrev pub IsUnruledMeta : TablesVersion → Trees → Type 0
+IsUnruledMeta v trees = IsRefusedMeta v (tables_content trees).meta
 
--- it isn't there or is out of its rules; or it keeps this version, the latest, and the texts that
--- are kept aren't those of a shelf
+-- it isn't there; or it keeps this version, and is out of its rules, or this is the latest and the
+-- texts that are kept aren't those of a shelf
 abbrev pub AreUnruled : TablesVersion → Trees → Type 0
-AreUnruled v trees = (row : Meta) → (tables_content trees).meta ≡ Some row → IsRuledMeta row
-    → (row.version ≡ v) × (v ≡ latest) × ¬ HasShelf row.book (tables_content trees).books
+AreUnruled v trees = (row : Meta) → (tables_content trees).meta ≡ Some row → (row.version ≡ v)
+    × (IsRuledMeta row → (v ≡ latest) × ¬ HasShelf row.book (tables_content trees).books)
 
 -- ---- causes
 
@@ -47,7 +44,8 @@ AreUnruled v trees = (row : Meta) → (tables_content trees).meta ≡ Some row �
 abbrev pub IsForeign : Database → Type 0
 IsForeign db = (v : TablesVersion) → IsVersion v → ¬ (db.schema ≡ schema_at v)
 
--- the tables are those of a version, no rowid of theirs twice, and another version is kept
+-- the tables are those of a version, no rowid of theirs twice, and another version is kept, whatever
+-- else is kept beside it
 pub record IsOtherVersion (db : Database) : Type 0 where
   pub version : TablesVersion
   pub known : IsVersion version
@@ -66,7 +64,7 @@ pub record IsOlder (db : Database) : Type 0 where
   pub kept : KeepsVersion version db.trees
 
 -- the tables are those of a version, and a rowid of theirs comes twice, or what is kept once isn't
--- in the rules of who opens it
+-- there or, where it keeps that version, isn't in the rules of who opens it
 pub record IsUnruled (db : Database) : Type 0 where
   pub version : TablesVersion
   pub known : IsVersion version

@@ -82,17 +82,21 @@ pub record IsLeftLatest (v : TablesVersion) (old new : Trees) : Type 0 where
   pub text : BookText
   pub left : IsLeftRuled text new
 
+-- what is kept once by that version is in its rules, with the texts of a shelf, each reservation
+-- that gets a row of its book is in its rules, and so is each row, by that shelf
+pub record IsRuledByVersion (v : TablesVersion) (trees : Trees) (row : Meta) : Type 0 where
+  pub ruled : IsRuledMeta row
+  pub shelf : HasShelf row.book (content_at v trees).books
+  pub reserved : v < 2 → AreRuledReserved (content_at v trees)
+  pub rows : (s : Shelf) → IsShelfOf row.book (content_at v trees).books s → AreRuled s v trees
+
 -- a database of a version in the rules of who migrates it: no rowid comes twice, what is kept once
--- is there and in its rules, with the texts of a shelf where it keeps that version, each
--- reservation that gets a row of its book is in its rules, and so is each row, by that shelf
+-- is there, and where it keeps that version, all is in the rules of it
 pub record IsRuledVersion (v : TablesVersion) (trees : Trees) : Type 0 where
   pub stored : AreStoredAt v trees
   pub row : Meta
   pub is : (tables_content trees).meta ≡ Some row
-  pub ruled : IsRuledMeta row
-  pub shelf : row.version ≡ v → HasShelf row.book (content_at v trees).books
-  pub reserved : v < 2 → AreRuledReserved (content_at v trees)
-  pub rows : (s : Shelf) → IsShelfOf row.book (content_at v trees).books s → AreRuled s v trees
+  pub of_version : row.version ≡ v → IsRuledByVersion v trees row
 
 -- the first book's number for each of these reservations
 abbrev pub with_first_books : List ReservedColumns → TablesContent → TablesContent
@@ -138,10 +142,11 @@ HasRuledRows v s = HasCleanDisk s → IsTrue s.is_open → AreRowsRuled v s.now.
 
 -- ---- the shelf alone
 
--- it is that of the texts that are kept
+-- it is that of the texts that are kept by that version
 pub record IsShelfAt (v : TablesVersion) (trees : Trees) (r : ReadBooks) : Type 0 where
   pub row : Meta
   pub is : (tables_content trees).meta ≡ Some row
+  pub version : row.version ≡ v
   pub shelf : IsShelfOf row.book (content_at v trees).books r.own
 
 -- inside a transaction that isn't committed: the shelf of what is kept is read, or a fault says why

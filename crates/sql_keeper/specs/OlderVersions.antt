@@ -15,7 +15,7 @@ pub record AsksVersion {A : Type 0} (v : TablesVersion) (old new : State)
   pub keeps : HasCleanDisk new → OnOk result (KeepsVersion v old.now.trees)
   pub kept : HasCleanDisk new → KeepsCommit old new
   pub version : HasCleanDisk new → IfErr result (λ e. e ≡ Version → IsOtherThan v old.now.trees)
-  pub rules : HasCleanDisk new → IfErr result (λ e. e ≡ Rules → IsUnruledMeta old.now.trees)
+  pub rules : HasCleanDisk new → IfErr result (λ e. e ≡ Rules → IsUnruledMeta v old.now.trees)
   pub other : IfErr result (λ e. (¬ (e ≡ Foreign)) × (¬ (e ≡ Older)))
   pub survives : Survives old new (λ _. ⊥)
 
@@ -23,7 +23,7 @@ pub record AsksVersion {A : Type 0} (v : TablesVersion) (old new : State)
 pub record IsNotLatest (v : TablesVersion) (old new : State) (fault : OpenFault) : Type 0 where
   pub older : HasCleanDisk new → fault ≡ Older → KeepsVersion v old.now.trees
   pub version : HasCleanDisk new → fault ≡ Version → IsOtherThan v old.now.trees
-  pub rules : HasCleanDisk new → fault ≡ Rules → IsUnruledMeta old.now.trees
+  pub rules : HasCleanDisk new → fault ≡ Rules → IsUnruledMeta v old.now.trees
   pub ours : ¬ (fault ≡ Foreign)
   pub still : HasCleanDisk new → IsTrue new.is_open → IsStill old new
   pub survives : Survives old new (λ _. ⊥)

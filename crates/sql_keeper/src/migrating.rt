@@ -1,11 +1,10 @@
 //! A database of an older version, brought to the latest in one transaction: all of it or nothing,
 //! also over a stop.
 
-ghost use Rattle.std.specs.Prelude.{◌≡◌, ◌<◌, ◌≤◌, ◌^◌, ◌⊎◌, false, map, nat_lt, Some, IfErr};
+ghost use Rattle.std.specs.Prelude.{◌≡◌, ◌<◌, ◌≤◌, ◌⊎◌, false, map, nat_lt, Some, IfErr};
 ghost use Rattle.std.specs.Prelude.{IfOk, OnOk};
-ghost use Rattle.units.specs.Words.{latest_moment};
 ghost use Rattle.sql_tables.specs.Opens.{IsNoVersion, IsVersion};
-ghost use Rattle.sql_tables.specs.declared.fault.OpenFault.TheVariants.{Foreign, Rules, Version};
+ghost use Rattle.sql_tables.specs.declared.fault.OpenFault.TheVariants.{Foreign, Rules};
 ghost use Rattle.sql_rows.specs.Content.{tables_content, with_meta};
 ghost use Rattle.sql_rows.specs.Lists.{AreBooks};
 ghost use Rattle.sql_rows.specs.Makes.{Makes, MakesIfOpen};
@@ -14,7 +13,7 @@ ghost use Rattle.sql_rows.specs.Texts.{book_at, meta_of};
 ghost use Rattle.sql_tables.specs.Schema.{latest};
 ghost use Rattle.sql_tables.specs.Stages.{HasVersion, Migrates};
 ghost use Rattle.sql_tables.specs.Statements.{Attempts, HasBook, HasRules, IsInside, ReadsWithin};
-ghost use Rattle.sql_keeper.specs.Causes.{IsUnruledMeta};
+ghost use Rattle.sql_keeper.specs.Finds.{IsMetaFound};
 ghost use Rattle.sql_keeper.specs.Migrates.{AreUnruledReserved, BringsToLatest, FindsAny, HasAt};
 ghost use Rattle.sql_keeper.specs.Migrates.{HasIdleAt, HasRuledRows, IsMigrated, IsNotMigrated};
 ghost use Rattle.sql_keeper.specs.Migrates.{MigratesRuled, MigratesTables, with_first_books};
@@ -25,7 +24,7 @@ ghost use Rattle.sqlite.specs.State.{HasCleanDisk};
 use crate::books::{ReadBooks, read_shelves};
 use crate::keeper::SqlKeeper;
 use crate::older_shelves::{ask_open, older_shelf};
-use crate::opening::{is_version, keeper_of, latest_books, open_fault, read_fault};
+use crate::opening::{keeper_of, latest_books, open_fault, own_meta, read_fault};
 use crate::ruled_opening::test_rows;
 use shelves::TariffShelf;
 use sql_rows::{
@@ -111,32 +110,23 @@ pub(crate) fn make_later<S: Alter>(
     create_since(tx, version).map_err(open_fault)
 }
 
-/// What is kept once.
-pub(crate) fn kept_within<S: Alter>(tx: &mut Transaction<'_, S>) -> Result<MetaColumns, OpenFault>
+/// What is kept once by a version. The version is looked at before the rest.
+pub(crate) fn kept_within<S: Alter>(
+    tx: &mut Transaction<'_, S>,
+    version: u32,
+) -> Result<MetaColumns, OpenFault>
     requires book { HasBook (state S.Store tx.old.conn.now) }
     requires rules { HasRules (state S.Store tx.old.conn.now) }
     ensures same_reference { tx.new.conn.ghost_name ≡ tx.old.conn.ghost_name }
     ensures reads { ReadsWithin (λ trees m. (tables_content trees).meta ≡ Some (meta_of m))
         (state S.Store tx.old.conn.now) (state S.Store tx.new.conn.now) result }
-    ensures told { IfErr result IsNoVersion }
-    ensures ours { IfErr result (λ fault. ¬ (fault ≡ Foreign)) }
-    ensures rules { HasCleanDisk (state S.Store tx.new.conn.now) → IfErr result
-        (λ fault. fault ≡ Rules → IsUnruledMeta (state S.Store tx.old.conn.now).now.trees) }
+    ensures finds { IsMetaFound version
+        (state S.Store tx.old.conn.now) (state S.Store tx.new.conn.now) result }
 {
-    read_meta_within(tx)
-        .map_err(read_fault)?
-        .ok_or(OpenFault::Rules)
-}
-
-/// The version that is kept is that of the tables, and the moment in the range of moments.
-pub(crate) fn is_of_version(meta: &MetaColumns, version: u32) -> Result<(), OpenFault>
-    ensures version { OnOk result (meta.now.version ≡ version) }
-    ensures told { IfErr result (λ fault. (fault ≡ Version) × (¬ (meta.now.version ≡ version))) }
-    ensures number { meta.now.version < 2 ^ 32 }
-    ensures last { meta.now.last ≤ latest_moment }
-{
-    let _moment = meta.last.seconds();
-    is_version(meta.version, version)
+    match read_meta_within(tx, version) {
+        Ok(read) => own_meta(read),
+        Err(fault) => Err(read_fault(fault)),
+    }
 }
 
 /// The books after the first.
@@ -198,8 +188,7 @@ fn bring_to_latest<S: Alter>(
         (state S.Store tx.old.conn.now) (state S.Store tx.new.conn.now) result }
 {
     make_later(tx, version)?;
-    let meta = kept_within(tx)?;
-    is_of_version(&meta, version)?;
+    let meta = kept_within(tx, version)?;
     let rows = books_within(tx, alloc)?;
     let read = read_shelves(alloc, meta.book.as_str(), meta.last, &rows)?;
     match put_latest(tx, alloc, version, &meta) {

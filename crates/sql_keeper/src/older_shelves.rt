@@ -11,7 +11,7 @@ ghost use Rattle.sqlite.specs.Held.{state};
 ghost use Rattle.sqlite.specs.State.{HasCleanDisk, IsUnchanged, Survives};
 
 use crate::books::{ReadBooks, read_shelves};
-use crate::migrating::{books_within, is_of_version, kept_within, make_later};
+use crate::migrating::{books_within, kept_within, make_later};
 use crate::opening::open_fault;
 use sql_tables::OpenFault;
 use sqlite::{Alter, Connection, Transaction};
@@ -31,8 +31,7 @@ fn shelf_within<S: Alter>(
         (state S.Store tx.old.conn.now) (state S.Store tx.new.conn.now) result }
 {
     make_later(tx, version)?;
-    let meta = kept_within(tx)?;
-    is_of_version(&meta, version)?;
+    let meta = kept_within(tx, version)?;
     let rows = books_within(tx, alloc)?;
     read_shelves(alloc, meta.book.as_str(), meta.last, &rows)
 }

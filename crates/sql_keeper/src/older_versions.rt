@@ -8,7 +8,7 @@ ghost use Rattle.sql_keeper.specs.Migrates.{HasAt, HasIdleAt};
 ghost use Rattle.sql_keeper.specs.OlderVersions.{AsksVersion, IsNotLatest};
 ghost use Rattle.sqlite.specs.Held.{state};
 
-use crate::migrating::{is_of_version, kept_within, make_later};
+use crate::migrating::{kept_within, make_later};
 use sql_tables::OpenFault;
 use sqlite::{Alter, Connection, Transaction};
 
@@ -22,8 +22,8 @@ fn ask_version<S: Alter>(tx: &mut Transaction<'_, S>, version: u32) -> Result<()
         (state S.Store tx.old.conn.now) (state S.Store tx.new.conn.now) result }
 {
     make_later(tx, version)?;
-    let meta = kept_within(tx)?;
-    is_of_version(&meta, version)
+    let _meta = kept_within(tx, version)?;
+    Ok(())
 }
 
 /// The fault of a database whose tables are those of an older version.

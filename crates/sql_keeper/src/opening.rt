@@ -1,6 +1,6 @@
 //! A keeper over a database: of one that is made for it, or of one that was.
 
-ghost use Rattle.std.specs.Prelude.{◌≡◌, ◌≤◌, ◌<◌, ◌^◌, ◌⊎◌, false, map, IsTrue, Some, IfErr};
+ghost use Rattle.std.specs.Prelude.{◌≡◌, ◌≤◌, ◌⊎◌, false, map, IsTrue, None, Some, IfErr};
 ghost use Rattle.std.specs.Prelude.{IfOk, OnOk};
 ghost use Rattle.std.specs.String.{string_bytes};
 ghost use Rattle.units.specs.Words.{latest_moment};
@@ -15,10 +15,9 @@ ghost use Rattle.sql_tables.specs.Schema.{latest};
 ghost use Rattle.sql_tables.specs.Statements.{HasIdleBook, Reads};
 ghost use Rattle.sql_tables.specs.Texts.{stage};
 ghost use Rattle.sql_keeper.specs.Books.{IsBookText};
-ghost use Rattle.sql_keeper.specs.Causes.{IsUnruledMeta};
 ghost use Rattle.sql_keeper.specs.Creates.{CreatesBook};
 ghost use Rattle.sql_keeper.specs.Faults.{IsCreateFault};
-ghost use Rattle.sql_keeper.specs.Finds.{FindsBooks, IsReadRuled, ReadsBooks};
+ghost use Rattle.sql_keeper.specs.Finds.{FindsBooks, IsMetaFound, IsReadRuled, ReadsBooks};
 ghost use Rattle.sql_keeper.specs.Inside.{IsKeeper};
 ghost use Rattle.sql_keeper.specs.Opened.{IsCreated, IsNotCreated, IsNotOpened, IsOpened};
 ghost use Rattle.sql_keeper.specs.Opened.{LeavesStill};
@@ -125,17 +124,32 @@ pub(crate) fn read_fault(fault: ReadFault) -> OpenFault
     }
 }
 
-/// What is kept once.
+/// What was read of what is kept once, with its moment in the range of moments: another version is
+/// kept where it is none.
+pub(crate) fn own_meta(read: Option<MetaColumns>) -> Result<MetaColumns, OpenFault>
+    ensures kept { IfOk result (λ m. read ≡ Some m) }
+    ensures other { IfErr result (λ fault. (fault ≡ Version) × (read ≡ None)) }
+    ensures last { IfOk result (λ m. m.last ≤ latest_moment) }
+{
+    let Some(meta) = read else {
+        return Err(OpenFault::Version);
+    };
+    // For the prover alone: looking at the value makes known here what its type keeps.
+    let _moment = meta.last.seconds();
+    Ok(meta)
+}
+
+/// What is kept once by the latest version. The version is looked at before the rest.
 fn find_meta<S: Alter>(conn: &mut Connection<S>) -> Result<MetaColumns, OpenFault>
     requires idle { HasIdleBook (state S.Store conn.old) }
     ensures reads { Reads (λ trees m. (tables_content trees).meta ≡ Some (meta_of m))
         (state S.Store conn.old) (state S.Store conn.new) result }
-    ensures told { IfErr result IsNoVersion }
-    ensures ours { IfErr result (λ fault. ¬ (fault ≡ Foreign)) }
-    ensures rules { HasCleanDisk (state S.Store conn.new) → IfErr result
-        (λ fault. fault ≡ Rules → IsUnruledMeta (state S.Store conn.old).now.trees) }
+    ensures finds { IsMetaFound latest (state S.Store conn.old) (state S.Store conn.new) result }
 {
-    read_meta(conn).map_err(read_fault)?.ok_or(OpenFault::Rules)
+    match read_meta(conn, LATEST) {
+        Ok(read) => own_meta(read),
+        Err(fault) => Err(read_fault(fault)),
+    }
 }
 
 /// The books after the first.
@@ -154,29 +168,6 @@ fn find_books<S: Alter>(
     read_books(conn, alloc).map_err(read_fault)
 }
 
-/// The version that is kept is this one, and its number in the range of versions.
-pub(crate) fn is_version(kept: u32, version: u32) -> Result<(), OpenFault>
-    ensures version { OnOk result (kept ≡ version) }
-    ensures told { IfErr result (λ fault. (fault ≡ Version) × (¬ (kept ≡ version))) }
-    ensures number { kept < 2 ^ 32 }
-{
-    if kept != version {
-        return Err(OpenFault::Version);
-    }
-    Ok(())
-}
-
-/// The version is that of the tables, and the moment in the range of moments.
-fn is_of_latest(meta: &MetaColumns) -> Result<(), OpenFault>
-    ensures version { OnOk result (meta.now.version ≡ latest) }
-    ensures told { IfErr result (λ fault. (fault ≡ Version) × (¬ (meta.now.version ≡ latest))) }
-    ensures number { meta.now.version < 2 ^ 32 }
-    ensures last { meta.now.last ≤ latest_moment }
-{
-    let _moment = meta.last.seconds();
-    is_version(meta.version, LATEST)
-}
-
 /// The shelf of a database whose tables are those of the latest version.
 pub(crate) fn latest_books<S: Alter>(
     alloc: Global,
@@ -187,7 +178,6 @@ pub(crate) fn latest_books<S: Alter>(
     ensures reads { ReadsBooks (state S.Store conn.old) (state S.Store conn.new) result }
 {
     let meta = find_meta(conn)?;
-    is_of_latest(&meta)?;
     let rows = find_books(conn, alloc)?;
     read_shelves(alloc, meta.book.as_str(), meta.last, &rows)
 }
@@ -245,11 +235,11 @@ impl<S: Alter> SqlKeeper<S> {
     /// what the database is, and it has one of them at most:
     /// - `Foreign`, the tables aren't exactly those of a version of this system. Of the others they
     ///   are;
-    /// - `Rules`, a rowid comes twice, or what is kept once isn't there or is out of its rules. Of
+    /// - `Version`, another version is kept than that of the tables, whatever else is kept beside it;
+    /// - `Rules`, a rowid comes twice, what is kept once isn't there, or it is out of its rules. Of
     ///   the latest version it also says that the texts that are kept aren't those of a shelf. Of a
     ///   database without any other of these faults it says that a row is out of the rules of its
     ///   table;
-    /// - `Version`, another version is kept than that of the tables;
     /// - `Older`, it is that of the tables, and before the latest;
     /// - `Store`, also where a transaction is open;
     /// - `Memory`.

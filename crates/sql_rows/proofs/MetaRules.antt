@@ -27,7 +27,10 @@ use Rattle.sql_tables.specs.Statements.{Answers}
 use Rattle.sql_tables.proofs.Single.{one_selected}
 use Rattle.sql_rows.specs.Values.{nat, nat_in, text_in, Meta, meta_key, meta_in, meta_cells}
 use Rattle.sql_rows.specs.Content.{tables_content}
-use Rattle.sql_rows.specs.Ruled.{IsRefusedMeta, IsRuledMeta}
+use Rattle.sql_rows.specs.Ruled.{IsMetaRead, IsRefusedMeta}
+use Rattle.sql_rows.specs.declared.meta_rows.MetaColumns.{MetaColumns}
+use Rattle.sql_tables.specs.declared.reading.ReadFault.{ReadFault}
+use Rattle.sql_tables.specs.declared.reading.ReadFault.TheVariants.{Rules}
 use Rattle.sql_rows.proofs.ReadMeta.{read_meta_text, columns, meta_read, meta_selected}
 
 -- ---- values of their kind
@@ -153,27 +156,67 @@ there old new rows got =
       )
     ]
 
--- the one row that was read is refused
-pub one_refused : (rows : List Row) (row : Row) → rows ≡ row ∷ []
-    → ((m : Meta) → row ≡ meta_cells m → ¬ IsRuledMeta m)
-    → (o : Option Meta) → rows ≡ map meta_cells (one_or_none o) → IsRefusedMeta o
-one_refused rows row is refused None none = absurd (let no : row ∷ [] ≡ [] = sym is ∙ none in cc)
-one_refused rows row is refused (Some m) some =
-    refused m (ap (λ (l : List Row). slice_index_or l 0 row) (sym is ∙ some))
+-- what is said of the one row that was read
+of_one : (P : Option Meta → Type 0) (rows : List Row) (row : Row) → rows ≡ row ∷ []
+    → ((m : Meta) → row ≡ meta_cells m → P (Some m))
+    → (o : Option Meta) → rows ≡ map meta_cells (one_or_none o) → P o
+of_one P rows row is says None none = absurd (let no : row ∷ [] ≡ [] = sym is ∙ none in cc)
+of_one P rows row is says (Some m) some =
+    says m (ap (λ (l : List Row). slice_index_or l 0 row) (sym is ∙ some))
+
+pub one_read : (v : ℕ) (rows : List Row) (row : Row) → rows ≡ row ∷ []
+    → (r : Result (Option MetaColumns) ReadFault)
+    → MatchResult r (λ o. (kept : Meta) → row ≡ meta_cells kept → IsMetaRead v o (Some kept))
+    (λ e. e ≡ Rules → (kept : Meta) → row ≡ meta_cells kept → IsRefusedMeta v (Some kept))
+    → MatchResult r (λ o. (kept : Option Meta) → rows ≡ map meta_cells (one_or_none kept)
+    → IsMetaRead v o kept)
+    (λ e. e ≡ Rules → (kept : Option Meta) → rows ≡ map meta_cells (one_or_none kept)
+    → IsRefusedMeta v kept)
+one_read v rows row is (Ok o) says = of_one (IsMetaRead v o) rows row is says
+one_read v rows row is (Err e) says = λ rule. of_one (IsRefusedMeta v) rows row is (says rule)
+
+-- none is there
+pub none_refused : (v : ℕ) (rows : List Row) → rows ≡ [] → (o : Option Meta)
+    → rows ≡ map meta_cells (one_or_none o) → IsRefusedMeta v o
+none_refused v rows empty None none = tt
+none_refused v rows empty (Some m) some =
+    absurd (let no : meta_cells m ∷ [] ≡ [] = sym some ∙ empty in cc)
 
 -- several are none's
-pub several_refused : (rows : List Row) → ((o : Option Row) → ¬ (rows ≡ one_or_none o))
-    → (o : Option Meta) → rows ≡ map meta_cells (one_or_none o) → IsRefusedMeta o
-several_refused rows several None none = absurd (several None none)
-several_refused rows several (Some m) some = absurd (several (Some (meta_cells m)) some)
+pub several_refused : (v : ℕ) (rows : List Row) → ((o : Option Row) → ¬ (rows ≡ one_or_none o))
+    → (o : Option Meta) → rows ≡ map meta_cells (one_or_none o) → IsRefusedMeta v o
+several_refused v rows several None none = absurd (several None none)
+several_refused v rows several (Some m) some = absurd (several (Some (meta_cells m)) some)
 
--- what was refused of the rows that were read is refused of the tables
-pub meta_refused : (old new : State) (rows : List Row) → Answers read_meta_text [] old new rows
-    → ((o : Option Meta) → rows ≡ map meta_cells (one_or_none o) → IsRefusedMeta o)
-    → IsRefusedMeta (tables_content old.now.trees).meta
-meta_refused old new rows got refused =
+-- what is said of the rows that were read is said of the tables
+pub meta_told : (P : Option Meta → Type 0) (old new : State) (rows : List Row)
+    → Answers read_meta_text [] old new rows
+    → ((o : Option Meta) → rows ≡ map meta_cells (one_or_none o) → P o)
+    → P (tables_content old.now.trees).meta
+meta_told P old new rows got says =
     let it = there old new rows got in
-    subst IsRefusedMeta (meta_read old new rows it.0 got it.1) (refused it.0 it.1)
+    subst P (meta_read old new rows it.0 got it.1) (says it.0 it.1)
+
+-- ---- the version of a row
+
+-- the row of some cells is one
+same_cells : (m k : Meta) → meta_cells m ≡ meta_cells k → m ≡ k
+same_cells m k is = ap (λ w. meta_in (Null ∷ w)) is
+
+pub same_row : (row : Row) (m k : Meta) → row ≡ meta_cells m → row ≡ meta_cells k → Some k ≡ Some m
+same_row row m k one two = ap Some (same_cells k m (sym two ∙ one))
+
+version_at : (row : Row) (m : Meta) → row ≡ meta_cells m → column row 0 ≡ nat m.version
+version_at row m is = ap (λ w. column w 0) is
+
+pub other_version : (row : Row) (v : ℕ) (t : Bool) → (column row 0 ≡ nat v → t ≡ true) → t ≡ false
+    → (m : Meta) → row ≡ meta_cells m → ¬ (m.version ≡ v)
+other_version row v t says other m is same =
+    let no : true ≡ false = sym (says (version_at row m is ∙ ap nat same)) ∙ other in cc
+
+pub own_version : (row : Row) (v : ℕ) → column row 0 ≡ nat v → (m : Meta) → row ≡ meta_cells m
+    → m.version ≡ v
+own_version row v at m is = ap nat_in (sym (version_at row m is) ∙ at)
 
 -- ---- one end of a clause of both
 

@@ -1,7 +1,7 @@
 -- What UPDATE .. WHERE of a whole key makes of its table: the row under the key has its new values,
 -- or there is none.
 use Rattle.std.proofs.Common.{◌≡◌, ◌≢◌, ◌⊎◌, inl, inr, ℕ, List, [], ◌∷◌}
-use Rattle.std.proofs.Common.{slice_get, Bool, true, false, ◌&&◌, None, Option, Some, Ok}
+use Rattle.std.proofs.Common.{slice_get, Bool, true, false, None, Option, Some, Ok}
 use Rattle.std.proofs.Common.{sym, ap, subst, ◌∙◌}
 use Rattle.std.proofs.lemmas.Bool.{and_parts, not-true}
 use Rattle.std.specs.List.{AllByRecursion, list_all}

@@ -6,9 +6,12 @@ use Rattle.std.specs.Str.{IsUtf8}
 use Rattle.units.specs.Words.{GroupId, BookNumber, latest_moment}
 use Rattle.identifiers.specs.Words.{SessionName, AccountName}
 use Rattle.identifiers.specs.Texts.{is_account_number, is_session_id}
+use Rattle.sql_tables.specs.Words.{TablesVersion}
 use Rattle.sql_rows.specs.Content.{TablesContent}
 use Rattle.sql_rows.specs.Lists.{BookAt, ReservedAt, has_reservation}
+use Rattle.sql_rows.specs.Texts.{meta_of}
 use Rattle.sql_rows.specs.Values.{BookRow, Meta}
+use Rattle.sql_rows.specs.declared.meta_rows.MetaColumns.{MetaColumns}
 
 -- the version is below 2^32, the text is one of characters, and the moment is in the range of
 -- moments
@@ -17,10 +20,20 @@ pub record IsRuledMeta (m : Meta) : Type 0 where
   pub book : IsUtf8 m.book
   pub last : m.last ≤ latest_moment
 
--- a row is there, and it is out of the rules
-abbrev pub IsRefusedMeta : Option Meta → Type 0
-IsRefusedMeta None = ⊥
-IsRefusedMeta (Some m) = ¬ IsRuledMeta m
+-- a row is there, and it keeps another version than this, whatever else it holds
+abbrev pub IsMetaOther : TablesVersion → Option Meta → Type 0
+IsMetaOther v None = ⊥
+IsMetaOther v (Some m) = ¬ (m.version ≡ v)
+
+-- what tables of a version read of it: the row, or none where it keeps another version
+abbrev pub IsMetaRead : TablesVersion → Option MetaColumns → Option Meta → Type 0
+IsMetaRead v None kept = IsMetaOther v kept
+IsMetaRead v (Some m) kept = kept ≡ Some (meta_of m)
+
+-- no row is there, or it keeps this version and is out of the rules
+abbrev pub IsRefusedMeta : TablesVersion → Option Meta → Type 0
+IsRefusedMeta v None = Unit {0}
+IsRefusedMeta v (Some m) = (m.version ≡ v) × ¬ IsRuledMeta m
 
 -- a book after the first: its number is below 2^32, its moment in the range of moments, and its
 -- text one of characters

@@ -1,6 +1,6 @@
 //! Columns read as moments, flags and names.
 
-ghost use Rattle.std.specs.Prelude.{◌≡◌, ◌≤◌, ℕ, List, IfOk, IsTrue, MatchResult};
+ghost use Rattle.std.specs.Prelude.{◌≡◌, ◌≤◌, ℕ, false, List, IfOk, IsTrue, MatchResult};
 ghost use Rattle.units.specs.Words.{latest_moment};
 ghost use Rattle.identifiers.specs.Texts.{is_account_number, is_session_id};
 ghost use Rattle.sqlite.specs.Values.{or_null};
@@ -33,6 +33,34 @@ pub(crate) fn flag_at(row: &Row, at: usize) -> Result<bool, ReadFault>
         0 => Ok(false),
         1 => Ok(true),
         _ => Err(ReadFault::Rules),
+    }
+}
+
+/// Whether a column holds this number.
+///
+/// # Errors
+/// `Memory` where memory was refused, and never `Rules`: another value is no fault.
+pub(crate) fn is_number_at(row: &Row, at: usize, number: u32) -> Result<bool, ReadFault>
+    ensures { MatchResult result
+        (λ is. (IsTrue is → column row.now at ≡ nat number)
+        × (column row.now at ≡ nat number → IsTrue is))
+        (λ e. ¬ (e ≡ ReadFault.Rules)) }
+{
+    match small_at(row, at) {
+        Ok(kept) => Ok(kept == number),
+        Err(fault) => is_none(fault),
+    }
+}
+
+/// A value that isn't such a number is none, unless memory ran out.
+fn is_none(fault: ReadFault) -> Result<bool, ReadFault>
+    ensures { MatchResult result (λ is. (is ≡ false) × (fault ≡ ReadFault.Rules))
+        (λ e. ¬ (e ≡ ReadFault.Rules)) }
+{
+    match fault {
+        ReadFault::Rules => Ok(false),
+        ReadFault::Memory => Err(ReadFault::Memory),
+        ReadFault::Store(error) => Err(ReadFault::Store(error)),
     }
 }
 

@@ -1,9 +1,9 @@
 //! The row that is kept once.
 
-ghost use Rattle.std.specs.Prelude.{◌≡◌, map, option_map, IfErr, MatchResult, OnOk, Option};
+ghost use Rattle.std.specs.Prelude.{◌≡◌, map, IfErr, IfOk, IfSome, MatchResult, OnOk, Option, Some};
 ghost use Rattle.sql_rows.specs.Content.{tables_content, with_last_moment, with_meta};
-ghost use Rattle.sql_rows.specs.Ruled.{IsRefusedMeta, IsRuledMeta};
-ghost use Rattle.sql_rows.specs.Values.{Meta, meta_cells};
+ghost use Rattle.sql_rows.specs.Ruled.{IsMetaRead, IsRefusedMeta, IsRuledMeta};
+ghost use Rattle.sql_rows.specs.Values.{Meta, meta_cells, nat};
 ghost use Rattle.sql_rows.specs.Texts.{meta_of};
 ghost use Rattle.sql_rows.specs.Makes.{Makes};
 ghost use Rattle.sql_tables.specs.Statements.{Attempts, HasBook, HasIdleBook, HasRules, Reads};
@@ -11,12 +11,11 @@ ghost use Rattle.sql_tables.specs.Statements.{ReadsWithin};
 ghost use Rattle.sql_tables.specs.Selects.{one_or_none};
 ghost use Rattle.sqlite.specs.Held.{state};
 ghost use Rattle.sqlite.specs.State.{HasCleanDisk};
+ghost use Rattle.sqlite_value.specs.Order.{column};
 
-use crate::decoding::moment_at;
+use crate::decoding::{is_number_at, moment_at};
 use crate::running::run;
-use sql_tables::{
-    ReadFault, has_columns, large, one_of, read, read_within, small_at, text, text_at, whole,
-};
+use sql_tables::{ReadFault, has_columns, large, one_of, read, read_within, text, text_at, whole};
 use sqlite::{Alter, Connection, Error, Row, Transaction};
 use units::Moment;
 
@@ -87,44 +86,51 @@ pub fn put_last_moment<S: Alter>(tx: &mut Transaction<'_, S>, last: Moment) -> R
     )
 }
 
-/// What is kept once: none where the tables are new.
+/// What is kept once, as tables of a version read it: none where it keeps another version, whatever
+/// else its row holds.
 ///
 /// # Errors
-/// `Store` where the store failed, `Rules` only where the row is there and out of its rules,
-/// `Memory` where a growth was refused. Nothing is changed then either.
-pub fn read_meta<S: Alter>(conn: &mut Connection<S>) -> Result<Option<MetaColumns>, ReadFault>
+/// `Store` where the store failed; `Rules` only where no row is there, or it keeps this version and
+/// is out of its rules; `Memory` where a growth was refused. Nothing is changed then either.
+pub fn read_meta<S: Alter>(
+    conn: &mut Connection<S>,
+    version: u32,
+) -> Result<Option<MetaColumns>, ReadFault>
     requires idle { HasIdleBook (state S.Store conn.old) }
-    ensures reads { Reads (λ trees o. option_map meta_of o ≡ (tables_content trees).meta)
+    ensures reads { Reads (λ trees o. IsMetaRead version o (tables_content trees).meta)
         (state S.Store conn.old) (state S.Store conn.new) result }
-    // A row that is there and in the rules is answered.
+    ensures version { IfOk result (λ o. IfSome o (λ m. m.version ≡ version)) }
+    // A row that keeps another version is none, and one in the rules is answered.
     ensures refused { HasCleanDisk (state S.Store conn.new) →
         IfErr result (λ e. e ≡ ReadFault.Rules →
-        IsRefusedMeta (tables_content (state S.Store conn.old).now.trees).meta) }
+        IsRefusedMeta version (tables_content (state S.Store conn.old).now.trees).meta) }
 {
     let rows = read(
         conn,
         "SELECT version, book, last_moment FROM meta WHERE id = 1",
         &[],
     )?;
-    meta_among(&rows)
+    meta_among(&rows, version)
 }
 
-/// What is kept once, within a transaction: none where the tables are new.
+/// What is kept once, within a transaction, as `read_meta` reads it.
 ///
 /// # Errors
 /// As of `read_meta`. Then nothing is committed.
 pub fn read_meta_within<S: Alter>(
     tx: &mut Transaction<'_, S>,
+    version: u32,
 ) -> Result<Option<MetaColumns>, ReadFault>
     requires book { HasBook (state S.Store tx.old.conn.now) }
     requires rules { HasRules (state S.Store tx.old.conn.now) }
     ensures same_reference { tx.new.conn.ghost_name ≡ tx.old.conn.ghost_name }
-    ensures reads { ReadsWithin (λ trees o. option_map meta_of o ≡ (tables_content trees).meta)
+    ensures reads { ReadsWithin (λ trees o. IsMetaRead version o (tables_content trees).meta)
         (state S.Store tx.old.conn.now) (state S.Store tx.new.conn.now) result }
-    // A row that is there and in the rules is answered.
+    ensures version { IfOk result (λ o. IfSome o (λ m. m.version ≡ version)) }
+    // A row that keeps another version is none, and one in the rules is answered.
     ensures refused { HasCleanDisk (state S.Store tx.new.conn.now) →
         IfErr result (λ e. e ≡ ReadFault.Rules →
-        IsRefusedMeta (tables_content (state S.Store tx.old.conn.now).now.trees).meta) }
+        IsRefusedMeta version (tables_content (state S.Store tx.old.conn.now).now.trees).meta) }
 {
     let rows = read_within(
         tx,
@@ -132,28 +138,46 @@ pub fn read_meta_within<S: Alter>(
          FROM meta WHERE id = 1",
         &[],
     )?;
-    meta_among(&rows)
+    meta_among(&rows, version)
 }
 
-fn meta_among(rows: &[Row]) -> Result<Option<MetaColumns>, ReadFault>
-    ensures { MatchResult result
-        (λ o. rows.now ≡ map meta_cells (one_or_none (option_map meta_of o)))
-        (λ e. e ≡ ReadFault.Rules → (o : Option Meta) →
-        rows.now ≡ map meta_cells (one_or_none o) → IsRefusedMeta o) }
+fn meta_among(rows: &[Row], version: u32) -> Result<Option<MetaColumns>, ReadFault>
+    ensures version { IfOk result (λ o. IfSome o (λ m. m.version ≡ version)) }
+    ensures read { MatchResult result
+        (λ o. (kept : Option Meta) → rows.now ≡ map meta_cells (one_or_none kept) →
+        IsMetaRead version o kept)
+        (λ e. e ≡ ReadFault.Rules → (kept : Option Meta) →
+        rows.now ≡ map meta_cells (one_or_none kept) → IsRefusedMeta version kept) }
 {
     let row = one_of(rows)?;
     match row {
-        None => Ok(None),
-        Some(row) => Ok(Some(meta_from(row)?)),
+        None => Err(ReadFault::Rules),
+        Some(row) => meta_at(row, version),
     }
 }
 
-fn meta_from(row: &Row) -> Result<MetaColumns, ReadFault>
-    ensures { MatchResult result (λ m. row.now ≡ meta_cells (meta_of m))
+/// The row, where it keeps a version: its version is looked at before all else.
+fn meta_at(row: &Row, version: u32) -> Result<Option<MetaColumns>, ReadFault>
+    ensures version { IfOk result (λ o. IfSome o (λ m. m.version ≡ version)) }
+    ensures read { MatchResult result
+        (λ o. (kept : Meta) → row.now ≡ meta_cells kept → IsMetaRead version o (Some kept))
+        (λ e. e ≡ ReadFault.Rules → (kept : Meta) → row.now ≡ meta_cells kept →
+        IsRefusedMeta version (Some kept)) }
+{
+    if !is_number_at(row, 0, version)? {
+        return Ok(None);
+    }
+    Ok(Some(meta_from(row, version)?))
+}
+
+/// The rest of a row that keeps a version.
+fn meta_from(row: &Row, version: u32) -> Result<MetaColumns, ReadFault>
+    requires { column row.now 0 ≡ nat version }
+    ensures version { IfOk result (λ m. m.version ≡ version) }
+    ensures read { MatchResult result (λ m. row.now ≡ meta_cells (meta_of m))
         (λ e. e ≡ ReadFault.Rules → (m : Meta) → row.now ≡ meta_cells m → ¬ IsRuledMeta m) }
 {
     has_columns(row, 3)?;
-    let version = small_at(row, 0)?;
     let book = text_at(row, 1)?;
     let last = moment_at(row, 2)?;
     Ok(MetaColumns {

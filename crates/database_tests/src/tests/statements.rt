@@ -42,11 +42,12 @@ fn try_heads<S: Alter>(
 {
     let first = head(rt, alloc, "open 100 3 1");
     let again = head(rt, alloc, "barred 200 4 7");
-    tell_meta(rt, conn, text);
+    tell_meta(rt, conn, 1, text);
     keep_meta(rt, conn, 1, "a book", Moment::first());
-    tell_meta(rt, conn, text);
+    tell_meta(rt, conn, 1, text);
+    tell_meta(rt, conn, 2, text);
     keep_meta(rt, conn, 4_294_967_295, "", Moment::no_end());
-    tell_meta(rt, conn, text);
+    tell_meta(rt, conn, 4_294_967_295, text);
     tell_accounts(rt, conn, numbers, text);
     keep_account(rt, conn, numbers.0, &first);
     tell_accounts(rt, conn, numbers, text);
@@ -59,6 +60,7 @@ fn try_heads<S: Alter>(
 /// The first account and the second.
 const HEADS: &str = "no meta
 meta 1 a book 0
+another version
 meta 4294967295  4102444800
 none, none
 false 100 3 1, none

@@ -25,13 +25,20 @@ pub(crate) fn keep_meta<S: Alter>(
     tx.commit().expect(rt, "a commit");
 }
 
-pub(crate) fn tell_meta<S: Alter>(rt: &impl Abort, conn: &mut Connection<S>, text: &mut String)
+pub(crate) fn tell_meta<S: Alter>(
+    rt: &impl Abort,
+    conn: &mut Connection<S>,
+    version: u32,
+    text: &mut String,
+)
     requires ready { IsReady (state S.Store conn.old) }
     ensures ready { IsReady (state S.Store conn.new) }
 {
-    let meta = read_meta(conn).expect(rt, "a reading");
-    let Some(meta) = &meta else {
+    let Ok(meta) = read_meta(conn, version) else {
         return push(rt, text, "no meta\n");
+    };
+    let Some(meta) = &meta else {
+        return push(rt, text, "another version\n");
     };
     let (version, book, last) = (meta.version, meta.book.as_str(), meta.last.seconds());
     write!(text, "meta {version} {book} {last}\n").expect(rt, "room");

@@ -4,7 +4,7 @@ use Rattle.std.proofs.lemmas.Str.{IsUtf8-string_bytes}
 use Rattle.sql_keeper.proofs.Brought.{HasRows, brought, brought_err, made_book, made_first}
 use Rattle.sql_keeper.proofs.Brought.{made_inside, made_rules, meta_read, no_meta, no_rows}
 use Rattle.sql_keeper.proofs.Brought.{no_shelf}
-use Rattle.sql_keeper.proofs.Brought.{not_made, not_put, other_version, rows_read}
+use Rattle.sql_keeper.proofs.Brought.{not_made, not_put, rows_read}
 use Rattle.sql_keeper.proofs.migrating.bring_to_latest.Goals as goal
 
 pub make_later-requires-clause-known : goal.make_later-requires-clause-known
@@ -33,19 +33,7 @@ returns-in_err-meta-clause-brings g c =
     c.from_residual-in_err-meta.ensures.1 in
     brought_err _ _ _ _ p.0 _ p.1 p.2 (no_meta _ c.requires.known.0 c.requires.known.1 _ _
     (made_first _ _ _ _ c.requires.at c.in_ok-make_later.ensures.makes) _ _
-    c.in_err-meta.ensures.reads c.in_err-meta.ensures.told c.in_err-meta.ensures.ours
-    c.in_err-meta.ensures.rules)
-
-pub returns-in_err-is_of_version-clause-brings : goal.returns-in_err-is_of_version-clause-brings
-returns-in_err-is_of_version-clause-brings g c =
-    let p = err_from_is_err_and c.from_residual-in_err-is_of_version.result
-    c.from_residual-in_err-is_of_version.ensures.1 in
-    brought_err _ _ _ _ p.0 _ p.1 p.2
-    (other_version _ c.requires.known.0 c.requires.known.1 _ _ c.in_ok-meta.meta
-    (meta_read _ c.requires.known.0 c.requires.known.1 _ _ _ c.in_ok-meta.meta
-    (made_first _ _ _ _ c.requires.at c.in_ok-make_later.ensures.makes)
-    c.in_ok-meta.ensures.reads) _ c.in_err-is_of_version.ensures.told
-    c.is_of_version.ensures.number c.is_of_version.ensures.last)
+    c.in_err-meta.ensures.reads c.in_err-meta.ensures.finds)
 
 pub books_within-requires-clause-book : goal.books_within-requires-clause-book
 books_within-requires-clause-book g c =
@@ -68,7 +56,7 @@ returns-in_err-rows-clause-brings g c =
     (meta_read _ c.requires.known.0 c.requires.known.1 _ _ _ c.in_ok-meta.meta
     (made_first _ _ _ _ c.requires.at c.in_ok-make_later.ensures.makes)
     c.in_ok-meta.ensures.reads) _ _ _ c.in_err-rows.ensures.reads c.in_err-rows.ensures.told
-    c.in_err-rows.ensures.ours c.in_ok-is_of_version.ensures.version c.in_err-rows.ensures.rules)
+    c.in_err-rows.ensures.ours c.in_ok-meta.ensures.finds.own c.in_err-rows.ensures.rules)
 
 pub returns-in_err-read-clause-brings : goal.returns-in_err-read-clause-brings
 returns-in_err-read-clause-brings g c =
@@ -82,7 +70,7 @@ returns-in_err-read-clause-brings g c =
     (meta_read _ c.requires.known.0 c.requires.known.1 _ _ _ c.in_ok-meta.meta
     (made_first _ _ _ _ c.requires.at c.in_ok-make_later.ensures.makes)
     c.in_ok-meta.ensures.reads) c.in_ok-rows.ensures.reads))
-    c.in_ok-is_of_version.ensures.version c.as_str.result.now c.as_str.ensures.value _
+    c.in_ok-meta.ensures.finds.own c.as_str.result.now c.as_str.ensures.value _
     c.in_err-read.ensures.rules c.in_err-read.ensures.either)
 
 pub put_latest-requires-clause-known : goal.put_latest-requires-clause-known
@@ -120,9 +108,9 @@ returns-in-Ok-clause-brings g c =
     (meta_read _ c.requires.known.0 c.requires.known.1 _ _ _ c.in_ok-meta.meta
     (made_first _ _ _ _ c.requires.at c.in_ok-make_later.ensures.makes)
     c.in_ok-meta.ensures.reads) c.in_ok-rows.ensures.reads))
-    c.in_ok-is_of_version.ensures.version c.as_str.result.now c.as_str.ensures.value _
+    c.in_ok-meta.ensures.finds.own c.as_str.result.now c.as_str.ensures.value _
     c.in_ok-read.read c.in_ok-read.ensures.read c.in_ok-read.ensures.given
-    c.in_ok-read.ensures.text c.in_ok-read.ensures.last c.is_of_version.ensures.last
+    c.in_ok-read.ensures.text c.in_ok-read.ensures.last c.in_ok-meta.ensures.finds.last
     (IsUtf8-string_bytes c.in_ok-meta.meta.book) c.requires.ruled _ c.in-Ok.ensures.makes
 
 pub returns-clause-brings : goal.returns-clause-brings
@@ -133,6 +121,6 @@ returns-clause-brings g c =
     (meta_read _ c.requires.known.0 c.requires.known.1 _ _ _ c.in_ok-meta.meta
     (made_first _ _ _ _ c.requires.at c.in_ok-make_later.ensures.makes)
     c.in_ok-meta.ensures.reads) c.in_ok-rows.ensures.reads))
-    c.in_ok-is_of_version.ensures.version c.as_str.result.now c.as_str.ensures.value _ _
+    c.in_ok-meta.ensures.finds.own c.as_str.result.now c.as_str.ensures.value _ _
     c.read_fault.result c.in-Err.fault c.in-Err.ensures.makes c.read_fault.ensures.told
     c.read_fault.ensures.ours c.read_fault.ensures.rules c.in-Err.ensures.refused

@@ -1,7 +1,7 @@
 use Rattle.std.proofs.Common.{sym, subst}
 use Rattle.std.proofs.lemmas.Result.{err_from_is_err_and}
 use Rattle.sql_keeper.proofs.Brought.{HasRows, made_book, made_first, made_rules, meta_read}
-use Rattle.sql_keeper.proofs.Brought.{no_meta, no_rows, not_made, other_version, rows_read}
+use Rattle.sql_keeper.proofs.Brought.{no_meta, no_rows, not_made, rows_read}
 use Rattle.sql_keeper.proofs.Brought.{shelf_err, shelf_read}
 use Rattle.sql_keeper.proofs.older_shelves.shelf_within.Goals as goal
 
@@ -31,19 +31,7 @@ returns-in_err-meta-clause-reads g c =
     c.from_residual-in_err-meta.ensures.1 in
     shelf_err _ _ _ _ p.0 _ p.1 p.2 (no_meta _ c.requires.known.0 c.requires.known.1 _ _
     (made_first _ _ _ _ c.requires.at c.in_ok-make_later.ensures.makes) _ _
-    c.in_err-meta.ensures.reads c.in_err-meta.ensures.told c.in_err-meta.ensures.ours
-    c.in_err-meta.ensures.rules)
-
-pub returns-in_err-is_of_version-clause-reads : goal.returns-in_err-is_of_version-clause-reads
-returns-in_err-is_of_version-clause-reads g c =
-    let p = err_from_is_err_and c.from_residual-in_err-is_of_version.result
-    c.from_residual-in_err-is_of_version.ensures.1 in
-    shelf_err _ _ _ _ p.0 _ p.1 p.2
-    (other_version _ c.requires.known.0 c.requires.known.1 _ _ c.in_ok-meta.meta
-    (meta_read _ c.requires.known.0 c.requires.known.1 _ _ _ c.in_ok-meta.meta
-    (made_first _ _ _ _ c.requires.at c.in_ok-make_later.ensures.makes)
-    c.in_ok-meta.ensures.reads) _ c.in_err-is_of_version.ensures.told
-    c.is_of_version.ensures.number c.is_of_version.ensures.last)
+    c.in_err-meta.ensures.reads c.in_err-meta.ensures.finds)
 
 pub books_within-requires-clause-book : goal.books_within-requires-clause-book
 books_within-requires-clause-book g c =
@@ -66,7 +54,7 @@ returns-in_err-rows-clause-reads g c =
     (meta_read _ c.requires.known.0 c.requires.known.1 _ _ _ c.in_ok-meta.meta
     (made_first _ _ _ _ c.requires.at c.in_ok-make_later.ensures.makes)
     c.in_ok-meta.ensures.reads) _ _ _ c.in_err-rows.ensures.reads c.in_err-rows.ensures.told
-    c.in_err-rows.ensures.ours c.in_ok-is_of_version.ensures.version c.in_err-rows.ensures.rules)
+    c.in_err-rows.ensures.ours c.in_ok-meta.ensures.finds.own c.in_err-rows.ensures.rules)
 
 pub returns-clause-reads : goal.returns-clause-reads
 returns-clause-reads g c =
@@ -76,6 +64,6 @@ returns-clause-reads g c =
     (meta_read _ c.requires.known.0 c.requires.known.1 _ _ _ c.in_ok-meta.meta
     (made_first _ _ _ _ c.requires.at c.in_ok-make_later.ensures.makes)
     c.in_ok-meta.ensures.reads) c.in_ok-rows.ensures.reads))
-    c.in_ok-is_of_version.ensures.version c.as_str.result.now c.as_str.ensures.value
+    c.in_ok-meta.ensures.finds.own c.as_str.result.now c.as_str.ensures.value
     c.read_shelves.result c.read_shelves.ensures.read c.read_shelves.ensures.rules
     c.read_shelves.ensures.either

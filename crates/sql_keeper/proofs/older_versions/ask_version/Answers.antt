@@ -24,19 +24,17 @@ pub kept_within-requires-clause-rules : goal.kept_within-requires-clause-rules
 kept_within-requires-clause-rules g c =
     made_rules _ _ _ (made_first _ _ _ _ c.requires.at c.in_ok-make_later.ensures.makes)
 
-pub returns-in_err-meta-clause-asks : goal.returns-in_err-meta-clause-asks
-returns-in_err-meta-clause-asks g c =
-    let p = err_from_is_err_and c.from_residual-in_err-meta.result
-    c.from_residual-in_err-meta.ensures.1 in
+pub returns-in_err-_meta-clause-asks : goal.returns-in_err-_meta-clause-asks
+returns-in_err-_meta-clause-asks g c =
+    let p = err_from_is_err_and c.from_residual-in_err-_meta.result
+    c.from_residual-in_err-_meta.ensures.1 in
     asked_err _ _ _ _ p.0 _ p.1 p.2 (asks_no_meta _ c.requires.known.0 c.requires.known.1 _ _
     (made_first _ _ _ _ c.requires.at c.in_ok-make_later.ensures.makes) _ _
-    c.in_err-meta.ensures.reads c.in_err-meta.ensures.told c.in_err-meta.ensures.ours
-    c.in_err-meta.ensures.rules)
+    c.in_err-_meta.ensures.reads c.in_err-_meta.ensures.finds)
 
 pub returns-clause-asks : goal.returns-clause-asks
 returns-clause-asks g c =
-    asks_meta _ c.requires.known.0 c.requires.known.1 _ _ c.in_ok-meta.meta
-    (meta_read _ c.requires.known.0 c.requires.known.1 _ _ _ c.in_ok-meta.meta
+    asks_meta _ c.requires.known.0 c.requires.known.1 _ _ c.in_ok-_meta._meta
+    (meta_read _ c.requires.known.0 c.requires.known.1 _ _ _ c.in_ok-_meta._meta
     (made_first _ _ _ _ c.requires.at c.in_ok-make_later.ensures.makes)
-    c.in_ok-meta.ensures.reads) c.is_of_version.result c.is_of_version.ensures.version
-    c.is_of_version.ensures.told c.is_of_version.ensures.number c.is_of_version.ensures.last
+    c.in_ok-_meta.ensures.reads) _ c.in_ok-_meta.ensures.finds.own c.in_ok-_meta.ensures.finds.last
