@@ -19,10 +19,10 @@ use Rattle.reserving.specs.Left.{first_of}
 use Rattle.reserving.proofs.LeftParted.{find_both}
 use Rattle.charging.specs.Histories.{History, kept_under}
 use Rattle.charging.specs.Accepted.{Accepted, CommandOutcome, one, each, concerned_by, names}
-use Rattle.charging.specs.Accepted.{reaches}
-use Rattle.charging.specs.Accepted.{is_opening, names_code, voucher_after, voucher_under}
-use Rattle.charging.specs.Accepted.{standing_for, last_moment, as_of, account_count, IsInTime}
-use Rattle.charging.specs.Accepted.{IsRowOf, IsRow, history_of, AreTablesOf}
+use Rattle.charging.specs.Accepted.{reaches, voucher_under, standing_for, last_moment, as_of}
+use Rattle.charging.specs.Accepted.{account_count, IsInTime, IsRowOf, IsRow, history_of}
+use Rattle.charging.specs.Accepted.{AreTablesOf}
+use Rattle.charging.specs.ServedParts.{is_opening, names_code, voucher_after}
 use Rattle.keepers.specs.declared.loaded.Change.{Change}
 use Rattle.keepers.specs.Tables.{Head, Rows, Tables, no_rows, no_tables, charge_in}
 use Rattle.keepers.specs.Change.{kept_after, over, redeemed_over, changed, with_voucher, AreRowsAt}

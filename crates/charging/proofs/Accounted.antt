@@ -13,7 +13,7 @@ use Rattle.charging.specs.Accepted.{Accepted, as_of, IsInTime}
 use Rattle.charging.specs.declared.running.DatedCommand.{DatedCommand}
 use Rattle.charging.specs.Served.{AreTables, history, moment_of, IsServed, Serves}
 use Rattle.charging.specs.Runs.{after_commands, IsRun, Runs}
-use Rattle.charging.specs.SessionReports.{reports_of}
+use Rattle.charging.specs.Paid.{reports_of}
 use Rattle.charging.specs.Headline.{IsAccounted, AreAccounted}
 use Rattle.charging.specs.Repeats.{IsAnsweredAgain}
 use Rattle.charging.proofs.AcceptedTables.{row_some}

@@ -20,7 +20,7 @@ use Rattle.ledger.specs.Requests.{credited}
 use Rattle.reserving.specs.Rows.{AccountRows}
 use Rattle.reserving.specs.Stored.{priced}
 use Rattle.reserving.specs.Left.{LeftRows, IsWith, left_of}
-use Rattle.decisions.specs.Known.{is_known}
+use Rattle.decisions.specs.Services.{is_known}
 use Rattle.keepers.specs.declared.kept_answer.KeptAnswer.{KeptAnswer}
 use Rattle.keepers.specs.declared.loaded.Change.{Change}
 use Rattle.keepers.specs.declared.loaded.Loaded.{Loaded}
@@ -28,9 +28,9 @@ use Rattle.keepers.specs.Tables.{Tables}
 use Rattle.keepers.specs.Change.{changed}
 use Rattle.charging.specs.Histories.{History}
 use Rattle.charging.specs.Accepted.{Accepted, last_moment, IsInTime}
-use Rattle.charging.specs.Outcomes.{outcome, only_told, keeping, repeated, is_full, begin_of}
-use Rattle.charging.specs.Outcomes.{end_of}
-use Rattle.charging.specs.Outcomes.{is_over, allowance_refusal, allowed_unless, new_allowance}
+use Rattle.charging.specs.Outcomes.{outcome, only_told, keeping, is_full}
+use Rattle.charging.specs.OutcomeParts.{repeated, begin_of, end_of, is_over, allowance_refusal}
+use Rattle.charging.specs.OutcomeParts.{allowed_unless, new_allowance}
 use Rattle.charging.specs.Served.{history, AreTables, IsServed}
 use Rattle.charging.specs.Stepping.{IsTaken, Makes, Allows}
 use Rattle.charging.proofs.KeptKeys.{allowance-repeated, allowance-fresh}

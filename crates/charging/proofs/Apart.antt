@@ -25,12 +25,13 @@ use Rattle.keepers.specs.Tables.{Head, Rows, Tables, head_of, group_row, held_of
 use Rattle.keepers.specs.Change.{AreRowsAt}
 use Rattle.keepers.proofs.Told.{rows_told}
 use Rattle.charging.specs.Accepted.{Accepted, Concerned, one, each, none, concerned_by, names}
-use Rattle.charging.specs.Accepted.{names_code, voucher_after, last_moment, as_of, IsInTime, IsRow}
+use Rattle.charging.specs.Accepted.{last_moment, as_of, IsInTime, IsRow}
 use Rattle.charging.proofs.AcceptedTables.{row_none, row_some, as_of-last}
 use Rattle.charging.specs.declared.running.DatedCommand.{DatedCommand}
 use Rattle.charging.specs.Outcomes.{book_days, outcome}
-use Rattle.charging.specs.Served.{AreTables, history, voucher, standing, moment_of, answer_on}
-use Rattle.charging.specs.Served.{answer_to, accepts_on, accepts, with_command}
+use Rattle.charging.specs.Served.{AreTables, history, voucher, standing, moment_of, answer_to}
+use Rattle.charging.specs.Served.{accepts, with_command}
+use Rattle.charging.specs.ServedParts.{names_code, voucher_after, answer_on, accepts_on}
 use Rattle.charging.specs.Runs.{after_command, after_commands, answers_to}
 use Rattle.charging.specs.Isolation.{is_redemption_of, redeems, adds_for, is_own, HasOwnCodes}
 use Rattle.charging.specs.Isolation.{own_commands, own_answers, TellTheSame, AreRowsBroughtTo}

@@ -34,7 +34,7 @@ use Rattle.reserving.proofs.ChargeRows.{charge_row, charge_rows-charged_use}
 use Rattle.ledger.proofs.Fronts.{charged-charge_facts, charged-hold_facts}
 use Rattle.ledger.specs.Pricing.{validity_of}
 use Rattle.charging.specs.Collected.{taken_of, taken_to_date, charged_to_date}
-use Rattle.charging.specs.SessionReports.{Report}
+use Rattle.charging.specs.Paid.{Report}
 use Rattle.charging.proofs.BucketSums.{sum_in-each, sum_in-alike, sum_in-inserted, sum_in-moved}
 use Rattle.charging.proofs.Credited.{AreCredited, distinct, in_order, charge_credits, hold_credits}
 use Rattle.charging.proofs.Sound.{IsSoundHistory, sound_none, keeps_sound}

@@ -46,25 +46,19 @@ use Rattle.reserving.proofs.LaterBooks.{AgreeBefore, live_same}
 use Rattle.reserving.proofs.LaterCalls.{rows_same, place_same, settled_same, limit_same}
 use Rattle.reserving.proofs.LaterCalls.{grant_same, reserved_same, event_same, rest_same}
 use Rattle.reserving.proofs.LaterCalls.{covered_same}
-use Rattle.decisions.specs.Decided.{Decision, accepted, denied, told, invalid, refused_or}
-use Rattle.decisions.specs.Recorded.{is_late}
-use Rattle.decisions.specs.Known.{is_known}
-use Rattle.decisions.specs.Reports.{units_of, asked_units, parts_of, units_fault}
-use Rattle.decisions.specs.Settling.{settled_service, settled_services, any_passes}
-use Rattle.decisions.specs.Settling.{settled_answers}
-use Rattle.decisions.specs.Granting.{Answered, grant_answer, granted_with, granted_units}
-use Rattle.decisions.specs.Granting.{granted_if, granted_by, granted}
-use Rattle.decisions.specs.Granting.{grant_answers, after_grants, any_grants, first_denial}
-use Rattle.decisions.specs.Granting.{final_unit}
-use Rattle.decisions.specs.Events.{event_units, debit_refusal, charged_at_once}
-use Rattle.decisions.specs.Events.{charged_by, charged_unless_barred, debit_decision, balance_of}
-use Rattle.decisions.specs.Events.{checked_by, priced_by, read_refusal, check_decision}
-use Rattle.decisions.specs.Events.{enquiry_decision, decided_action, refund_refusal, refunded}
-use Rattle.decisions.specs.Events.{refund_decision}
-use Rattle.decisions.specs.Decisions.{initial_refusal, opened, opened_unless_barred}
-use Rattle.decisions.specs.Decisions.{initial_decision, limit_refusal}
-use Rattle.decisions.specs.Decisions.{session_refusal, settled_touched, updated, update_decision}
-use Rattle.decisions.specs.Decisions.{ended, termination_decision, decided, decision}
+use Rattle.decisions.specs.Decisions.{Decision, accepted, denied, told, refused_or, event_units}
+use Rattle.decisions.specs.Decisions.{debit_decision, read_refusal, refund_decision}
+use Rattle.decisions.specs.Decisions.{initial_decision, session_refusal, settled_touched}
+use Rattle.decisions.specs.Decisions.{update_decision, termination_decision, decision}
+use Rattle.decisions.specs.Services.{is_known, units_of, parts_of, units_fault, settled_service}
+use Rattle.decisions.specs.Services.{settled_services, any_passes, settled_answers, Answered}
+use Rattle.decisions.specs.Services.{granted, grant_answers, after_grants, any_grants, first_denial}
+use Rattle.decisions.specs.Parts.{asked_units, check_decision, enquiry_decision, invalid, is_late}
+use Rattle.decisions.specs.Parts.{grant_answer, granted_with, granted_units, granted_if, granted_by}
+use Rattle.decisions.specs.Parts.{final_unit, debit_refusal, charged_at_once, charged_by}
+use Rattle.decisions.specs.Parts.{charged_unless_barred, balance_of, checked_by, priced_by}
+use Rattle.decisions.specs.Parts.{decided_action, refund_refusal, refunded, initial_refusal, opened}
+use Rattle.decisions.specs.Parts.{opened_unless_barred, limit_refusal, updated, ended, decided}
 use Rattle.charging.proofs.EarlyLedgers.{IsEarly, early_recorded, early_touched, early_closed}
 use Rattle.charging.proofs.EarlyLedgers.{early_credited, early_settled, early_debited}
 use Rattle.charging.proofs.EarlyLedgers.{early_reserved}

@@ -17,19 +17,17 @@ use Rattle.shelves.proofs.Adding.{addable, nothing_before}
 use Rattle.ledger.specs.Ledger.{Ledger}
 use Rattle.ledger.specs.Charges.{charge_rows}
 use Rattle.reserving.proofs.LaterBooks.{IsBefore}
-use Rattle.decisions.specs.Known.{is_known}
-use Rattle.decisions.specs.Reports.{parts_of}
+use Rattle.decisions.specs.Services.{is_known, parts_of}
 use Rattle.keepers.specs.Tables.{Head, Rows, Tables, charge_in}
 use Rattle.keepers.specs.Change.{AreRowsAt}
 use Rattle.charging.specs.Histories.{History, no_history, kept_under}
-use Rattle.charging.specs.Accepted.{Accepted, Concerned, one, each, none, concerned_by}
-use Rattle.charging.specs.Accepted.{names, names_code, voucher_after, last_moment, as_of, IsInTime}
-use Rattle.charging.specs.Accepted.{IsRowOf, IsRow}
+use Rattle.charging.specs.Accepted.{Accepted, Concerned, one, each, none, concerned_by, names}
+use Rattle.charging.specs.Accepted.{last_moment, as_of, IsInTime, IsRowOf, IsRow}
 use Rattle.charging.specs.Outcomes.{book_days, outcome}
-use Rattle.charging.specs.Served.{AreTables, history, voucher, standing, answer_on}
-use Rattle.charging.specs.Served.{accepts_on}
-use Rattle.charging.specs.SessionReports.{Report, with_report, with_services, with_ask}
-use Rattle.charging.specs.SessionReports.{with_reports, reports_of}
+use Rattle.charging.specs.Served.{AreTables, history, voucher, standing}
+use Rattle.charging.specs.ServedParts.{names_code, voucher_after, answer_on, accepts_on}
+use Rattle.charging.specs.Paid.{Report, with_services, with_reports, reports_of}
+use Rattle.charging.specs.PaidParts.{with_report, with_ask}
 use Rattle.charging.specs.LaterBooks.{GoesOnAfter, IsAddition, LeaveTheSame, ChangeNothingBefore}
 use Rattle.charging.proofs.EarlyLedgers.{IsEarly}
 use Rattle.charging.proofs.EarlyDecisions.{book_same}

@@ -34,20 +34,20 @@ use Rattle.shelves.specs.Shelves.{Shelf, count}
 use Rattle.shelves.specs.Laws.{GoesOnFrom}
 use Rattle.ledger.specs.Ledger.{is_barred}
 use Rattle.reserving.proofs.LaterCalls.{rows_same}
-use Rattle.decisions.specs.Decided.{Decision}
-use Rattle.decisions.specs.Decisions.{decision, answer_of, is_read}
-use Rattle.decisions.specs.Known.{is_known}
+use Rattle.decisions.specs.Decisions.{Decision, decision, answer_of, is_read}
+use Rattle.decisions.specs.Services.{is_known}
 use Rattle.keepers.specs.declared.kept_answer.KeptAnswer.{KeptAnswer}
 use Rattle.charging.specs.Balances.{by_number, bucket_balance}
 use Rattle.charging.specs.Histories.{History, kept_under}
 use Rattle.charging.specs.Accepted.{CommandOutcome}
-use Rattle.charging.specs.Outcomes.{only_told, keeping, unless_kept, failed, decided_by}
-use Rattle.charging.specs.Outcomes.{request_outcome, from_of, until_of, is_full, is_out_of_range}
-use Rattle.charging.specs.Outcomes.{new_credit, credit_outcome, addition_outcome, book_days}
-use Rattle.charging.specs.Outcomes.{begin_of, end_of, is_over, allowance_refusal, allowed_unless}
-use Rattle.charging.specs.Outcomes.{new_allowance, allowance_outcome}
-use Rattle.charging.specs.Outcomes.{redemption_outcome, new_redemption}
-use Rattle.charging.specs.Outcomes.{redeem_outcome, opened_outcome, unopened_outcome, outcome}
+use Rattle.charging.specs.Outcomes.{only_told, keeping, request_outcome, is_full, credit_outcome}
+use Rattle.charging.specs.Outcomes.{addition_outcome, book_days, allowance_outcome, redeem_outcome}
+use Rattle.charging.specs.Outcomes.{outcome}
+use Rattle.charging.specs.OutcomeParts.{unless_kept, failed, decided_by, from_of, until_of}
+use Rattle.charging.specs.OutcomeParts.{is_out_of_range, new_credit, begin_of, end_of, is_over}
+use Rattle.charging.specs.OutcomeParts.{allowance_refusal, allowed_unless, new_allowance}
+use Rattle.charging.specs.OutcomeParts.{redemption_outcome, new_redemption, opened_outcome}
+use Rattle.charging.specs.OutcomeParts.{unopened_outcome}
 use Rattle.charging.proofs.EarlyLedgers.{IsEarly, early_credited, early_barred}
 use Rattle.charging.proofs.EarlyDecisions.{book_same, decision_same, decision_early}
 

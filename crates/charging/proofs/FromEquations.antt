@@ -30,17 +30,17 @@ use Rattle.reserving.proofs.LeftMore.{one_by_number}
 use Rattle.keepers.specs.Tables.{Head, Rows, Tables, no_rows, head_of, group_row, held_at, held_of}
 use Rattle.keepers.specs.Change.{AreRowsAt}
 use Rattle.keepers.proofs.GroupRows.{group_of, group_back}
-use Rattle.charging.specs.Histories.{History}
-use Rattle.charging.specs.Accepted.{Accepted, IsRow, IsRowOf, as_of}
+use Rattle.charging.specs.Accepted.{IsRow, as_of}
 use Rattle.charging.specs.Served.{history}
-use Rattle.charging.specs.SessionReports.{reports_of}
-use Rattle.charging.specs.TablesAfter.{rows_at, rows_of, tables_after}
+use Rattle.charging.specs.Paid.{reports_of}
+use Rattle.charging.specs.TablesAfter.{rows_at}
 use Rattle.charging.proofs.AcceptedTables.{row_of}
 use Rattle.charging.proofs.Credited.{AreCredited, in_order, distinct}
 use Rattle.charging.proofs.Sound.{IsSoundHistory, sound_none, keeps_sound}
 use Rattle.charging.proofs.KeptHistories.{kept_history}
 use Rattle.charging.proofs.TablesAfter.{tables_are_a_function}
-use Rattle.charging.specs.Equations.{IsList, AreLists, EquationsAreEnough, RunsByEquations}
+use Rattle.charging.specs.Equations.{EquationsAreEnough, RunsByEquations}
+use Rattle.charging.specs.Promise.{IsList}
 
 -- ---- buckets that are found alike are one list
 

@@ -38,7 +38,8 @@ use Rattle.ledger.specs.Debiting.{rest_price, debited}
 use Rattle.reserving.proofs.Lists.{some_of}
 use Rattle.reserving.proofs.Keys.{is_key, own_key, key_session, key_group}
 use Rattle.ledger.proofs.Fronts.{held-hold_facts, credits-hold_facts}
-use Rattle.charging.specs.Quotas.{OpenGrant, grant_told, grant_open}
+use Rattle.charging.specs.Paid.{OpenGrant, grant_open}
+use Rattle.charging.specs.PaidParts.{grant_told}
 use Rattle.buckets.proofs.Paid.{sum_in-share}
 use Rattle.charging.proofs.BucketSums.{sum_in-most, sum_in-alike, sum_in-moved, held_sum-parts}
 use Rattle.charging.proofs.Steps.{is_quiet, with_grant, granted}

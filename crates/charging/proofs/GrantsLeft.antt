@@ -20,7 +20,8 @@ use Rattle.ledger.specs.Settlement.{charge_facts}
 use Rattle.ledger.specs.Reservation.{hold_facts, hold_for}
 use Rattle.reserving.proofs.Keys.{is_key, is_key-sym, key_session, key_group}
 use Rattle.ledger.proofs.Holds.{held_same}
-use Rattle.charging.specs.Quotas.{quota_by, grant_told, grant_open}
+use Rattle.charging.specs.Paid.{grant_open}
+use Rattle.charging.specs.PaidParts.{quota_by, grant_told}
 use Rattle.charging.proofs.BucketSums.{sum_in-most, sum_in-inserted}
 use Rattle.reserving.proofs.Counted.{is_end, is_named, rest_none, unnamed_use, untold}
 

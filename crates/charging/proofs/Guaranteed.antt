@@ -18,8 +18,7 @@ use Rattle.ledger.specs.Settlement.{price_by, coverable, reported, report_price,
 use Rattle.ledger.specs.Settlement.{settled_by, missing, due_of, use_of}
 use Rattle.ledger.specs.Reservation.{hold_facts, grant_for, held_due}
 use Rattle.ledger.specs.Debiting.{debited}
-use Rattle.charging.specs.SessionReports.{Report}
-use Rattle.charging.specs.Quotas.{OpenGrant, grant_open, IsWithinGrant, AreQuotasPaid}
+use Rattle.charging.specs.Paid.{Report, OpenGrant, grant_open, IsWithinGrant, AreQuotasPaid}
 use Rattle.charging.proofs.BucketSums.{sum_in-moved, held_sum-parts}
 use Rattle.charging.proofs.Steps.{is_quiet, with_grant, granted, Keeps}
 use Rattle.charging.proofs.Credited.{AreCredited, distinct}

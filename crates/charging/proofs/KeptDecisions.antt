@@ -40,20 +40,17 @@ use Rattle.ledger.specs.Debiting.{is_covered, debit_passes}
 use Rattle.reserving.proofs.Lists.{no_some}
 use Rattle.ledger.proofs.Names.{is_same-refl}
 use Rattle.ledger.proofs.Fronts.{newest-front, each_hold}
-use Rattle.decisions.specs.Known.{is_known}
-use Rattle.decisions.specs.Reports.{units_fault, units_of, parts_of}
-use Rattle.decisions.specs.Decided.{Decision, invalid, refused_or}
-use Rattle.decisions.specs.Settling.{settled_service, settled_services}
-use Rattle.decisions.specs.Granting.{Answered, granted_units, granted_if, granted_by, granted}
-use Rattle.decisions.specs.Granting.{after_grants, any_grants}
-use Rattle.decisions.specs.Events.{event_fault, event_units, debit_refusal, charged_at_once}
-use Rattle.decisions.specs.Events.{charged_by}
-use Rattle.decisions.specs.Events.{charged_unless_barred, debit_decision, read_refusal}
-use Rattle.decisions.specs.Events.{decided_action, refund_refusal, refunded, refund_decision}
-use Rattle.decisions.specs.Decisions.{initial_refusal, opened, opened_unless_barred}
-use Rattle.decisions.specs.Decisions.{session_refusal, settled_touched, updated, ended, decided}
-use Rattle.charging.specs.SessionReports.{Report, with_services, with_ask}
-use Rattle.charging.specs.Paid.{is_touched}
+use Rattle.decisions.specs.Services.{is_known, units_fault, units_of, parts_of, settled_service}
+use Rattle.decisions.specs.Services.{settled_services, Answered, granted, after_grants, any_grants}
+use Rattle.decisions.specs.Decisions.{Decision, refused_or, event_units, debit_decision}
+use Rattle.decisions.specs.Decisions.{read_refusal, refund_decision, session_refusal}
+use Rattle.decisions.specs.Decisions.{settled_touched}
+use Rattle.decisions.specs.Parts.{invalid, granted_units, granted_if, granted_by, event_fault}
+use Rattle.decisions.specs.Parts.{debit_refusal, charged_at_once, charged_by, charged_unless_barred}
+use Rattle.decisions.specs.Parts.{decided_action, refund_refusal, refunded, initial_refusal, opened}
+use Rattle.decisions.specs.Parts.{opened_unless_barred, updated, ended, decided}
+use Rattle.charging.specs.Paid.{Report, with_services, is_touched}
+use Rattle.charging.specs.PaidParts.{with_ask}
 use Rattle.charging.proofs.Steps.{with_grant, Keeps}
 
 -- a grant leaves its session recorded

@@ -24,20 +24,20 @@ use Rattle.shelves.specs.Shelves.{Shelf}
 use Rattle.buckets.specs.declared.kind.BucketKind.TheVariants.{Money, Blocks}
 use Rattle.ledger.specs.Ledger.{Ledger}
 use Rattle.ledger.specs.Ledger.Fact.{Barred}
-use Rattle.decisions.specs.Decided.{Decision}
-use Rattle.decisions.specs.Decisions.{decision, answer_of, is_read}
+use Rattle.decisions.specs.Decisions.{Decision, decision, answer_of, is_read}
 use Rattle.keepers.specs.declared.kept_answer.KeptAnswer.{KeptAnswer}
 use Rattle.charging.specs.Histories.{History, kept_under}
 use Rattle.charging.specs.Accepted.{Accepted, CommandOutcome, concerned_by, names}
-use Rattle.charging.specs.Outcomes.{only_told, keeping, unless_kept, decided_by, request_outcome}
-use Rattle.charging.specs.Outcomes.{from_of, until_of, is_full, is_out_of_range, new_credit}
-use Rattle.charging.specs.Outcomes.{credit_outcome, addition_outcome, book_days, redeemed_outcome}
-use Rattle.charging.specs.Outcomes.{redemption_outcome, new_redemption, redeem_outcome}
-use Rattle.charging.specs.Outcomes.{begin_of, end_of, allowance_refusal, allowed_unless}
-use Rattle.charging.specs.Outcomes.{allowance_outcome}
-use Rattle.charging.specs.Outcomes.{opened_outcome, unopened_outcome, outcome}
+use Rattle.charging.specs.Outcomes.{only_told, keeping, request_outcome, is_full, credit_outcome}
+use Rattle.charging.specs.Outcomes.{addition_outcome, book_days, redeem_outcome, allowance_outcome}
+use Rattle.charging.specs.Outcomes.{outcome}
+use Rattle.charging.specs.OutcomeParts.{unless_kept, decided_by, from_of, until_of, is_out_of_range}
+use Rattle.charging.specs.OutcomeParts.{new_credit, redeemed_outcome, redemption_outcome}
+use Rattle.charging.specs.OutcomeParts.{new_redemption, begin_of, end_of, allowance_refusal}
+use Rattle.charging.specs.OutcomeParts.{allowed_unless, opened_outcome, unopened_outcome}
 use Rattle.charging.specs.Served.{history, standing}
-use Rattle.charging.specs.SessionReports.{Report, with_ask, with_reports, reports_of}
+use Rattle.charging.specs.Paid.{Report, with_reports, reports_of}
+use Rattle.charging.specs.PaidParts.{with_ask}
 use Rattle.charging.proofs.Steps.{Keeps}
 use Rattle.charging.proofs.KeptDecisions.{kept_decided}
 

@@ -28,18 +28,17 @@ use Rattle.voucher_rules.specs.declared.voucher.Voucher.{Voucher}
 use Rattle.shelves.specs.Shelves.{Shelf, book_at}
 use Rattle.ledger.specs.Ledger.{Ledger}
 use Rattle.reserving.proofs.Lists.{no_some}
-use Rattle.decisions.specs.Decided.{refused_or, told as told_of}
-use Rattle.decisions.specs.Events.{is_read_action, decided_action, read_refusal, checked_by}
-use Rattle.decisions.specs.Events.{priced_by}
-use Rattle.decisions.specs.Decisions.{decision, decided, answer_of, is_read}
+use Rattle.decisions.specs.Decisions.{refused_or, told as told_of, read_refusal, decision}
+use Rattle.decisions.specs.Decisions.{answer_of, is_read}
+use Rattle.decisions.specs.Parts.{is_read_action, decided_action, checked_by, priced_by, decided}
 use Rattle.ledger.specs.Pricing.{tariff_at}
 use Rattle.keepers.specs.declared.kept_answer.KeptAnswer.{KeptAnswer}
 use Rattle.charging.specs.Histories.{History, kept_under}
 use Rattle.charging.specs.Accepted.{CommandOutcome}
-use Rattle.charging.specs.Outcomes.{only_told, keeping, same_content, repeated, unless_kept, failed}
-use Rattle.charging.specs.Outcomes.{decided_by, request_outcome, new_credit, credit_outcome}
-use Rattle.charging.specs.Outcomes.{new_allowance, allowance_outcome}
-use Rattle.charging.specs.Outcomes.{new_redemption, redeem_outcome}
+use Rattle.charging.specs.Outcomes.{only_told, keeping, request_outcome, credit_outcome}
+use Rattle.charging.specs.Outcomes.{allowance_outcome, redeem_outcome}
+use Rattle.charging.specs.OutcomeParts.{same_content, repeated, unless_kept, failed, decided_by}
+use Rattle.charging.specs.OutcomeParts.{new_credit, new_allowance, new_redemption}
 
 -- ---- equal contents
 

@@ -31,17 +31,16 @@ use Rattle.buckets.specs.declared.kind.BucketKind.TheVariants.{Money}
 use Rattle.ledger.specs.Ledger.{next_bucket}
 use Rattle.ledger.specs.Requests.{credited}
 use Rattle.reserving.proofs.Lists.{no_some}
-use Rattle.decisions.specs.Decided.{Decision}
-use Rattle.decisions.specs.Decisions.{decision, answer_of, is_read}
+use Rattle.decisions.specs.Decisions.{Decision, decision, answer_of, is_read}
 use Rattle.keepers.specs.declared.kept_answer.KeptAnswer.{KeptAnswer}
 use Rattle.charging.specs.Histories.{History, is_kept_under, kept_under}
 use Rattle.charging.specs.Accepted.{Accepted, CommandOutcome, concerned_by, names}
-use Rattle.charging.specs.Outcomes.{outcome, opened_outcome, unopened_outcome, only_told, keeping}
-use Rattle.charging.specs.Outcomes.{unless_kept, failed, decided_by, request_outcome, from_of}
-use Rattle.charging.specs.Outcomes.{until_of, is_full, is_out_of_range, new_credit}
-use Rattle.charging.specs.Outcomes.{allowance_refusal, allowed_unless, new_allowance}
-use Rattle.charging.specs.Outcomes.{addition_outcome, book_days, redeemed_outcome}
-use Rattle.charging.specs.Outcomes.{redemption_outcome, new_redemption}
+use Rattle.charging.specs.Outcomes.{outcome, only_told, keeping, request_outcome, is_full}
+use Rattle.charging.specs.Outcomes.{addition_outcome, book_days}
+use Rattle.charging.specs.OutcomeParts.{opened_outcome, unopened_outcome, unless_kept, failed}
+use Rattle.charging.specs.OutcomeParts.{decided_by, from_of, until_of, is_out_of_range, new_credit}
+use Rattle.charging.specs.OutcomeParts.{allowance_refusal, allowed_unless, new_allowance}
+use Rattle.charging.specs.OutcomeParts.{redeemed_outcome, redemption_outcome, new_redemption}
 use Rattle.charging.specs.Served.{history, standing}
 
 -- ---- an account that is there stays

@@ -4,7 +4,7 @@ use Rattle.std.specs.Prelude.{◌==◌, ◌&&◌, if◌then◌else◌, option_ma
 use Rattle.ledger.specs.Ledger.{Ledger, GrantOf, Telling, counts, is_same, or_else, newest, inner}
 use Rattle.ledger.specs.Ledger.{telling, tells}
 use Rattle.ledger.specs.Parts.{told_of}
-use Rattle.charging.specs.Quotas.{OpenGrant}
+use Rattle.charging.specs.Paid.{OpenGrant}
 use Rattle.charging.specs.OpenGrants.{PlacedGrant, granted_by, GrantsAreOne}
 
 -- what a reader makes of a grant, another makes of what a third one gives of it

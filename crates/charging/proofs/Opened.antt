@@ -28,10 +28,10 @@ use Rattle.ledger.proofs.Holds.{held_split, held_same, split_by, split_less}
 use Rattle.ledger.proofs.Names.{is_same-sym}
 use Rattle.reserving.proofs.SettledRows.{used_none}
 use Rattle.reserving.proofs.rows.Touching.{SameMoney, same_touched, buckets_at-same}
-use Rattle.decisions.specs.Reports.{units_of, asked_units}
-use Rattle.decisions.specs.Granting.{Answered, grant_answer, granted_units}
-use Rattle.decisions.specs.Granting.{granted_if, granted_by, granted, grant_answers, grants_new}
-use Rattle.decisions.specs.Granting.{any_grants, denial, first_denial}
+use Rattle.decisions.specs.Services.{units_of, Answered, granted, grant_answers, any_grants}
+use Rattle.decisions.specs.Services.{first_denial}
+use Rattle.decisions.specs.Parts.{asked_units, grant_answer, granted_units, granted_if, granted_by}
+use Rattle.decisions.specs.Parts.{grants_new, denial}
 use Rattle.charging.specs.Served.{history}
 use Rattle.charging.specs.Opening.{is_granted, IsFirstDenial, SessionsOpenByGrants}
 use Rattle.charging.proofs.KeptHistories.{kept_history}

@@ -39,13 +39,13 @@ use Rattle.keepers.specs.Differing.{equal_bucket, equal_counter, equal_session, 
 use Rattle.keepers.specs.Differing.{named_rows, named_for}
 use Rattle.keepers.proofs.NamedOwn.{named_own}
 use Rattle.charging.specs.Histories.{History}
-use Rattle.charging.specs.Accepted.{Accepted, one, concerned_by, is_opening, names_code}
-use Rattle.charging.specs.Accepted.{last_moment, IsInTime}
-use Rattle.charging.specs.Outcomes.{book_days, outcome, only_told, done, keeping, repeated}
-use Rattle.charging.specs.Outcomes.{with_ledger}
-use Rattle.charging.specs.Outcomes.{from_of, until_of, is_unusable, is_full, is_out_of_range}
-use Rattle.charging.specs.Outcomes.{new_credit, opened_outcome, unopened_outcome}
+use Rattle.charging.specs.Accepted.{Accepted, one, concerned_by, last_moment, IsInTime}
+use Rattle.charging.specs.Outcomes.{book_days, outcome, only_told, done, keeping, is_full}
+use Rattle.charging.specs.OutcomeParts.{repeated, with_ledger, from_of, until_of, is_unusable}
+use Rattle.charging.specs.OutcomeParts.{is_out_of_range, new_credit, opened_outcome}
+use Rattle.charging.specs.OutcomeParts.{unopened_outcome}
 use Rattle.charging.specs.Served.{history, standing, AreTables, IsServed}
+use Rattle.charging.specs.ServedParts.{is_opening, names_code}
 use Rattle.charging.specs.Stepping.{IsTaken, WritesAt, Credits, Makes, bar_command}
 use Rattle.charging.proofs.AcceptedTables.{tables_swept}
 use Rattle.charging.proofs.NeverOpened.{unopened-ledger}

@@ -28,12 +28,9 @@ use Rattle.ledger.specs.Settlement.{due_of, use_of}
 use Rattle.ledger.specs.Reservation.{hold_facts, reserved}
 use Rattle.ledger.specs.Debiting.{rest_price, is_covered, debited}
 use Rattle.reserving.proofs.Lists.{no_some}
-use Rattle.charging.specs.SessionReports.{Report, with_report}
-use Rattle.charging.specs.Paid.{before_charges, taken, is_touched, IsReport, IsEvent}
-use Rattle.charging.specs.Paid.{ArePaid}
-use Rattle.charging.specs.PaidParts.{without_last}
-use Rattle.charging.specs.Paid.{IsPaidUse, is_charge}
-use Rattle.charging.specs.PaidParts.{reports_without, taken_by}
+use Rattle.charging.specs.Paid.{Report, before_charges, taken, is_touched, IsReport, IsEvent}
+use Rattle.charging.specs.Paid.{ArePaid, IsPaidUse, is_charge}
+use Rattle.charging.specs.PaidParts.{without_last, with_report, reports_without, taken_by}
 use Rattle.ledger.specs.Pricing.{validity_of}
 use Rattle.charging.proofs.Steps.{is_quiet, is_touch, untouched, with_grant, Keeps}
 use Rattle.charging.proofs.Credited.{AreCredited, no_credits, more_credits, SameCredits}
@@ -224,13 +221,7 @@ settled_is_paid b t s g p ps reports ledger touches h = (
     report : IsReport b own t use_made ledger
     report = record {
       moment = refl;
-      session = refl;
-      group = refl;
-      units_are = refl;
-      blocks_are = refl;
-      covered_is = refl;
-      rated_is = refl;
-      uncollected_is = refl;
+      is = refl;
       short = λ less x among. spent_all holds g t all rows x among (reaches less x.kind);
     }
 
@@ -366,11 +357,8 @@ paying_debit b t s g units reports ledger new covered h = record {
 
     event : IsEvent b t (use_of s g units price.blocks all 0) ledger
     event = record {
-      blocks_are = refl;
-      covered_is = refl;
-      rated_is = refl;
+      is = refl;
       funded = covered;
-      whole = refl;
     }
 
 pub paying_none : (b : Shelf) → IsPaying b [] []

@@ -7,15 +7,13 @@ use Rattle.keepers.specs.Seen.{Seen}
 use Rattle.keepers.specs.Tables.{Head, Tables}
 use Rattle.charging.specs.declared.answers.Run.{Run}
 use Rattle.charging.specs.declared.running.DatedCommand.{DatedCommand}
-use Rattle.charging.specs.Accepted.{Accepted, IsInTime}
+use Rattle.charging.specs.Accepted.{Accepted}
 use Rattle.charging.specs.Served.{AreTables}
 use Rattle.charging.specs.Runs as relation
 use Rattle.charging.specs.Headline.{AreAccounted}
-use Rattle.charging.specs.TablesAfter.{tables_after}
 use Rattle.charging.proofs.AcceptedTables.{row_some}
 use Rattle.charging.proofs.TablesAfter.{tables_are_a_function}
-use Rattle.charging.specs.Equations.{AreLists}
-use Rattle.charging.specs.Promise.{From, IsFound, RunsOver}
+use Rattle.charging.specs.Promise.{AreLists, From, IsFound, RunsOver}
 use Rattle.charging.proofs.FromEquations.{equations_are_enough}
 
 -- tables of accepted commands are lists

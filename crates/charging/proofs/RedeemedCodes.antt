@@ -23,16 +23,16 @@ use Rattle.voucher_rules.proofs.StandingLemmas.{spent_for_good}
 use Rattle.shelves.specs.Shelves.{Shelf}
 use Rattle.keepers.specs.declared.kept_answer.KeptAnswer.{KeptAnswer}
 use Rattle.charging.specs.Histories.{History, kept_under}
-use Rattle.charging.specs.Accepted.{Accepted, CommandOutcome, names_code, voucher_after}
-use Rattle.charging.specs.Outcomes.{book_days, unless_kept}
-use Rattle.charging.specs.Outcomes.{redemption_outcome, new_redemption, redeem_outcome}
-use Rattle.charging.specs.Outcomes.{unopened_outcome, outcome}
+use Rattle.charging.specs.Accepted.{Accepted, CommandOutcome}
+use Rattle.charging.specs.Outcomes.{book_days, redeem_outcome, outcome}
+use Rattle.charging.specs.OutcomeParts.{unless_kept, redemption_outcome, new_redemption}
+use Rattle.charging.specs.OutcomeParts.{unopened_outcome}
 use Rattle.charging.specs.Served.{voucher, history, moment_of, accepts}
+use Rattle.charging.specs.ServedParts.{names_code, voucher_after}
 use Rattle.charging.specs.declared.running.DatedCommand.{DatedCommand}
 use Rattle.charging.specs.Runs.{after_command, after_commands}
 use Rattle.charging.specs.RedeemedCodes.{voucher_command, voucher_commands, IsLeftByThese}
-use Rattle.charging.specs.RedeemedCodes.{redemption_count, AreRedeemedOnce}
-use Rattle.charging.specs.RedeemedCodes.{IsRedeemedAtMostOnce}
+use Rattle.charging.specs.RedeemedCodes.{redemption_count, AreRedeemedOnce, IsRedeemedAtMostOnce}
 
 no : {X : Type 0} → false ≡ true → X
 no e = absurd (true≢false (sym e))

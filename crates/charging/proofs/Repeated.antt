@@ -32,19 +32,18 @@ use Rattle.shelves.specs.Shelves.{Shelf}
 use Rattle.buckets.specs.declared.kind.BucketKind.TheVariants.{Money, Blocks}
 use Rattle.ledger.specs.Ledger.{Ledger, next_bucket}
 use Rattle.ledger.specs.Requests.{credited}
-use Rattle.decisions.specs.Decided.{Decision}
-use Rattle.decisions.specs.Decisions.{decision, answer_of, is_read}
+use Rattle.decisions.specs.Decisions.{Decision, decision, answer_of, is_read}
 use Rattle.keepers.specs.declared.kept_answer.KeptAnswer.{KeptAnswer}
 use Rattle.charging.specs.Histories.{History, is_kept_under, kept_under}
 use Rattle.charging.specs.Accepted.{Accepted, CommandOutcome, one, concerned_by, names}
 use Rattle.charging.specs.declared.running.DatedCommand.{DatedCommand}
-use Rattle.charging.specs.Outcomes.{only_told, keeping, repeated, unless_kept, failed, decided_by}
-use Rattle.charging.specs.Outcomes.{request_outcome, from_of, until_of, is_full, is_out_of_range}
-use Rattle.charging.specs.Outcomes.{new_credit, credit_outcome, book_days, refused_as}
-use Rattle.charging.specs.Outcomes.{begin_of, end_of, allowance_refusal, allowed_unless}
-use Rattle.charging.specs.Outcomes.{new_allowance, allowance_outcome}
-use Rattle.charging.specs.Outcomes.{redemption_outcome, new_redemption, redeem_outcome}
-use Rattle.charging.specs.Outcomes.{opened_outcome, unopened_outcome, outcome}
+use Rattle.charging.specs.Outcomes.{only_told, keeping, request_outcome, is_full, credit_outcome}
+use Rattle.charging.specs.Outcomes.{book_days, allowance_outcome, redeem_outcome, outcome}
+use Rattle.charging.specs.OutcomeParts.{repeated, unless_kept, failed, decided_by, from_of}
+use Rattle.charging.specs.OutcomeParts.{until_of, is_out_of_range, new_credit, refused_as, begin_of}
+use Rattle.charging.specs.OutcomeParts.{end_of, allowance_refusal, allowed_unless, new_allowance}
+use Rattle.charging.specs.OutcomeParts.{redemption_outcome, new_redemption, opened_outcome}
+use Rattle.charging.specs.OutcomeParts.{unopened_outcome}
 use Rattle.charging.specs.Served.{history, standing, moment_of, accepts, answer_to}
 use Rattle.charging.specs.Runs.{after_command, after_commands}
 use Rattle.charging.specs.Repeats.{AnswersOnce}

@@ -31,10 +31,10 @@ use Rattle.reserving.specs.Stored.{stored, priced}
 use Rattle.reserving.specs.Left.{LeftRows, IsWith, left_of}
 use Rattle.reserving.proofs.Lists.{no_some}
 use Rattle.decisions.specs.Asked.{begins_session, IsAsked}
-use Rattle.decisions.specs.Recorded.{has_record}
-use Rattle.decisions.specs.Decided.{Decision, invalid, refused_or}
-use Rattle.decisions.specs.Decided as decision_of
-use Rattle.decisions.specs.Decisions.{decided, decision, answer_of, is_read}
+use Rattle.decisions.specs.Decisions.{has_record, Decision, refused_or, decision, answer_of}
+use Rattle.decisions.specs.Decisions.{is_read}
+use Rattle.decisions.specs.Decisions as decision_of
+use Rattle.decisions.specs.Parts.{invalid, decided, decided_action}
 use Rattle.keepers.specs.declared.kept_answer.KeptAnswer.{KeptAnswer}
 use Rattle.keepers.specs.declared.loaded.Change.{Change}
 use Rattle.keepers.specs.declared.loaded.Loaded.{Loaded}
@@ -44,8 +44,8 @@ use Rattle.keepers.specs.Differing.{named_rows}
 use Rattle.keepers.proofs.Asked.{known_is, new_unleft}
 use Rattle.charging.specs.Histories.{History}
 use Rattle.charging.specs.Accepted.{Accepted, last_moment, IsInTime}
-use Rattle.charging.specs.Outcomes.{outcome, failed, repeated, only_told, keeping, decided_by}
-use Rattle.charging.specs.Outcomes.{unopened_outcome}
+use Rattle.charging.specs.Outcomes.{outcome, only_told, keeping}
+use Rattle.charging.specs.OutcomeParts.{failed, repeated, decided_by, unopened_outcome}
 use Rattle.charging.specs.Served.{history, AreTables, IsServed}
 use Rattle.charging.specs.Stepping.{IsTaken, is_known, kept_of_request}
 use Rattle.charging.proofs.AcceptedTables.{row_none, row_some}
@@ -158,7 +158,7 @@ if_known v ledger other d e =
 known_event : (action : EventAction) (b : Shelf) (t : ℕ) (s : List ℕ) (n : ℕ) (e : EventOf)
     (ledger : Ledger) → begins_session (Event (record e { action = action })) ≡ true →
     has_record s ledger ≡ true →
-    Rattle.decisions.specs.Events.decided_action action b t s n e ledger ≡
+    decided_action action b t s n e ledger ≡
     decision_of.told (Failed (invalid SessionId)) ledger
 known_event DirectDebiting b t s n e ledger begins known =
     if_known (has_record s ledger) ledger _ _ known

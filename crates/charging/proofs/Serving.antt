@@ -26,13 +26,15 @@ use Rattle.keepers.specs.Steps.{Extends}
 use Rattle.keepers.proofs.Taking.{taken}
 use Rattle.keepers.proofs.Leaving.{left_behind}
 use Rattle.charging.specs.Histories.{History, kept_under}
-use Rattle.charging.specs.Accepted.{Accepted, CommandOutcome, one, concerned_by, names, is_opening}
-use Rattle.charging.specs.Accepted.{names_code, voucher_after, as_of, last_moment, IsInTime}
+use Rattle.charging.specs.Accepted.{Accepted, CommandOutcome, one, concerned_by, names, as_of}
+use Rattle.charging.specs.Accepted.{last_moment, IsInTime}
 use Rattle.charging.proofs.AcceptedTables.{Adds, tables_changed, row_none, row_some, as_of-last}
-use Rattle.charging.specs.Outcomes.{book_days, outcome, opened_outcome, unopened_outcome}
+use Rattle.charging.specs.Outcomes.{book_days, outcome}
+use Rattle.charging.specs.OutcomeParts.{opened_outcome, unopened_outcome}
 use Rattle.charging.proofs.NeverOpened.{kept-opened}
-use Rattle.charging.specs.Served.{history, voucher, standing, AreTables, answer_on, answer_to}
-use Rattle.charging.specs.Served.{accepts_on, accepts, with_command, IsServed, Writes}
+use Rattle.charging.specs.Served.{history, voucher, standing, AreTables, answer_to, accepts}
+use Rattle.charging.specs.Served.{with_command, IsServed, Writes}
+use Rattle.charging.specs.ServedParts.{is_opening, names_code, voucher_after, answer_on, accepts_on}
 use Rattle.charging.specs.Stepping.{Commits, IsTaken, WritesAt}
 
 -- what an account keeps once a command was accepted

@@ -18,7 +18,7 @@ use Rattle.reserving.proofs.rows.Empty.{IsSoundLedger-none}
 use Rattle.reserving.proofs.rows.Reserved.{IsSoundLedger-reserved}
 use Rattle.reserving.proofs.rows.Debited.{IsSoundLedger-debited}
 use Rattle.ledger.specs.Pricing.{validity_of}
-use Rattle.charging.specs.SessionReports.{Report}
+use Rattle.charging.specs.Paid.{Report}
 use Rattle.charging.proofs.Steps.{is_quiet, quiet, is_touch, untouched, IsInPlace, Keeps}
 use Rattle.charging.proofs.Credited.{all_made}
 use Rattle.charging.proofs.Recorded.{charges_record}

@@ -23,7 +23,8 @@ use Rattle.keepers.proofs.Found.{bucket_filter}
 use Rattle.charging.specs.Accepted.{Accepted, as_of, last_moment, IsInTime}
 use Rattle.charging.specs.Balances.{bucket_balance, by_number, account_balance, AreByNumber}
 use Rattle.charging.specs.Histories.{History}
-use Rattle.charging.specs.Outcomes.{only_told, opened_outcome, unopened_outcome}
+use Rattle.charging.specs.Outcomes.{only_told}
+use Rattle.charging.specs.OutcomeParts.{opened_outcome, unopened_outcome}
 use Rattle.charging.specs.Served.{history, AreTables, IsServed}
 use Rattle.charging.specs.States.{IsState, IsStateOf}
 use Rattle.charging.specs.declared.balances.AccountState.{AccountState}

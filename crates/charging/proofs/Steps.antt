@@ -12,8 +12,8 @@ use Rattle.ledger.specs.Settlement.{settled_by}
 use Rattle.ledger.specs.Reservation.{grant_at, reserved, grant_for, held_due}
 use Rattle.ledger.specs.Debiting.{debited, is_covered}
 pub use Rattle.reserving.proofs.Counted.{is_quiet, IsInPlace, IsQuiet, quiet}
-use Rattle.charging.specs.SessionReports.{Report, with_report}
-use Rattle.charging.specs.Paid.{is_touched}
+use Rattle.charging.specs.Paid.{Report, is_touched}
+use Rattle.charging.specs.PaidParts.{with_report}
 
 -- a grant's first fact, before its holds
 abbrev pub with_grant : Shelf → ℕ → List ℕ → ℕ → ℕ → Ledger → Ledger

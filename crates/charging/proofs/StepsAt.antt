@@ -49,29 +49,24 @@ use Rattle.ledger.specs.Settlement.{settled_by}
 use Rattle.ledger.specs.Reservation.{reserved, grant_for, held_due}
 use Rattle.ledger.specs.Debiting.{debited, is_covered, debit_passes}
 use Rattle.reserving.proofs.Lists.{no_some}
-use Rattle.decisions.specs.Known.{is_known}
-use Rattle.decisions.specs.Reports.{units_fault, units_of, parts_of}
-use Rattle.decisions.specs.Decided.{Decision, invalid, refused_or}
-use Rattle.decisions.specs.Settling.{settled_service, settled_services}
-use Rattle.decisions.specs.Granting.{Answered, granted_units, granted_if, granted_by, granted}
-use Rattle.decisions.specs.Granting.{after_grants, any_grants}
-use Rattle.decisions.specs.Events.{event_fault, event_units, debit_refusal, charged_at_once}
-use Rattle.decisions.specs.Events.{charged_by}
-use Rattle.decisions.specs.Events.{charged_unless_barred, debit_decision, read_refusal}
-use Rattle.decisions.specs.Events.{decided_action, refund_refusal, refunded, refund_decision}
-use Rattle.decisions.specs.Decisions.{initial_refusal, opened, opened_unless_barred}
-use Rattle.decisions.specs.Decisions.{session_refusal, settled_touched, updated, ended, decided}
-use Rattle.decisions.specs.Decisions.{decision, is_read}
+use Rattle.decisions.specs.Services.{is_known, units_fault, units_of, parts_of, settled_service}
+use Rattle.decisions.specs.Services.{settled_services, Answered, granted, after_grants, any_grants}
+use Rattle.decisions.specs.Decisions.{Decision, refused_or, event_units, debit_decision}
+use Rattle.decisions.specs.Decisions.{read_refusal, refund_decision, session_refusal}
+use Rattle.decisions.specs.Decisions.{settled_touched, decision, is_read}
+use Rattle.decisions.specs.Parts.{invalid, granted_units, granted_if, granted_by, event_fault}
+use Rattle.decisions.specs.Parts.{debit_refusal, charged_at_once, charged_by, charged_unless_barred}
+use Rattle.decisions.specs.Parts.{decided_action, refund_refusal, refunded, initial_refusal, opened}
+use Rattle.decisions.specs.Parts.{opened_unless_barred, updated, ended, decided}
 use Rattle.keepers.specs.declared.kept_answer.KeptAnswer.{KeptAnswer}
 use Rattle.charging.specs.Histories.{History, kept_under}
 use Rattle.charging.specs.Accepted.{CommandOutcome}
-use Rattle.charging.specs.Outcomes.{unless_kept, decided_by, request_outcome}
-use Rattle.charging.specs.Outcomes.{from_of, until_of, is_full, is_out_of_range, new_credit}
-use Rattle.charging.specs.Outcomes.{credit_outcome, addition_outcome, book_days}
-use Rattle.charging.specs.Outcomes.{redemption_outcome, new_redemption, redeem_outcome}
-use Rattle.charging.specs.Outcomes.{begin_of, end_of, allowance_refusal, allowed_unless}
-use Rattle.charging.specs.Outcomes.{allowance_outcome}
-use Rattle.charging.specs.Outcomes.{opened_outcome, unopened_outcome, outcome}
+use Rattle.charging.specs.Outcomes.{request_outcome, is_full, credit_outcome, addition_outcome}
+use Rattle.charging.specs.Outcomes.{book_days, redeem_outcome, allowance_outcome, outcome}
+use Rattle.charging.specs.OutcomeParts.{unless_kept, decided_by, from_of, until_of, is_out_of_range}
+use Rattle.charging.specs.OutcomeParts.{new_credit, redemption_outcome, new_redemption, begin_of}
+use Rattle.charging.specs.OutcomeParts.{end_of, allowance_refusal, allowed_unless, opened_outcome}
+use Rattle.charging.specs.OutcomeParts.{unopened_outcome}
 
 -- a property of a ledger is kept by each step at a moment whose session may act; one that is live
 -- then may, and one without a record

@@ -12,10 +12,11 @@ use Rattle.keepers.specs.Change.{AreRowsAt}
 use Rattle.commands.specs.declared.answer.Answer.{Answer}
 use Rattle.charging.specs.declared.running.DatedCommand.{DatedCommand}
 use Rattle.charging.specs.Histories.{History}
-use Rattle.charging.specs.Accepted.{Accepted, IsRow, as_of}
+use Rattle.charging.specs.Accepted.{IsRow, as_of}
 use Rattle.charging.specs.Outcomes.{book_days, outcome}
 use Rattle.charging.specs.Served.{history}
-use Rattle.charging.specs.TablesAfter.{rows_at, rows_of, TablesAreAFunction, RunsFromNothing}
+use Rattle.charging.specs.TablesAfter.{rows_at, TablesAreAFunction, RunsFromNothing}
+use Rattle.charging.specs.Promise.{rows_of}
 use Rattle.charging.proofs.AcceptedTables.{row_none, row_some, tables_none}
 
 rows_are : (shelf : Shelf) (t : ℕ) (ledger : Ledger) (r : Rows) → AreRowsAt shelf ledger t r →

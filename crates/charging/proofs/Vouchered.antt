@@ -37,8 +37,9 @@ use Rattle.keepers.specs.Tables.{Tables}
 use Rattle.keepers.specs.Change.{IsLoad, redeemed_over, changed, with_voucher}
 use Rattle.charging.specs.Histories.{History, no_history}
 use Rattle.charging.specs.Accepted.{Accepted, last_moment, IsInTime}
-use Rattle.charging.specs.Outcomes.{book_days, outcome, only_told, keeping, repeated, refused_as}
-use Rattle.charging.specs.Outcomes.{is_full, addition_outcome, redeemed_outcome, redemption_outcome}
+use Rattle.charging.specs.Outcomes.{book_days, outcome, only_told, keeping, is_full}
+use Rattle.charging.specs.Outcomes.{addition_outcome}
+use Rattle.charging.specs.OutcomeParts.{repeated, refused_as, redeemed_outcome, redemption_outcome}
 use Rattle.charging.specs.Served.{history, voucher, standing, AreTables, with_command, IsServed}
 use Rattle.charging.specs.Stepping.{IsTaken, Makes}
 use Rattle.charging.proofs.AcceptedTables.{tables_added}

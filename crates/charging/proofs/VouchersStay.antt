@@ -21,9 +21,10 @@ use Rattle.voucher_rules.proofs.Exact.{terms_exact}
 use Rattle.shelves.specs.Shelves.{Shelf}
 use Rattle.reserving.proofs.Lists.{some_of}
 use Rattle.charging.specs.Histories.{History, no_history}
-use Rattle.charging.specs.Accepted.{Accepted, names_code, voucher_after}
+use Rattle.charging.specs.Accepted.{Accepted}
 use Rattle.charging.specs.Outcomes.{book_days, addition_outcome}
 use Rattle.charging.specs.Served.{voucher, moment_of, accepts, answer_to}
+use Rattle.charging.specs.ServedParts.{names_code, voucher_after}
 use Rattle.charging.specs.declared.running.DatedCommand.{DatedCommand}
 use Rattle.charging.specs.Runs.{after_command, after_commands}
 

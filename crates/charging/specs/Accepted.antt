@@ -1,13 +1,16 @@
--- Accepted commands, the newest first: the history that they leave of each account, what they leave
--- under the codes of vouchers, and the tables that hold it.
+-- What each command is about: a new command has its line here, and its outcomes on an account that
+-- is there and on one that isn't (`outcome` of `Outcomes`). And accepted commands, the newest first:
+-- the history that they leave of each account, what they leave under the codes of vouchers, and the
+-- tables that hold it.
 -- Source: profile.
 use Rattle.std.specs.Prelude.{◌≡◌, ℕ, ◌+◌, ◌≤◌, Bool, true, false, if◌then◌else◌, List, [], ◌∷◌}
-use Rattle.std.specs.Prelude.{Option, Some, None}
+use Rattle.std.specs.Prelude.{Option, Some, None, not}
 use Rattle.units.specs.Words.{Moment}
 use Rattle.identifiers.specs.Words.{AccountName, VoucherCode}
 use Rattle.ledger.specs.Words.{ChargeNumber}
 use Rattle.identifiers.specs.Texts.{same_name}
 use Rattle.commands.specs.declared.command.Command.{Command}
+use Rattle.commands.specs.declared.command.Command.TheVariants as command
 use Rattle.commands.specs.declared.answer.Answer.{Answer}
 use Rattle.commands.specs.declared.key.Key.{Key}
 use Rattle.voucher_rules.specs.declared.voucher.Voucher.{Voucher}
@@ -17,9 +20,68 @@ use Rattle.shelves.specs.Shelves.{Shelf}
 use Rattle.ledger.specs.Charges.{charge_rows}
 use Rattle.keepers.specs.Tables.{Head, Rows, Tables, no_rows, charge_in}
 use Rattle.keepers.specs.Change.{AreRowsAt}
-pub use Rattle.charging.specs.About.{Concerned, one, each, none}
-use Rattle.charging.specs.About.{CodeUse, about, adds_code, redeems_code, no_code}
 use Rattle.charging.specs.Histories.{History, no_history, kept_under}
+use Rattle.commands.specs.declared.request.Request.{Request}
+use Rattle.decisions.specs.Decisions.{is_read}
+use Rattle.voucher_rules.specs.declared.terms.VoucherTerms.{VoucherTerms}
+
+-- which accounts a command concerns: one of this number, each, or none
+pub data Concerned : Type 0 where
+  one : AccountName → Concerned
+  each : Concerned
+  none : Concerned
+
+-- what a command does under a code: it adds a voucher of these terms, or redeems the one that is
+-- there for this account; or it names no code
+pub data CodeUse : Type 0 where
+  adds_code : VoucherCode → VoucherTerms → CodeUse
+  redeems_code : VoucherCode → AccountName → CodeUse
+  no_code : CodeUse
+
+pub record About : Type 0 where
+  pub account : Concerned
+  pub code : CodeUse
+  -- it makes an account
+  pub opens : Bool
+  -- it has a key, its number, its reference or its code, under which it may be repeated; a check or
+  -- an enquiry has none: it is answered anew each time
+  pub keyed : Bool
+  -- the request of a session
+  pub request : Option Request
+
+-- a command that concerns these accounts, with nothing else to say of it
+abbrev pub concerning : Concerned → About
+concerning who = record {
+  account = who;
+  code = no_code;
+  opens = false;
+  keyed = false;
+  request = None;
+}
+
+abbrev pub about : Command → About
+about (command.Ccr r) = record (concerning (one r.account)) {
+  -- its number is its key, unless it reads
+  keyed = not (is_read r.ask);
+  request = Some r;
+}
+about (command.OpenAccount n) = record (concerning (one n)) { opens = true }
+about (command.Credit c) = record (concerning (one c.account)) { keyed = true }
+about (command.Allow a) = record (concerning (one a.account)) { keyed = true }
+about (command.Bar n) = concerning (one n)
+about (command.Unbar n) = concerning (one n)
+about (command.AddVoucher v) = record (concerning none) {
+  code = adds_code v.code v.terms;
+  keyed = true;
+}
+about (command.Redeem r) = record (concerning (one r.account)) {
+  code = redeems_code r.code r.account;
+  keyed = true;
+}
+about command.Sweep = concerning each
+about (command.Balance n) = concerning (one n)
+
+-- ---- accepted commands
 
 -- a command with its moment
 pub record Accepted : Type 0 where
@@ -48,9 +110,6 @@ reaches a (one b) = same_name b a
 reaches a each = true
 reaches a none = false
 
-abbrev pub is_opening : Command → Bool
-is_opening c = (about c).opens
-
 -- the moment of the last accepted command
 abbrev pub last_moment : List Accepted → Moment
 last_moment [] = 0
@@ -64,7 +123,7 @@ as_of a (d ∷ before) = if reaches a (concerned_by d.command) then d.moment els
 -- how many accounts there are
 abbrev pub account_count : List Accepted → ℕ
 account_count [] = 0
-account_count (d ∷ before) = if is_opening d.command then account_count before + 1
+account_count (d ∷ before) = if (about d.command).opens then account_count before + 1
     else account_count before
 
 -- moments don't fall
@@ -74,32 +133,24 @@ IsInTime (d ∷ before) = (last_moment before ≤ d.moment) × IsInTime before
 
 -- ---- vouchers
 
--- a command names this code
-abbrev pub names_code : VoucherCode → Command → Bool
-names_code code c = is_under (about c).code
+-- what is under a code after accepted commands: each that names it adds or redeems its voucher
+abbrev pub voucher_under : DayEnds → VoucherCode → List Accepted → Option Voucher
+voucher_under ends code [] = None
+voucher_under ends code (d ∷ before) =
+    if is_under (about d.command).code
+    then used (voucher_under ends code before) (about d.command).code
+    else voucher_under ends code before
   where
     is_under : CodeUse → Bool
     is_under (adds_code added terms) = same_name added code
     is_under (redeems_code redeemed account) = same_name redeemed code
     is_under no_code = false
 
--- what is under the code that it names, once it is accepted
-abbrev pub voucher_after : DayEnds → Command → Moment → Option Voucher → Option Voucher
-voucher_after ends c t found = used ends (about c).code t found
-  where
-    used : DayEnds → CodeUse → Moment → Option Voucher → Option Voucher
-    used ends (adds_code code terms) t found = after_addition (addition found terms) found
-    used ends (redeems_code code account) t found =
-        after_redemption (redemption ends found account t) found
-    used ends no_code t found = found
-
--- what is under a code after accepted commands
-abbrev pub voucher_under : DayEnds → VoucherCode → List Accepted → Option Voucher
-voucher_under ends code [] = None
-voucher_under ends code (d ∷ before) =
-    if names_code code d.command
-    then voucher_after ends d.command d.moment (voucher_under ends code before)
-    else voucher_under ends code before
+    used : Option Voucher → CodeUse → Option Voucher
+    used found (adds_code added terms) = after_addition (addition found terms) found
+    used found (redeems_code redeemed account) =
+        after_redemption (redemption ends found account d.moment) found
+    used found no_code = found
 
 -- what is under the code that a command names; nothing where it names none
 abbrev pub standing_for : DayEnds → Command → List Accepted → Option Voucher

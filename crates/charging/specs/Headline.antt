@@ -21,9 +21,7 @@ use Rattle.charging.specs.Accepted.{Accepted, IsInTime}
 use Rattle.charging.specs.declared.running.DatedCommand.{DatedCommand}
 use Rattle.charging.specs.Served.{AreTables, history}
 use Rattle.charging.specs.Runs.{after_commands}
-use Rattle.charging.specs.SessionReports.{Report, reports_of}
-use Rattle.charging.specs.Paid.{ArePaid}
-use Rattle.charging.specs.Quotas.{AreQuotasPaid}
+use Rattle.charging.specs.Paid.{Report, reports_of, ArePaid, AreQuotasPaid}
 
 pub record IsAccounted (b : Shelf) (reports : List Report) (ledger : Ledger) (t : Moment)
     (rows : Rows) (told : ChargeNumber → Option ChargeRow) : Type 0 where

@@ -14,11 +14,11 @@ use Rattle.commands.specs.declared.key.Key.{Key}
 use Rattle.shelves.specs.Shelves.{Shelf}
 use Rattle.reserving.specs.Stored.{StoredRows, IsStored, advanced_stored}
 use Rattle.keepers.specs.Tables.{Rows, Tables, AreListed}
-use Rattle.charging.specs.Accepted.{Accepted, concerned_by, names, last_moment}
+use Rattle.charging.specs.Accepted.{Accepted, concerned_by, names, last_moment, CodeUse, about}
+use Rattle.charging.specs.Accepted.{adds_code, redeems_code, no_code}
 use Rattle.charging.specs.declared.running.DatedCommand.{DatedCommand}
 use Rattle.charging.specs.Served.{AreTables, moment_of}
 use Rattle.charging.specs.Runs.{after_command, answers_to, after_commands}
-use Rattle.charging.specs.About.{CodeUse, about, adds_code, redeems_code, no_code}
 
 -- ---- the commands that are an account's own
 

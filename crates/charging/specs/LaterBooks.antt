@@ -15,7 +15,7 @@ use Rattle.charging.specs.Accepted.{Accepted, last_moment, IsInTime}
 use Rattle.charging.specs.Served.{AreTables, history, voucher, answer_to, accepts}
 use Rattle.charging.specs.declared.running.DatedCommand.{DatedCommand}
 use Rattle.charging.specs.Runs.{IsRun, Runs, after_commands}
-use Rattle.charging.specs.SessionReports.{reports_of}
+use Rattle.charging.specs.Paid.{reports_of}
 use Rattle.charging.specs.Headline.{IsAccounted}
 
 -- ---- the books of a shelf go on

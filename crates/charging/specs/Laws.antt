@@ -10,11 +10,9 @@ use Rattle.ledger.specs.SoundLedger.{IsSoundLedger}
 use Rattle.charging.specs.Accepted.{Accepted}
 use Rattle.charging.specs.Collected.{charged_to_date, taken_to_date}
 use Rattle.charging.specs.Isolation.{HasOwnCodes, IsIsolated}
-use Rattle.charging.specs.Paid.{ArePaid}
-use Rattle.charging.specs.Quotas.{AreQuotasPaid}
+use Rattle.charging.specs.Paid.{ArePaid, AreQuotasPaid, reports_of}
 use Rattle.charging.specs.RedeemedCodes.{AreRedeemedOnce}
 use Rattle.charging.specs.Served.{history}
-use Rattle.charging.specs.SessionReports.{reports_of}
 use Rattle.charging.specs.declared.running.DatedCommand.{DatedCommand}
 
 -- the ledger of each history is sound

@@ -1,5 +1,4 @@
 pub mod Histories
-pub mod About
 pub mod Accepted
 pub mod Balances
 pub mod Outcomes
@@ -10,10 +9,8 @@ pub mod Parts
 pub mod States
 pub mod Runs
 pub mod Continued
-pub mod SessionReports
 pub mod Paid
 pub mod Allowed
-pub mod Quotas
 pub mod Isolation
 pub mod Repeats
 pub mod Headline
@@ -32,4 +29,6 @@ pub mod Laws
 pub mod TablesAfter
 pub mod Equations
 pub mod PaidParts
+pub mod ServedParts
+pub mod OutcomeParts
 pub mod Promise

@@ -5,7 +5,7 @@ use Rattle.units.specs.Words.{UnitCount, Place, GroupId}
 use Rattle.identifiers.specs.Words.{SessionName}
 use Rattle.ledger.specs.declared.terms.Terms.{Terms}
 use Rattle.ledger.specs.Ledger.{Dated, Ledger, GrantOf, tells, newest, inner, open_grant}
-use Rattle.charging.specs.Quotas.{grant_open}
+use Rattle.charging.specs.Paid.{grant_open}
 
 -- a grant: its terms, its units, and its place of the group's counter
 pub record PlacedGrant : Type 0 where

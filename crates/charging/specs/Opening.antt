@@ -13,7 +13,7 @@ use Rattle.commands.specs.declared.service.Service.{Service}
 use Rattle.shelves.specs.Shelves.{Shelf, book_at}
 use Rattle.ledger.specs.Ledger.{Ledger, is_barred, last_recording}
 use Rattle.ledger.specs.Requests.{touched}
-use Rattle.decisions.specs.Granting.{any_grants, first_denial, grant_answers}
+use Rattle.decisions.specs.Services.{any_grants, first_denial, grant_answers}
 use Rattle.charging.specs.Accepted.{Accepted}
 use Rattle.charging.specs.Served.{history}
 

@@ -1,11 +1,12 @@
--- What each use in an account's ledger came from, and what paid for it (RFC 8506 section 5.3: used
--- units are debited; TS 32.296, account balance management function).
+-- What the sessions of an account report, what each use in its ledger came from, and what paid for it
+-- (RFC 8506 sections 5.3, 8.16 and 8.19; TS 32.296, account balance management function; TS 32.299,
+-- session charging with unit reservation).
 use Rattle.std.specs.Prelude.{◌≡◌, ◌+◌, ◌<◌, ◌==◌, Bool, true, false, List, [], ◌∷◌, is_some}
-use Rattle.std.specs.Prelude.{if◌then◌else◌, Option, Some, None, IfSome}
-use Rattle.units.specs.Words.{Moment, GroupId}
-use Rattle.identifiers.specs.Words.{SessionName}
+use Rattle.std.specs.Prelude.{if◌then◌else◌, Option, Some, None, IfSome, ◌≤◌}
+use Rattle.units.specs.Words.{Moment, GroupId, UnitCount, Place}
+use Rattle.identifiers.specs.Words.{SessionName, AccountName}
 use Rattle.buckets.specs.Words.{BucketNumber, BucketAmount}
-use Rattle.shelves.specs.Shelves.{Shelf}
+use Rattle.shelves.specs.Shelves.{Shelf, book_at}
 use Rattle.buckets.specs.declared.kind.BucketKind.{BucketKind}
 use Rattle.buckets.specs.declared.kind.BucketKind.TheVariants.{Money, Blocks}
 use Rattle.buckets.specs.declared.kind.Due.{Due}
@@ -13,12 +14,70 @@ use Rattle.buckets.specs.Kinds.{is_alike, due}
 use Rattle.buckets.specs.Row.{BucketRow, eligible_amount}
 use Rattle.buckets.specs.Holding.{held_in, paid_of_hold, settled_row}
 use Rattle.buckets.specs.Laws.{IsAmong}
-use Rattle.ledger.specs.Ledger.{Fact, Ledger, UseOf, counts, number_of, last_touch}
+use Rattle.ledger.specs.Ledger.{Fact, Ledger, UseOf, counts, number_of, test_of, last_touch, GrantOf}
+use Rattle.ledger.specs.Ledger.{counter, tells, newest, inner}
 use Rattle.ledger.specs.Balance.{credits, buckets_at, holds_at}
-use Rattle.ledger.specs.Settlement.{reported, report_price, missing}
+use Rattle.ledger.specs.Settlement.{use_of, reported, due_of, report_price, missing}
 use Rattle.ledger.specs.Debiting.{rest_price, is_covered}
-use Rattle.ledger.specs.Pricing.{validity_of}
-use Rattle.charging.specs.SessionReports.{Report}
+use Rattle.ledger.specs.Pricing.{validity_of, cycle_at}
+use Rattle.buckets.specs.declared.kind.BucketKind.TheVariants as kind
+use Rattle.charging.specs.Accepted.{about, Accepted, concerned_by, names}
+use Rattle.charging.specs.Outcomes.{outcome}
+use Rattle.charging.specs.Served.{history, standing}
+use Rattle.commands.specs.declared.command.Command.{Command}
+use Rattle.commands.specs.declared.request.Ask.{Ask}
+use Rattle.commands.specs.declared.request.Ask.TheVariants as ask
+use Rattle.commands.specs.declared.request.Request.{Request}
+use Rattle.commands.specs.declared.service.Service.{Service}
+use Rattle.decisions.specs.Services.{is_known, parts_of}
+use Rattle.units.specs.declared.blocks.UsedPart.{UsedPart}
+
+-- ---- what sessions report
+
+-- a session's report of a rating group: its parts say which units were used before, on both sides
+-- of and after a tariff switch
+pub record Report : Type 0 where
+  pub at : Moment
+  pub session : SessionName
+  pub group : GroupId
+  pub parts : List UsedPart
+
+-- of a request's services those report whose groups have a tariff, in the request's order; a group
+-- that is named without a part is not reported
+abbrev pub with_services : Shelf → Moment → SessionName → List Service → List Report → List Report
+with_services b t s [] reports = reports
+with_services b t s (x ∷ xs) reports =
+    with_services b t s xs
+    (if is_known (book_at b t) x.group then with_report (parts_of x.used) else reports)
+  where
+    with_report : List UsedPart → List Report
+    with_report [] = reports
+    with_report (p ∷ ps) =
+        record { at = t; session = s; group = x.group; parts = p ∷ ps } ∷ reports
+
+-- updates and terminations report
+abbrev pub with_reports : Shelf → Moment → Command → List Report → List Report
+with_reports b t c reports = with_request (about c).request
+  where
+    with_ask : SessionName → Ask → List Report
+    with_ask s (ask.Update services) = with_services b t s services reports
+    with_ask s (ask.Termination services) = with_services b t s services reports
+    with_ask s _ = reports
+
+    with_request : Option Request → List Report
+    with_request (Some r) = with_ask r.session r.ask
+    with_request None = reports
+
+-- the reports of an account's sessions, the newest first
+abbrev pub reports_of : Shelf → AccountName → List Accepted → List Report
+reports_of b a [] = []
+reports_of b a (d ∷ before) =
+    if names a (concerned_by d.command)
+    then (if (outcome b (standing b d.command before) (history b a before) d.command
+    d.moment).accepted
+    then with_reports b d.moment d.command (reports_of b a before)
+    else reports_of b a before)
+    else reports_of b a before
 
 -- ---- the charges of a use are right before it
 
@@ -35,16 +94,12 @@ abbrev pub taken : BucketKind → Ledger → BucketAmount
 taken kind [] = 0
 taken kind (d ∷ older) =
     if is_charge d.fact then number_of
-    (λ c. if is_of kind (kind_in c.bucket (credits older)) then c.amount else 0)
-    (counts d.fact).charge + taken kind older else 0
+    (λ c. if test_of (λ k. is_alike k kind) (kind_in c.bucket (credits older))
+    then c.amount else 0) (counts d.fact).charge + taken kind older else 0
   where
     kind_in : BucketNumber → List BucketRow → Option BucketKind
     kind_in n [] = None
     kind_in n (c ∷ cs) = if c.number == n then Some c.kind else kind_in n cs
-
-    is_of : BucketKind → Option BucketKind → Bool
-    is_of kind None = false
-    is_of kind (Some k) = is_alike k kind
 
 -- ---- a report
 
@@ -64,13 +119,10 @@ IsSpent b t s g due before =
 pub record IsReport (b : Shelf) (r : Report) (t : Moment) (u : UseOf) (before : Ledger) : Type 0
   where
     pub moment : t ≡ r.at
-    pub session : u.session ≡ r.session
-    pub group : u.group ≡ r.group
-    pub units_are : u.units ≡ reported r.parts
-    pub blocks_are : u.blocks ≡ (report_price b t u.session u.group r.parts before).blocks
-    pub covered_is : u.covered ≡ (report_price b t u.session u.group r.parts before).covered.0
-    pub rated_is : u.rated ≡ (report_price b t u.session u.group r.parts before).amount.0
-    pub uncollected_is : u.uncollected ≡ missing b t u.session u.group r.parts before
+    pub is : u ≡ use_of r.session r.group (reported r.parts)
+        (report_price b t r.session r.group r.parts before).blocks
+        (due_of (report_price b t r.session r.group r.parts before))
+        (missing b t r.session r.group r.parts before)
     pub short : 0 < u.uncollected →
         IsSpent b t u.session u.group (due u.rated u.covered) before
 
@@ -80,13 +132,11 @@ IsLastReport b [] t u before = ⊥
 IsLastReport b (r ∷ older) t u before = IsReport b r t u before
 
 -- a debit: the eligible buckets had the price of the blocks that it started and no allowance
--- covered
+-- covered, and all of it is collected
 pub record IsEvent (b : Shelf) (t : Moment) (u : UseOf) (before : Ledger) : Type 0 where
-  pub blocks_are : u.blocks ≡ (rest_price b t u.group u.units before).blocks
-  pub covered_is : u.covered ≡ (rest_price b t u.group u.units before).covered.0
-  pub rated_is : u.rated ≡ (rest_price b t u.group u.units before).amount.0
+  pub is : u ≡ use_of u.session u.group u.units (rest_price b t u.group u.units before).blocks
+      (due_of (rest_price b t u.group u.units before)) 0
   pub funded : is_covered b t u.group u.units before ≡ true
-  pub whole : u.uncollected ≡ 0
 
 -- ---- each use
 
@@ -121,3 +171,32 @@ ArePaid b reports (d ∷ older) =
     reports_without None older reports = reports
     reports_without (Some u) older reports =
         if is_touched u.session (before_charges older) then without_last reports else reports
+
+-- ---- the quota guarantee
+
+-- what a session was granted of a group, and from which place of the group's counter on
+pub record OpenGrant : Type 0 where
+  pub units : UnitCount
+  pub counter : Place
+
+-- the grant of a session's group that no later fact ended
+abbrev pub grant_open : SessionName → GroupId → Ledger → Option OpenGrant
+grant_open s g ledger = inner (newest (tells quota_by s g) ledger)
+  where
+    quota_by : GrantOf → OpenGrant
+    quota_by x = record { units = x.units; counter = x.counter }
+
+-- a use that ends a grant, has at most its units and starts at its counter is collected whole: what
+-- the grant held of allowances and of money pays for it
+abbrev pub IsWithinGrant : Shelf → Moment → UseOf → Ledger → Type 0
+IsWithinGrant b t u before =
+    (x : OpenGrant) → grant_open u.session u.group before ≡ Some x → u.units ≤ x.units →
+    counter (cycle_at b u.group) u.group (cycle_at b u.group t) before ≡ x.counter →
+    u.uncollected ≡ 0
+
+-- so each use of a ledger, whatever came between
+abbrev pub AreQuotasPaid : Shelf → Ledger → Type 0
+AreQuotasPaid b [] = Unit {0}
+AreQuotasPaid b (d ∷ older) =
+    IfSome (counts d.fact).usage (λ u. IsWithinGrant b d.at u (before_charges older))
+    × AreQuotasPaid b older

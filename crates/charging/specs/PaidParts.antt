@@ -6,11 +6,17 @@ use Rattle.buckets.specs.Words.{BucketAmount, BucketNumber}
 use Rattle.buckets.specs.declared.kind.BucketKind.{BucketKind}
 use Rattle.buckets.specs.Kinds.{is_alike}
 use Rattle.buckets.specs.Row.{BucketRow}
-use Rattle.ledger.specs.Ledger.{Fact, Ledger, UseOf, counts}
-use Rattle.ledger.specs.Ledger.{number_of}
+use Rattle.ledger.specs.Ledger.{Fact, Ledger, UseOf, counts, number_of, GrantOf, tells, Dated}
+use Rattle.ledger.specs.Ledger.{counter}
 use Rattle.ledger.specs.Balance.{credits}
-use Rattle.charging.specs.SessionReports.{Report}
-use Rattle.charging.specs.Paid.{before_charges, is_touched}
+use Rattle.charging.specs.Paid.{Report, before_charges, is_touched, OpenGrant, with_services}
+use Rattle.buckets.specs.declared.kind.BucketKind.TheVariants as kind
+use Rattle.commands.specs.declared.request.Ask.{Ask}
+use Rattle.commands.specs.declared.request.Ask.TheVariants as ask
+use Rattle.identifiers.specs.Words.{SessionName}
+use Rattle.shelves.specs.Shelves.{Shelf}
+use Rattle.units.specs.Words.{Moment, GroupId}
+use Rattle.units.specs.declared.blocks.UsedPart.{UsedPart}
 
 -- what buckets count, by their numbers
 abbrev pub kind_in : BucketNumber → List BucketRow → Option BucketKind
@@ -36,3 +42,26 @@ abbrev pub reports_without : Option UseOf → Ledger → List Report → List Re
 reports_without None older reports = reports
 reports_without (Some u) older reports =
     if is_touched u.session (before_charges older) then without_last reports else reports
+
+-- a group that is named without a part is not reported
+abbrev pub with_report : Moment → SessionName → GroupId → List UsedPart → List Report → List Report
+with_report t s g parts reports = by_parts parts
+  where
+    by_parts : List UsedPart → List Report
+    by_parts [] = reports
+    by_parts (p ∷ ps) = record { at = t; session = s; group = g; parts = p ∷ ps } ∷ reports
+
+-- updates and terminations report
+abbrev pub with_ask : Shelf → Moment → SessionName → Ask → List Report → List Report
+with_ask b t s x reports = by_ask x
+  where
+    by_ask : Ask → List Report
+    by_ask (ask.Update services) = with_services b t s services reports
+    by_ask (ask.Termination services) = with_services b t s services reports
+    by_ask _ = reports
+
+abbrev pub quota_by : GrantOf → OpenGrant
+quota_by x = record { units = x.units; counter = x.counter }
+
+abbrev pub grant_told : SessionName → GroupId → Dated → Option (Option OpenGrant)
+grant_told s g d = tells quota_by s g d

@@ -2,28 +2,75 @@
 -- that were accepted before, all answers and all tables follow.
 -- Source: the ledger and its sums: TS 32.296; answers: RFC 8506; what is kept of them: profile.
 use Rattle.std.specs.Prelude.{◌≡◌, ◌≤◌, ◌<◌, ◌+◌, ◌⊎◌, ℕ, List, [], Option, Some, take, length, min}
-use Rattle.std.specs.Prelude.{IfNone, IfSome}
+use Rattle.std.specs.Prelude.{IfNone, IfSome, if◌then◌else◌, option_map}
 use Rattle.identifiers.specs.Words.{AccountName}
 use Rattle.shelves.specs.Shelves.{Shelf}
 use Rattle.buckets.specs.Row.{IsBalanced}
 use Rattle.buckets.specs.Spend.{Each}
-use Rattle.ledger.specs.Pricing.{validity_of}
+use Rattle.ledger.specs.Pricing.{validity_of, cycle_at}
 use Rattle.ledger.specs.Balance.{buckets_at}
 use Rattle.keepers.specs.Faults.{max_failures}
 use Rattle.keepers.specs.Seen.{Seen}
-use Rattle.keepers.specs.Tables.{Head, Tables}
+use Rattle.keepers.specs.Tables.{Head, Tables, Rows, no_rows, charge_in, AreListed, group_row}
+use Rattle.keepers.specs.Tables.{held_of}
 use Rattle.keepers.specs.declared.fault.StoreFault.{StoreFault}
 use Rattle.keepers.specs.declared.fault.StoreFault.TheVariants.{Store}
 use Rattle.charging.specs.declared.answers.Run.{Run}
 use Rattle.charging.specs.declared.running.DatedCommand.{DatedCommand}
-use Rattle.charging.specs.Accepted.{Accepted, IsInTime}
-use Rattle.charging.specs.Served.{history}
+use Rattle.charging.specs.Accepted.{Accepted, IsInTime, last_moment, account_count, as_of}
+use Rattle.charging.specs.Served.{history, voucher}
 use Rattle.charging.specs.Runs.{answers_to, after_commands}
-use Rattle.charging.specs.SessionReports.{reports_of}
-use Rattle.charging.specs.Paid.{ArePaid}
-use Rattle.charging.specs.Quotas.{AreQuotasPaid}
-use Rattle.charging.specs.TablesAfter.{tables_after}
-use Rattle.charging.specs.Equations.{AreLists}
+use Rattle.charging.specs.Paid.{reports_of, ArePaid, AreQuotasPaid}
+use Rattle.charging.specs.Histories.{History, kept_under}
+use Rattle.ledger.specs.Charges.{charge_rows}
+use Rattle.ledger.specs.Ledger.{is_barred, next_bucket, next_charge}
+use Rattle.reserving.specs.Left.{bucket_in}
+use Rattle.reserving.specs.Sessions.{session_at, group_at, counter_at}
+use Rattle.reserving.specs.Stored.{StoredRows, IsStored}
+use Rattle.units.specs.Words.{Moment, Seconds}
+
+-- ---- tables are a function of the accepted commands
+
+-- an account's rows by its history, at a moment
+abbrev pub rows_of : Shelf → Moment → History → Rows
+rows_of shelf t h = if h.opened then record {
+  head = Some (record {
+    as_of = t;
+    barred = is_barred h.ledger;
+    next_bucket = next_bucket h.ledger;
+    next_charge = next_charge h.ledger;
+  });
+  buckets = λ n. bucket_in n (buckets_at v t h.ledger);
+  counters = λ g c. counter_at (cycle_at shelf g) h.ledger g c;
+  sessions = λ s. session_at v t h.ledger s;
+  groups = λ s g. option_map group_row (group_at v t h.ledger s g);
+  holds = λ s g n. held_of n (group_at v t h.ledger s g);
+} else no_rows
+  where
+    v : Moment → Seconds
+    v = validity_of shelf
+
+-- the tables that accepted commands leave
+abbrev pub tables_after : Shelf → List Accepted → Tables
+tables_after shelf list = record {
+  last = last_moment list;
+  rows = λ a. rows_of shelf (as_of a list) (history shelf a list);
+  answers = λ a k. kept_under k (history shelf a list);
+  charges = λ a n. charge_in n (charge_rows (history shelf a list).ledger);
+  vouchers = λ code. voucher shelf code list;
+  count = account_count list;
+}
+
+-- an account's rows are a list within its rules
+pub record IsList (r : Rows) : Type 0 where
+  pub rows : StoredRows
+  pub are : AreListed rows r
+  pub kept : IsStored rows
+
+-- so those of each account that is there
+abbrev pub AreLists : Tables → Type 0
+AreLists tables = (a : AccountName) (head : Head) → (tables.rows a).head ≡ Some head →
+    IsList (tables.rows a)
 
 -- of each list of accepted commands whose tables these are
 abbrev pub From : Shelf → Tables → (List Accepted → Type 0) → Type 0

@@ -9,12 +9,11 @@ use Rattle.commands.specs.declared.command.Command.{Command}
 use Rattle.voucher_rules.specs.Standing.{is_spent}
 use Rattle.voucher_rules.specs.Histories.{VoucherCommand, Adds, Redeems, with_commands}
 use Rattle.shelves.specs.Shelves.{Shelf}
-use Rattle.charging.specs.Accepted.{Accepted}
+use Rattle.charging.specs.Accepted.{Accepted, CodeUse, about, adds_code, redeems_code, no_code}
 use Rattle.charging.specs.declared.running.DatedCommand.{DatedCommand}
 use Rattle.charging.specs.Outcomes.{book_days}
 use Rattle.charging.specs.Served.{voucher}
 use Rattle.charging.specs.Runs.{after_commands}
-use Rattle.charging.specs.About.{CodeUse, about, adds_code, redeems_code, no_code}
 
 abbrev pub voucher_asked : CodeUse → Moment → List VoucherCommand
 voucher_asked (adds_code code terms) t = Adds code terms ∷ []

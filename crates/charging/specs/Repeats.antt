@@ -7,11 +7,10 @@ use Rattle.commands.specs.declared.command.Command.{Command}
 use Rattle.shelves.specs.Shelves.{Shelf}
 use Rattle.commands.specs.declared.answer.Answer.{Answer}
 use Rattle.keepers.specs.Tables.{Tables}
-use Rattle.charging.specs.Accepted.{Accepted, IsInTime}
+use Rattle.charging.specs.Accepted.{Accepted, IsInTime, about}
 use Rattle.charging.specs.declared.running.DatedCommand.{DatedCommand}
 use Rattle.charging.specs.Served.{AreTables, answer_to, accepts}
 use Rattle.charging.specs.Runs.{after_commands}
-use Rattle.charging.specs.About.{about}
 
 -- commands that can be repeated: requests that aren't reads, credits, allowances and redemptions by
 -- their keys, and additions of vouchers by their codes

@@ -1,7 +1,7 @@
 -- What a command is answered after a list of accepted commands, and the list after it.
 -- Source: profile.
-use Rattle.std.specs.Prelude.{◌≡◌, Bool, true, false, List, ◌∷◌, Option, Result, if◌then◌else◌}
-use Rattle.std.specs.Prelude.{max, MatchResult}
+use Rattle.std.specs.Prelude.{◌≡◌, Bool, true, false, List, ◌∷◌, Option, Result, if◌then◌else◌, max}
+use Rattle.std.specs.Prelude.{MatchResult}
 use Rattle.units.specs.Words.{Moment}
 use Rattle.identifiers.specs.Words.{AccountName, VoucherCode}
 use Rattle.commands.specs.declared.answer.Answer.{Answer}
@@ -16,6 +16,7 @@ use Rattle.charging.specs.Accepted.{Accepted, Concerned, one, each, none, concer
 use Rattle.charging.specs.Accepted.{account_count, IsInTime}
 use Rattle.charging.specs.Accepted as accepted
 use Rattle.charging.specs.Outcomes.{book_days, outcome}
+use Rattle.commands.specs.declared.command.Command.TheVariants as command
 
 -- the history of an account after a list of accepted commands
 abbrev pub history : Shelf → AccountName → List Accepted → History
@@ -37,23 +38,23 @@ AreTables b list tables = accepted.AreTablesOf (book_days b) (outcome b) b list 
 abbrev pub moment_of : List Accepted → Moment → Moment
 moment_of list t = max t (last_moment list)
 
-abbrev pub answer_on : Concerned → Shelf → List Accepted → Command → Moment → Answer
-answer_on each b list c t = Swept (account_count list)
-answer_on none b list c t = (outcome b (standing b c list) no_history c t).answer
-answer_on (one a) b list c t = (outcome b (standing b c list) (history b a list) c t).answer
-
 -- a command's answer at its moment: by what is under the code that it names, and the history of
 -- the account that it names, where it names one; a sweep's is the number of accounts
 abbrev pub answer_to : Shelf → List Accepted → Command → Moment → Answer
-answer_to b list c t = answer_on (concerned_by c) b list c t
-
-abbrev pub accepts_on : Concerned → Shelf → List Accepted → Command → Moment → Bool
-accepts_on each b list c t = true
-accepts_on none b list c t = (outcome b (standing b c list) no_history c t).accepted
-accepts_on (one a) b list c t = (outcome b (standing b c list) (history b a list) c t).accepted
+answer_to b list c t = answer_on (concerned_by c)
+  where
+    answer_on : Concerned → Answer
+    answer_on each = Swept (account_count list)
+    answer_on none = (outcome b (standing b c list) no_history c t).answer
+    answer_on (one a) = (outcome b (standing b c list) (history b a list) c t).answer
 
 abbrev pub accepts : Shelf → List Accepted → Command → Moment → Bool
-accepts b list c t = accepts_on (concerned_by c) b list c t
+accepts b list c t = accepts_on (concerned_by c)
+  where
+    accepts_on : Concerned → Bool
+    accepts_on each = true
+    accepts_on none = (outcome b (standing b c list) no_history c t).accepted
+    accepts_on (one a) = (outcome b (standing b c list) (history b a list) c t).accepted
 
 -- the list with the command where it is accepted
 abbrev pub with_command : Shelf → List Accepted → Command → Moment → List Accepted

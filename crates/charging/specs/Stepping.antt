@@ -28,8 +28,7 @@ use Rattle.reserving.specs.Rows.{AccountRows, IsAccount}
 use Rattle.reserving.specs.Left.{LeftRows, IsWith}
 use Rattle.reserving.specs.Stored.{stored}
 use Rattle.decisions.specs.Asked.{begins_session}
-use Rattle.decisions.specs.Decided.{may_be_accepted}
-use Rattle.decisions.specs.Decisions.{is_read}
+use Rattle.decisions.specs.Decisions.{may_be_accepted, is_read}
 use Rattle.keepers.specs.declared.fault.StoreFault.{StoreFault}
 use Rattle.keepers.specs.declared.kept_answer.KeptAnswer.{KeptAnswer}
 use Rattle.keepers.specs.declared.loaded.Change.{Change}
@@ -39,8 +38,9 @@ use Rattle.keepers.specs.Tables.{Tables}
 use Rattle.keepers.specs.Change.{IsLoad, changed}
 use Rattle.keepers.specs.Differing.{named_rows, named_for}
 use Rattle.charging.specs.Accepted.{Accepted, last_moment, IsInTime}
-use Rattle.charging.specs.Outcomes.{from_of, until_of, is_full, is_out_of_range}
-use Rattle.charging.specs.Outcomes.{begin_of, end_of, allowance_refusal}
+use Rattle.charging.specs.Outcomes.{is_full}
+use Rattle.charging.specs.OutcomeParts.{from_of, until_of, is_out_of_range, begin_of, end_of}
+use Rattle.charging.specs.OutcomeParts.{allowance_refusal}
 use Rattle.charging.specs.Served.{AreTables, IsServed, with_command}
 
 -- a command is served at a moment that isn't before that of the last accepted command, or the

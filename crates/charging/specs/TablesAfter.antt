@@ -1,23 +1,21 @@
 -- The tables of accepted commands are a function of them: each row is what its account's ledger
 -- sums to.
 -- Source: profile.
-use Rattle.std.specs.Prelude.{◌≡◌, List, [], Some, option_map, take, length, if◌then◌else◌}
+use Rattle.std.specs.Prelude.{◌≡◌, List, [], Some, option_map, take, length}
 use Rattle.units.specs.Words.{Moment, Seconds}
-use Rattle.identifiers.specs.Words.{AccountName}
 use Rattle.commands.specs.declared.answer.Answer.{Answer}
 use Rattle.shelves.specs.Shelves.{Shelf}
 use Rattle.ledger.specs.Ledger.{Ledger, is_barred, next_bucket, next_charge}
 use Rattle.ledger.specs.Pricing.{cycle_at, validity_of}
 use Rattle.ledger.specs.Balance.{buckets_at}
-use Rattle.ledger.specs.Charges.{charge_rows}
 use Rattle.reserving.specs.Left.{bucket_in}
 use Rattle.reserving.specs.Sessions.{session_at, group_at, counter_at}
-use Rattle.keepers.specs.Tables.{Rows, Tables, no_rows, no_tables, group_row, held_of, charge_in}
+use Rattle.keepers.specs.Tables.{Rows, Tables, no_tables, group_row, held_of}
 use Rattle.charging.specs.declared.running.DatedCommand.{DatedCommand}
-use Rattle.charging.specs.Histories.{History, kept_under}
-use Rattle.charging.specs.Accepted.{Accepted, last_moment, as_of, account_count}
-use Rattle.charging.specs.Served.{AreTables, history, voucher}
+use Rattle.charging.specs.Accepted.{Accepted, as_of}
+use Rattle.charging.specs.Served.{AreTables}
 use Rattle.charging.specs.Runs.{Runs, answers_to, after_commands}
+use Rattle.charging.specs.Promise.{tables_after}
 
 -- the rows of an account that is there, at a moment
 abbrev pub rows_at : Shelf → Moment → Ledger → Rows
@@ -37,22 +35,6 @@ rows_at shelf t ledger = record {
   where
     v : Moment → Seconds
     v = validity_of shelf
-
--- an account's rows by its history
-abbrev pub rows_of : Shelf → Moment → History → Rows
-rows_of shelf t h = if h.opened then rows_at shelf t h.ledger else no_rows
-
-module _ (shelf : Shelf) (list : List Accepted) where
-  -- the tables that accepted commands leave
-  abbrev pub tables_after : Tables
-  tables_after = record {
-    last = last_moment list;
-    rows = λ a. rows_of shelf (as_of a list) (history shelf a list);
-    answers = λ a k. kept_under k (history shelf a list);
-    charges = λ a n. charge_in n (charge_rows (history shelf a list).ledger);
-    vouchers = λ code. voucher shelf code list;
-    count = account_count list;
-  }
 
 -- tables of accepted commands are these
 abbrev pub TablesAreAFunction : Type 0

@@ -9,9 +9,9 @@ ghost use Rattle.shelves.specs.Shelves.{Shelf, book_at};
 ghost use Rattle.buckets.specs.declared.kind.BucketKind.{BucketKind};
 ghost use Rattle.ledger.specs.Ledger.{Ledger};
 ghost use Rattle.reserving.specs.Left.{LeftRows, IsWith};
-ghost use Rattle.decisions.specs.Known.{is_known};
+ghost use Rattle.decisions.specs.Services.{is_known};
 ghost use Rattle.keepers.specs.Change.{IsLoad};
-ghost use Rattle.charging.specs.Outcomes.{is_over};
+ghost use Rattle.charging.specs.OutcomeParts.{is_over};
 ghost use Rattle.charging.specs.Parts.{Leaves, PartKeeps};
 ghost use Rattle.charging.specs.Stepping.{ServesAt, WritesAt, Allows, Makes, LeavesRefused};
 

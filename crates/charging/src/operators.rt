@@ -11,7 +11,7 @@ ghost use Rattle.buckets.specs.declared.kind.BucketKind.{BucketKind};
 ghost use Rattle.ledger.specs.Ledger.{Ledger};
 ghost use Rattle.reserving.specs.Left.{LeftRows, IsWith};
 ghost use Rattle.keepers.specs.Change.{IsLoad};
-ghost use Rattle.charging.specs.Outcomes.{is_unusable};
+ghost use Rattle.charging.specs.OutcomeParts.{is_unusable};
 ghost use Rattle.charging.specs.Parts.{Leaves, PartKeeps};
 ghost use Rattle.charging.specs.Stepping.{ServesAt, WritesAt, Credits, Makes, bar_command};
 ghost use Rattle.charging.specs.Stepping.{LeavesRefused};

@@ -4,7 +4,7 @@ ghost use Rattle.std.specs.Prelude.{◌≡◌, ◌↔◌, IfOk, IsTrue};
 ghost use Rattle.commands.specs.declared.command.Content.{Content};
 ghost use Rattle.commands.specs.declared.key.Key.TheVariants as key;
 ghost use Rattle.keepers.specs.Keeping.{KeeperReads};
-ghost use Rattle.charging.specs.Outcomes.{repeated};
+ghost use Rattle.charging.specs.OutcomeParts.{repeated};
 
 use commands::{Answer, Content, same_content};
 use identifiers::{AccountNumber, Reference};

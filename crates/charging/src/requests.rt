@@ -10,7 +10,7 @@ ghost use Rattle.shelves.specs.Shelves.{Shelf};
 ghost use Rattle.decisions.specs.Calls.{own_of};
 ghost use Rattle.keepers.specs.Change.{IsLoadedFrom};
 ghost use Rattle.keepers.specs.Tables.{Tables};
-ghost use Rattle.charging.specs.Outcomes.{failed, repeated};
+ghost use Rattle.charging.specs.OutcomeParts.{failed, repeated};
 ghost use Rattle.charging.specs.Parts.{Leaves, PartKeeps, PartReads};
 ghost use Rattle.charging.specs.Stepping.{Answers, Commits, ServesAt, WritesAt, change_for};
 ghost use Rattle.charging.specs.Stepping.{LeavesRefused, is_known, kept_of_request};

@@ -8,7 +8,8 @@ ghost use Rattle.commands.specs.Keys.{key_of};
 ghost use Rattle.shelves.specs.Shelves.{Shelf};
 ghost use Rattle.keepers.specs.Change.{IsLoad};
 ghost use Rattle.voucher_rules.specs.Redeeming.{redemption};
-ghost use Rattle.charging.specs.Outcomes.{book_days, refused_as};
+ghost use Rattle.charging.specs.Outcomes.{book_days};
+ghost use Rattle.charging.specs.OutcomeParts.{refused_as};
 ghost use Rattle.charging.specs.Parts.{Leaves, PartKeeps};
 ghost use Rattle.charging.specs.Stepping.{ServesAt, WritesAt, LeavesRefused};
 

@@ -24,8 +24,8 @@ use Rattle.reserving.specs.Rows.{AccountRows, IsRowsOf}
 use Rattle.reserving.specs.Left.{LeftRows, joined, NotLeft, IsBeside, IsWith}
 use Rattle.reserving.proofs.ChargeRows.{told_row, charge_rows-settlement, charge_rows-debit}
 use Rattle.reserving.proofs.ChargeRows.{charge_rows-recorded, charge_rows-credited}
-use Rattle.decisions.specs.Decided.{Decision, accepted, told}
-use Rattle.decisions.specs.Events.{charged_if_covered, refunded}
+use Rattle.decisions.specs.Decisions.{Decision, accepted, told}
+use Rattle.decisions.specs.Parts.{charged_if_covered, refunded}
 use Rattle.decisions.specs.Follows.{IsNew, Agrees, Follows, Reports}
 use Rattle.decisions.proofs.Rulings.{uncharged}
 

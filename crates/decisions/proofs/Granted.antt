@@ -17,10 +17,9 @@ use Rattle.ledger.specs.Reservation.{reserved, grant_for, held_due}
 use Rattle.reserving.specs.Results.{IsGrantOf}
 use Rattle.reserving.specs.Rows.{AccountRows, IsRowsOf}
 use Rattle.reserving.specs.Left.{LeftRows, joined, IsBeside, IsWith}
-use Rattle.decisions.specs.Reports.{units_of}
-use Rattle.decisions.specs.Granting.{Answered, final_unit, grant_answer, granted_with}
-use Rattle.decisions.specs.Granting.{granted_units, granted_unless_barred, granted_if, granted_by}
-use Rattle.decisions.specs.Granting.{granted}
+use Rattle.decisions.specs.Services.{units_of, Answered, granted}
+use Rattle.decisions.specs.Parts.{final_unit, grant_answer, granted_with, granted_units}
+use Rattle.decisions.specs.Parts.{granted_unless_barred, granted_if, granted_by}
 use Rattle.decisions.specs.Follows.{Grants}
 
 at_least_one : (n : ℕ) → 0 < n → nat_lt 0 n ≡ true

@@ -24,12 +24,11 @@ use Rattle.reserving.specs.Rows.{AccountRows}
 use Rattle.reserving.specs.Left.{LeftRows, NotLeft, IsWith}
 use Rattle.reserving.proofs.ChargeRows.{charge_rows-touched}
 use Rattle.reserving.proofs.ChargeRows.{charge_rows-closed, charge_rows-reserved}
-use Rattle.decisions.specs.Decided.{Decision, accepted, told}
-use Rattle.decisions.specs.Settling.{settled_services, settled_answers}
-use Rattle.decisions.specs.Granting.{Answered, grant_answer, granted_with, granted_units}
-use Rattle.decisions.specs.Granting.{granted_unless_barred, granted_if, granted_by, granted}
-use Rattle.decisions.specs.Granting.{grant_answers, after_grants, any_grants}
-use Rattle.decisions.specs.Decisions.{opened, settled_touched, updated, ended}
+use Rattle.decisions.specs.Decisions.{Decision, accepted, told, settled_touched}
+use Rattle.decisions.specs.Services.{settled_services, settled_answers, Answered, granted}
+use Rattle.decisions.specs.Services.{grant_answers, after_grants, any_grants}
+use Rattle.decisions.specs.Parts.{grant_answer, granted_with, granted_units, granted_unless_barred}
+use Rattle.decisions.specs.Parts.{granted_if, granted_by, opened, updated, ended}
 use Rattle.decisions.specs.declared.ruling.Ruling.{Ruling}
 use Rattle.decisions.specs.Follows.{Always, IsNew, Agrees, Follows, StandsAt, IsRuledBy, Settles}
 use Rattle.decisions.specs.Follows.{AreSettled, GrantsAll}

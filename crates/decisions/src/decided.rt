@@ -1,7 +1,7 @@
 //! What a request comes to.
 
 ghost use Rattle.std.specs.Prelude.{◌≡◌, true};
-ghost use Rattle.decisions.specs.Decided.{may_be_accepted};
+ghost use Rattle.decisions.specs.Decisions.{may_be_accepted};
 
 use commands::RequestAnswer;
 use identifiers::SessionId;

@@ -3,7 +3,7 @@
 ghost use Rattle.std.specs.Prelude.{◌≡◌, ◌≤◌, IfOk, OnOk, None};
 ghost use Rattle.reserving.specs.Sessions.{session_in};
 ghost use Rattle.reserving.specs.Others.{OthersStay};
-ghost use Rattle.decisions.specs.Decided.{denied};
+ghost use Rattle.decisions.specs.Decisions.{denied};
 ghost use Rattle.decisions.specs.Follows.{IsNew, IsRuledBy};
 
 use crate::request_head::Asked;

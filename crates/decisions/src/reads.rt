@@ -3,7 +3,7 @@
 ghost use Rattle.std.specs.Prelude.{◌≡◌, ◌≤◌, ◌<◌, Some};
 ghost use Rattle.ledger.specs.Ledger.{Ledger};
 ghost use Rattle.reserving.specs.Left.{LeftRows, IsWith};
-ghost use Rattle.decisions.specs.Events.{balance_of, check_decision, enquiry_decision};
+ghost use Rattle.decisions.specs.Parts.{check_decision, enquiry_decision, balance_of};
 
 use crate::looking::tariff_of;
 use crate::refusing::event_refusal;

@@ -3,7 +3,7 @@ use Rattle.std.proofs.lemmas.Result.{IfOk-weaker}
 use Rattle.commands.specs.declared.answer.Answer.{Answer}
 use Rattle.commands.specs.declared.command.Content.{Content}
 use Rattle.keepers.specs.declared.kept_answer.KeptAnswer.{KeptAnswer}
-use Rattle.charging.specs.Outcomes.{repeated}
+use Rattle.charging.specs.OutcomeParts.{repeated}
 use Rattle.charging.proofs.KeptKeys.{same-content}
 use Rattle.charging.proofs.repetition.first_or_conflict.Goals as goal
 

@@ -1,7 +1,7 @@
 use Rattle.std.proofs.Common.{◌≡◌, ◌↔◌, IsTrue}
 use Rattle.std.proofs.lemmas.Result.{IfOk-weaker}
 use Rattle.commands.specs.declared.command.Content.{Content}
-use Rattle.charging.specs.Outcomes.{repeated}
+use Rattle.charging.specs.OutcomeParts.{repeated}
 use Rattle.charging.proofs.repetition.repeated.Goals as goal
 
 pub returns : goal.returns

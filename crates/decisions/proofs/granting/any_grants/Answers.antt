@@ -1,6 +1,7 @@
 use Rattle.std.proofs.Common.{sym, ap, ◌∙◌, drop, ◌||◌, ◌+◌, arith}
 use Rattle.std.proofs.lemmas.List.{at_drop_more}
-use Rattle.decisions.specs.Granting.{any_grants, grants_new}
+use Rattle.decisions.specs.Services.{any_grants}
+use Rattle.decisions.specs.Parts.{grants_new}
 use Rattle.decisions.proofs.granting.any_grants.Goals as goal
 
 pub returns-then-grants_new : goal.returns-then-grants_new

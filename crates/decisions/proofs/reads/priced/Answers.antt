@@ -5,7 +5,8 @@ use Rattle.tariffs.specs.Tariffs.{IsTariff}
 use Rattle.shelves.specs.Shelves.{IsShelf, book_at}
 use Rattle.ledger.specs.Pricing.{tariff_of}
 use Rattle.reserving.specs.Changes.{event_price_in}
-use Rattle.decisions.specs.Events.{event_fault, event_units}
+use Rattle.decisions.specs.Decisions.{event_units}
+use Rattle.decisions.specs.Parts.{event_fault}
 use Rattle.decisions.proofs.Reading.{AreRight, units_right}
 use Rattle.decisions.proofs.Priced.{price_fits}
 use Rattle.decisions.proofs.reads.priced.Goals as goal
