@@ -1,14 +1,13 @@
 -- What a step leaves of a keeper, and what it answers.
 -- Source: profile.
-use Rattle.std.specs.Prelude.{◌≡◌, IfOk, OnErr, OnOk, Result}
+use Rattle.std.specs.Prelude.{IfOk, OnOk, Result}
 use Rattle.units.specs.Words.{Moment}
 use Rattle.commands.specs.declared.answer.Answer.{Answer}
 use Rattle.commands.specs.declared.command.Command.{Command}
 use Rattle.shelves.specs.Shelves.{Shelf}
-use Rattle.keepers.specs.Faults.{HasCause}
 use Rattle.keepers.specs.Seen.{Seen}
 use Rattle.keepers.specs.declared.fault.StoreFault.{StoreFault}
-use Rattle.charging.specs.Parts.{Leaves}
+use Rattle.charging.specs.Parts.{Leaves, PartKeeps}
 use Rattle.charging.specs.Repeats.{IsAnsweredAgain}
 use Rattle.charging.specs.Served.{Serves, Writes}
 use Rattle.charging.specs.Stepping.{LeavesRefused}
@@ -19,10 +18,7 @@ pub record StepsOver (b : Shelf) (command : Command) (moment : Moment) (old new 
     (result : Result Answer StoreFault) : Type 0 where
   pub served : new.clean → Serves b command moment old.tables new.tables result
   pub refused : new.clean → LeavesRefused old.tables new.tables result
-  pub err : new.clean → OnErr result (new.tables ≡ old.tables)
-  pub cleanness : new.clean → old.clean
-  pub honesty : new.honest → old.honest
+  pub kept : PartKeeps old new result
   pub stands : new.honest → OnOk result new.clean
   pub left : Leaves old new (λ t. old.clean × Writes b command moment old.tables t)
-  pub cause : HasCause old.failed new.failed result
   pub again : new.clean → IfOk result (IsAnsweredAgain b command old.tables new.tables)

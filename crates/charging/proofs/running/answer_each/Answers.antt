@@ -26,9 +26,9 @@ loop-dated-preserved g c =
       had = has-run_more g.K.Keeper.seen g.met.K.Keeper.honesty g.met.K.Keeper.settled
           c.args.shelf.now c.args.keeper.now c.loop-dated.keeper c.step.new.keeper
           c.loop-dated.yielded c.in-Some.dated c.loop-dated.answers.items c.loop-dated.invariant.had
-          c.in-Ok.ensures.cleanness c.in-Ok.ensures.honesty c.push_reserved.new.self.items
-          c.in-Ok.answer c.in-Ok.ensures.served c.in-Ok.ensures.stands c.in-Ok.ensures.cause.kept
-          grown;
+          c.in-Ok.ensures.kept.cleanness c.in-Ok.ensures.kept.honesty c.push_reserved.new.self.items
+          c.in-Ok.answer c.in-Ok.ensures.served c.in-Ok.ensures.stands
+          c.in-Ok.ensures.kept.cause.kept grown;
       all = append_assoc c.loop-dated.yielded (c.in-Some.dated ∷ []) c.next.new.self.rest.items
           ∙ ap (λ (ds : List DatedCommand). c.loop-dated.yielded ++ ds)
           (sym c.in-Some.ensures.steps.0) ∙ c.loop-dated.invariant.all;
@@ -68,8 +68,8 @@ returns-in-Err g c =
     run-failed g.K.Keeper.seen g.met.K.Keeper.honesty g.met.K.Keeper.settled c.args.shelf.now
     c.args.commands.items c.loop-dated.yielded c.next.new.self.rest.items c.in-Some.dated
     c.args.keeper.now c.loop-dated.keeper c.step.new.keeper c.reserve.new.self (had_then g at)
-    (all_then g at) (count_then g at) c.in-Err.ensures.err c.in-Err.ensures.cleanness
-    c.in-Err.ensures.honesty c.in-Err.ensures.left c.in-Err.fault c.in-Err.ensures.cause
+    (all_then g at) (count_then g at) c.in-Err.ensures.kept.err c.in-Err.ensures.kept.cleanness
+    c.in-Err.ensures.kept.honesty c.in-Err.ensures.left c.in-Err.fault c.in-Err.ensures.kept.cause
 
 pub returns : goal.returns
 returns g c =

@@ -16,11 +16,11 @@ returns-in-Ok-clause-goes_on g c = record {
   continued = λ clean. continued_step c.args.shelf.now c.args.command c.in-Some.moment
       (g.K.Keeper.seen c.args.keeper.now).tables (g.K.Keeper.seen c.step.new.keeper).tables
       c.step.result (c.step.ensures.served clean);
-  cleanness = c.step.ensures.cleanness;
-  honesty = c.step.ensures.honesty;
+  cleanness = c.step.ensures.kept.cleanness;
+  honesty = c.step.ensures.kept.honesty;
   left = leaves_step c.args.shelf.now c.args.command c.in-Some.moment
       (g.K.Keeper.seen c.args.keeper.now) (g.K.Keeper.seen c.step.new.keeper) c.step.ensures.left;
-  failures = c.step.ensures.cause.kept;
+  failures = c.step.ensures.kept.cause.kept;
 }
 
 pub returns-in-Err-clause-goes_on : goal.returns-in-Err-clause-goes_on
@@ -29,11 +29,11 @@ returns-in-Err-clause-goes_on g c = record {
   continued = λ clean. continued_step c.args.shelf.now c.args.command c.in-Some.moment
       (g.K.Keeper.seen c.args.keeper.now).tables (g.K.Keeper.seen c.step.new.keeper).tables
       c.step.result (c.step.ensures.served clean);
-  cleanness = c.step.ensures.cleanness;
-  honesty = c.step.ensures.honesty;
+  cleanness = c.step.ensures.kept.cleanness;
+  honesty = c.step.ensures.kept.honesty;
   left = leaves_step c.args.shelf.now c.args.command c.in-Some.moment
       (g.K.Keeper.seen c.args.keeper.now) (g.K.Keeper.seen c.step.new.keeper) c.step.ensures.left;
-  failures = c.step.ensures.cause.kept;
+  failures = c.step.ensures.kept.cause.kept;
 }
 
 pub returns-in_default-clause-shown : goal.returns-in_default-clause-shown
@@ -57,7 +57,7 @@ returns-in-Ok-clause-shown g c = shows_new
     (g.W.Write.contents c.tell_answer.new.writer) (g.K.Keeper.seen c.args.keeper.now)
     (g.K.Keeper.seen c.step.new.keeper) c.tell_answer.result
     (λ Writes. Writes (response ok c.args.following.closes (answer_text c.in-Ok.answer)))
-    c.in-Ok.ensures.stands c.in-Ok.ensures.cleanness
+    c.in-Ok.ensures.stands c.in-Ok.ensures.kept.cleanness
     (λ Writes clean tells. served_reply g.C.Clock.gives c.args.shelf.now c.args.following.closes
     Writes
     c.args.command c.in-Some.moment c.args.clock.now c.now.new.self
@@ -73,7 +73,7 @@ returns-in-Err-clause-shown g c = shows_same
     (g.W.Write.contents c.tell_unable-in-Err.new.writer) (g.K.Keeper.seen c.args.keeper.now)
     (g.K.Keeper.seen c.step.new.keeper) c.tell_unable-in-Err.result
     (λ Writes. Writes (response service_unavailable c.args.following.closes unable))
-    c.in-Err.ensures.cleanness c.in-Err.ensures.err
+    c.in-Err.ensures.kept.cleanness c.in-Err.ensures.kept.err
     (λ Writes t w. failed_reply g.C.Clock.gives c.args.shelf.now c.args.following.closes Writes
     c.args.command c.in-Some.moment c.args.clock.now c.now.new.self t t c.in-Err.field-0
     (subst (λ o. g.C.Clock.gives c.args.clock.now o c.now.new.self) c.in-Some.is c.now.ensures)

@@ -38,8 +38,8 @@ returns g c = record {
       (g.K.Keeper.seen c.step.new.keeper) c.step.ensures.left c.into_command-command.ensures;
   stops = record {
     unwritten = search rules;
-    cleanness = c.step.ensures.cleanness;
-    failures = c.step.ensures.cause.kept;
+    cleanness = c.step.ensures.kept.cleanness;
+    failures = c.step.ensures.kept.cause.kept;
     cause = search rules;
   };
 }
