@@ -15,37 +15,34 @@ use Rattle.reserving.specs.Calm.{is_quiet_at}
 use Rattle.reserving.specs.Others.{other_rows}
 use Rattle.decisions.specs.declared.decided.Decided.{Decided}
 use Rattle.decisions.specs.Asked.{IsAsked}
-use Rattle.decisions.specs.Decisions.{decision, answer_of, is_read}
+use Rattle.decisions.specs.Decisions.{Decision, decision, answer_of, is_read}
 
 -- the session whose rows alone may change: the request's, where nothing ends at the moment
 abbrev pub own_of : Request → Moment → AccountRows → Option SessionName
 own_of r t a = if is_quiet_at t a then Some r.session else None
 
--- a request is decided: its answer, whether it is accepted, and its charges are the decision's, and
--- the account has the rows of the ledger after it; what isn't accepted changes nothing; where its
--- session is named, no row of another session has changed
+-- the answer, whether the request is accepted, and its charges are the decision's, and the account
+-- has the rows of the ledger after it
+pub record IsDecided (request : Request) (ruling : Decision) (ledger : Ledger) (left : LeftRows)
+    (t : Moment) (after : AccountRows) (d : Decided) : Type 0 where
+  pub answer : d.answer ≡ answer_of request ruling.outcome
+  pub accepted : d.accepted ≡ ruling.accepted
+  pub rows : IsWith ruling.after left t after
+  pub charges : charge_rows ruling.after ≡ charge_rows ledger ++ d.charges.items
+
+-- a request is decided; what isn't accepted changes nothing; where its session is named, no row of
+-- another session has changed
 pub record Decides {E : Type 0} (request : Request) (known : Bool) (t : Moment)
     (before after : AccountRows) (result : Result Decided E) : Type 0 where
-  pub answer : IfOk result (λ d. (ledger : Ledger) (left : LeftRows) →
+  pub decided : IfOk result (λ d. (ledger : Ledger) (left : LeftRows) →
       IsWith ledger left t before → IsAsked ledger left request known →
-      d.answer ≡ answer_of request (decision before.shelf t request ledger).outcome)
-  pub accepted : IfOk result (λ d. (ledger : Ledger) (left : LeftRows) →
-      IsWith ledger left t before → IsAsked ledger left request known →
-      d.accepted ≡ (decision before.shelf t request ledger).accepted)
-  pub rows : IfOk result (λ d. (ledger : Ledger) (left : LeftRows) →
-      IsWith ledger left t before → IsAsked ledger left request known →
-      IsWith (decision before.shelf t request ledger).after left t after)
-  pub charges : IfOk result (λ d. (ledger : Ledger) (left : LeftRows) →
-      IsWith ledger left t before → IsAsked ledger left request known →
-      charge_rows (decision before.shelf t request ledger).after
-      ≡ charge_rows ledger ++ d.charges.items)
+      IsDecided request (decision before.shelf t request ledger) ledger left t after d)
   pub moment : IfOk result (λ d. after.as_of ≡ (if d.accepted then t else before.as_of))
   pub tariff : after.shelf ≡ before.shelf
-  pub same : IfOk result (λ d. d.accepted ≡ false → after ≡ before)
-  pub unwritten : IfOk result (λ d. d.accepted ≡ false → d.charges.items ≡ [])
-  pub own : IfOk result (λ d. d.own ≡ own_of request t before)
-  pub others : IfOk result (λ d. IfSome d.own (λ s. (s ≡ request.session) ×
-      (other_rows s after ≡ other_rows s before)))
+  pub refused : IfOk result (λ d. d.accepted ≡ false →
+      (after ≡ before) × (d.charges.items ≡ []))
+  pub own : IfOk result (λ d. (d.own ≡ own_of request t before) ×
+      IfSome d.own (λ s. (s ≡ request.session) × (other_rows s after ≡ other_rows s before)))
 
 -- a check of the balance or a price enquiry is answered as it would be decided; nothing else is
 pub record ReadsAlone {E : Type 0} (request : Request) (t : Moment) (a : AccountRows)

@@ -46,10 +46,10 @@ named : (g : _) (c : After-keep g) → (change g c).rows
 named g c =
     ap (λ (w : StoredRows). named_for c.in-Ok.decided.own w (stored c.decide.new.account))
     (c.in_ok-before.ensures ∙ ap (λ own. earlier_of own (stored c.args.account))
-    (c.own_of.ensures ∙ sym c.in-Ok.ensures.own))
+    (c.own_of.ensures ∙ sym c.in-Ok.ensures.own.0))
     ∙ named_earlier c.in-Ok.decided.own (stored c.args.account) (stored c.decide.new.account)
     ∙ named_so c.in-Ok.decided.own c.args.request.session (found g c) c.decide.new.account refl
-    c.in-Ok.ensures.others
+    c.in-Ok.ensures.own.1
 
 -- what its commit makes is what the request comes to
 done : (g : _) (c : After-keep g) (t : Tables) →
@@ -66,13 +66,17 @@ done g c t made = λ b loads fresh new list time is le.
     (found g c) time le is
     (record { load = (refl, loads, refl); account = c.moment_on-moment.ensures.kept })
     fresh new c.moment_on-moment.result c.moment_on-moment.ensures.value
-    c.in-Ok.decided.answer c.in-Ok.decided.accepted c.in-Ok.ensures.answer c.in-Ok.ensures.accepted
+    c.in-Ok.decided.answer c.in-Ok.decided.accepted
+    (λ ledger left rows asked. (c.in-Ok.ensures.decided ledger left rows asked).answer)
+    (λ ledger left rows asked. (c.in-Ok.ensures.decided ledger left rows asked).accepted)
     c.decide.new.account (change g c) (answer.Request c.in-Ok.decided.answer) c.if-decide.true
     c.decide.ensures.tariff
     (c.in-Ok.ensures.moment ∙ ap
     (λ v. if v then c.moment_on-moment.result else c.args.account.as_of)
     c.if-decide.true)
-    c.in-Ok.ensures.rows c.in-Ok.ensures.charges number refl (named g c) refl refl refl made
+    (λ ledger left rows asked. (c.in-Ok.ensures.decided ledger left rows asked).rows)
+    (λ ledger left rows asked. (c.in-Ok.ensures.decided ledger left rows asked).charges)
+    number refl (named g c) refl refl refl made
 
 pub returns-in-Ok-clause-served : goal.returns-in-Ok-clause-served
 returns-in-Ok-clause-served g c = λ clean b loads fresh new list time is le.
@@ -103,7 +107,9 @@ returns-in_ok-new-in-Ok-2-clause-served g c = λ clean b loads fresh new list ti
     }) time le is
     (record { load = (refl, loads, refl); account = c.moment_on-moment.ensures.kept })
     fresh new c.moment_on-moment.result c.moment_on-moment.ensures.value
-    c.in-Ok.decided.answer c.in-Ok.decided.accepted c.in-Ok.ensures.answer c.in-Ok.ensures.accepted
+    c.in-Ok.decided.answer c.in-Ok.decided.accepted
+    (λ ledger left rows asked. (c.in-Ok.ensures.decided ledger left rows asked).answer)
+    (λ ledger left rows asked. (c.in-Ok.ensures.decided ledger left rows asked).accepted)
     c.if-decide.false refl)
 
 pub returns-in-Ok-clause-refused : goal.returns-in-Ok-clause-refused

@@ -7,28 +7,28 @@ use Rattle.decisions.proofs.deciding.decide.Goals as goal
 
 pub returns : goal.returns
 returns c = record {
-  answer =
-      λ ledger left rows asked. c.answer_to.ensures
-      ∙ ap (answer_of c.args.request.now)
-      (c.in_ok-ruling.ensures.ruled.follows ledger left asked rows).same;
-  accepted =
-      λ ledger left rows asked.
-      (c.in_ok-ruling.ensures.ruled.follows ledger left asked rows).acceptance;
-  rows =
-      λ ledger left rows asked.
-      (c.in_ok-ruling.ensures.ruled.follows ledger left asked rows).rows;
-  charges =
-      λ ledger left rows asked.
-      (c.in_ok-ruling.ensures.ruled.follows ledger left asked rows).written;
+  decided =
+      λ ledger left rows asked. record {
+        answer = c.answer_to.ensures
+            ∙ ap (answer_of c.args.request.now)
+            (c.in_ok-ruling.ensures.ruled.follows ledger left asked rows).same;
+        accepted = (c.in_ok-ruling.ensures.ruled.follows ledger left asked rows).acceptance;
+        rows = (c.in_ok-ruling.ensures.ruled.follows ledger left asked rows).rows;
+        charges = (c.in_ok-ruling.ensures.ruled.follows ledger left asked rows).written;
+      };
   moment = c.in_ok-ruling.ensures.ruled.stands.moment;
   tariff = c.in_ok-ruling.ensures.tariff;
-  same = c.in_ok-ruling.ensures.ruled.stands.same;
-  unwritten = c.in_ok-ruling.ensures.ruled.stands.unwritten;
-  own = c.in_ok-own.ensures
-      ∙ ap (λ q. if q then Some c.args.request.now.session else None) c.is_quiet.ensures;
-  others =
-      stay_alone c.in_ok-own.own c.args.request.now.session c.args.moment c.args.account.now
-      c.decide_ask.new.account c.is_quiet.result c.in_ok-own.ensures
-      (λ e. calm_told c.args.account.now c.args.moment (sym c.is_quiet.ensures ∙ e))
-      c.in_ok-ruling.ensures.stay;
+  refused =
+      λ e. (
+        c.in_ok-ruling.ensures.ruled.stands.same e,
+        c.in_ok-ruling.ensures.ruled.stands.unwritten e,
+      );
+  own = (
+    c.in_ok-own.ensures
+        ∙ ap (λ q. if q then Some c.args.request.now.session else None) c.is_quiet.ensures,
+    stay_alone c.in_ok-own.own c.args.request.now.session c.args.moment c.args.account.now
+        c.decide_ask.new.account c.is_quiet.result c.in_ok-own.ensures
+        (λ e. calm_told c.args.account.now c.args.moment (sym c.is_quiet.ensures ∙ e))
+        c.in_ok-ruling.ensures.stay,
+  );
 }
