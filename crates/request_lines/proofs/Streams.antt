@@ -1,8 +1,8 @@
 -- The lines of a stream, one after another, and what they hand in.
 use Rattle.std.proofs.Common.{◌≡◌, ℕ, Bool, true, false, List, [], ◌∷◌, ◌++◌, map, refl}
 use Rattle.std.proofs.Common.{sym, ap, subst, ◌∙◌, Option, Some, None, append_assoc, IfSome, Result}
-use Rattle.std.proofs.Common.{Ok, Err}
-use Rattle.std.proofs.lemmas.List.{map-append}
+use Rattle.std.proofs.Common.{Ok, Err, ◌+◌, ◌<◌, length, arith}
+use Rattle.std.proofs.lemmas.List.{map-append, length-append, length-map}
 use Rattle.std.specs.Prelude.{if◌then◌else◌, ◌==◌, Vec, OnOk}
 use Rattle.std.specs.Global.{Global}
 use Rattle.texts.specs.Lines.{line_of, after_line, IsLineOf, prepend, lines_of}
@@ -11,6 +11,7 @@ use Rattle.json_fields.specs.declared.fault.WireFault.TheVariants.{Memory}
 use Rattle.json_fields.specs.Gives.{Fails}
 use Rattle.charging.specs.declared.running.DatedCommand.{DatedCommand}
 use Rattle.request_lines.specs.declared.input.Input.{Input}
+use Rattle.request_lines.specs.declared.input.Line.{Line}
 use Rattle.request_lines.specs.Lines.{line_request}
 use Rattle.request_lines.specs.Served.{requests_of, fault_of}
 use Rattle.request_lines.specs.Input.{told_fault, IsInput}
@@ -77,6 +78,25 @@ fault_added (Err x) line e old new fails own requests lines = tt
 fault_added (Ok x) line e old new fails own requests lines = λ read h.
     subst (λ (l : Result DatedCommand WireFault). IsInput (read ++ l ∷ []) new)
     (sym (fails_with e line fails own)) (input_fault read e old new h requests lines)
+
+-- one line more is told
+pub line_counted : {A E : Type 0} (result : Result A E) (told : Option WireFault)
+    (old new : List Line) → OnOk result (map told_fault new ≡ map told_fault old ++ told ∷ []) →
+    OnOk result (length new ≡ length old + 1)
+line_counted (Err x) told old new lines = tt
+line_counted (Ok x) told old new lines = omega (
+  arith,
+  ap length lines,
+  length-map new told_fault,
+  length-map old told_fault,
+  length-append (map told_fault old) (told ∷ []),
+)
+
+-- a vector of lines has fewer than all that are counted
+pub few_lines : (input : Input) → length input.lines.items < 18446744073709551615
+few_lines input =
+    let small : input.lines.cap < 9223372036854775808 = input.lines.small in
+    omega (arith, input.lines.ok.0, input.lines.ok.1, small)
 
 -- ---- line after line
 

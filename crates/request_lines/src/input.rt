@@ -1,7 +1,7 @@
 //! The lines of a stream as they are read: what each is answered, and the requests among them.
 
 ghost use Rattle.std.specs.Prelude.{◌≡◌, ◌≢◌, ◌++◌, ◌∷◌, [], map, List, Result, Some, None, OnOk};
-ghost use Rattle.std.specs.Prelude.{OnErr, IfOk, IfSome};
+ghost use Rattle.std.specs.Prelude.{◌+◌, length, OnErr, IfOk, IfSome};
 ghost use Rattle.texts.specs.Lines.{lines_of};
 ghost use Rattle.charging.specs.declared.running.DatedCommand.{DatedCommand};
 ghost use Rattle.json_fields.specs.declared.fault.WireFault.{WireFault};
@@ -74,7 +74,8 @@ pub(crate) fn read_input<R: Read>(alloc: Global, reader: &mut R) -> Result<Input
         };
         input.add_line(alloc, &line, &mut scratch)?;
     }
-    Err(StreamFault::Memory)
+    // So many lines fit into no vector.
+    unreachable!()
 }
 
 impl Input {
@@ -84,9 +85,11 @@ impl Input {
         line: &[u8],
         scratch: &mut Scratch,
     ) -> Result<(), AllocError>
-        ensures { OnOk result
+        ensures added { OnOk result
             ((read : List (Result DatedCommand WireFault)) → IsInput read self.old →
             IsInput (read ++ line_request line.now ∷ []) self.new) }
+        ensures count { OnOk result
+            (length self.new.lines.items ≡ length self.old.lines.items + 1) }
     {
         match read_line(alloc, line, scratch) {
             Ok(request) => self.add_request(request),

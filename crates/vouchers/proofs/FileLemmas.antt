@@ -2,7 +2,9 @@
 use Rattle.std.proofs.Common.{◌≡◌, ◌≢◌, ◌+◌, ◌≤◌, ℕ, List, [], ◌∷◌, ◌++◌, length, Bool, true, false}
 use Rattle.std.proofs.Common.{Option, Some, None, IfSome, IfErr, Result, Ok, Err, IsTrue, refl, sym}
 use Rattle.std.proofs.Common.{ap, subst, ◌∙◌, arith, append_assoc, option_map, length-append, ◌&&◌}
-use Rattle.std.proofs.Common.{if◌then◌else◌}
+use Rattle.std.proofs.Common.{if◌then◌else◌, ◌<◌}
+use Rattle.std.specs.Prelude.{Vec}
+use Rattle.std.specs.Global.{Global}
 use Rattle.std.proofs.lemmas.List.{append-nil}
 use Rattle.std.proofs.lemmas.Bool.{and_parts}
 use Rattle.csv.specs.Reading.{Reached, ReadRecord, default_config, strip_bom, source_of}
@@ -261,3 +263,11 @@ stops_first (Some text) = record {
   within = omega arith;
   no_earlier = from_first (records_in text);
 }
+
+-- ---- how many rows there are
+
+-- a vector has fewer than all that are counted
+pub few_rows : {A : Type 0} (rows : Vec A Global) → length rows.items < 18446744073709551615
+few_rows rows =
+    let small : rows.cap < 9223372036854775808 = rows.small in
+    omega (arith, rows.ok.0, rows.ok.1, small)

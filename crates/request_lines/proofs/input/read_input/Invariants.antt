@@ -1,7 +1,10 @@
-use Rattle.std.proofs.Common.{IfSome}
+use Rattle.std.proofs.Common.{◌≡◌, length, IfSome}
 use Rattle.request_lines.proofs.Streams.{IsReadSoFar}
 use Rattle.request_lines.proofs.input.read_input.Given as goal
 
 abbrev pub invariant-loop-line : goal.invariant-loop-line
-invariant-loop-line g l = IfSome (g.R.Read.remaining l.fn.reader)
-    (λ stream. IsReadSoFar stream (g.R.Read.remaining l.reader) l.input)
+invariant-loop-line g l = record {
+  count : length l.input.lines.items ≡ l._line;
+  read : IfSome (g.R.Read.remaining l.fn.reader)
+      (λ stream. IsReadSoFar stream (g.R.Read.remaining l.reader) l.input);
+}

@@ -1,11 +1,12 @@
-use Rattle.std.proofs.Common.{◌≡◌, ◌∙◌, ◌∷◌, [], arith, true}
+use Rattle.std.proofs.Common.{◌≡◌, ◌∙◌, ◌∷◌, [], arith, refl, true}
 use Rattle.std.specs.Result.{is_ok}
 use Rattle.std.proofs.lemmas.Result.{err_from_is_err_and}
+use Rattle.std.proofs.lemmas.List.{length-append}
 use Rattle.std.proofs.lemmas.List.Elements.{All-nil, All-cons, All-append}
 use Rattle.csv.specs.Records.{fields_of}
 use Rattle.vouchers.specs.Rows.{IsVoucher}
 use Rattle.vouchers.proofs.FileLemmas.{starts, first_keeps, no_header, goes_on, fails, ends, stops}
-use Rattle.vouchers.proofs.FileLemmas.{stops_first}
+use Rattle.vouchers.proofs.FileLemmas.{stops_first, few_rows}
 use Rattle.vouchers.proofs.reading.read_vouchers.Goals as goal
 
 pub returns-in_err-has_header-clause-stopped : goal.returns-in_err-has_header-clause-stopped
@@ -39,6 +40,7 @@ loop-number-init g c =
       All-nil IsVoucher,
       starts g.R.Read.remaining (g.R.Read.remaining c.args.reader) c.from_reader-records.result
           c.has_header.new.records config fr.source fr.state reads,
+      refl,
     )
 
 pub returns-in_err-next_record-clause-stopped : goal.returns-in_err-next_record-clause-stopped
@@ -99,11 +101,13 @@ loop-number-preserved g c =
           (g.R.Read.remaining c.args.reader) c.loop-number.records c.next_record.new.records
           (fields_of c.next_record.new.fields) c.loop-number.rows.items c.in_ok-row.row
           c.loop-number.number inv.2 inv.4 read c.in_ok-row.ensures.value,
+      omega (arith, inv.5, length-append c.loop-number.rows.items (c.in_ok-row.row ∷ [])),
     )
 
-pub returns-clause-stopped : goal.returns-clause-stopped
-returns-clause-stopped g c = λ other.
-    let end : c.loop-number.number ≡ 18446744073709551615 =
-    omega (arith, c.loop-number-test.false, c.loop-number.auto.number-end (omega arith)) in
-    rw end at (stops g.R.Read.remaining (g.R.Read.remaining c.args.reader) c.loop-number.records
-    c.loop-number.rows.items c.loop-number.number c.loop-number.invariant.4)
+pub unreachable-requires : goal.unreachable-requires
+unreachable-requires g c = omega (
+  arith,
+  few_rows c.loop-number.rows,
+  c.loop-number.invariant.5,
+  c.loop-number-test.false,
+)
