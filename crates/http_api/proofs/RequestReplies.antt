@@ -13,7 +13,6 @@ use Rattle.wire.specs.Spelled.{answer_text, fault_text}
 use Rattle.shelves.specs.Shelves.{Shelf}
 use Rattle.keepers.specs.declared.fault.StoreFault.{StoreFault}
 use Rattle.keepers.specs.Tables.{Tables}
-pub use Rattle.keepers.proofs.Placed.{on_err as at_err}
 use Rattle.charging.specs.Accepted.{Accepted}
 use Rattle.charging.specs.Continued.{ForEachList}
 use Rattle.charging.specs.Served.{AreTables, Serves}
@@ -30,34 +29,11 @@ use Rattle.http_api.specs.Replies.{refusal, unserved, reply_at, IsDue, MayAsk, I
 use Rattle.http_api.specs.declared.fault.ServeFault.{ServeFault}
 use Rattle.http_api.specs.declared.fault.ServeFault.TheVariants as serve
 
--- which fault was answered
-abbrev error_of : {A : Type 0} → Result A ServeFault → ServeFault
-error_of (Ok x) = serve.Memory
-error_of (Err e) = e
-
-same_fault : (a b : StreamFault) → serve_fault a ≡ serve_fault b → a ≡ b
-same_fault stream.Memory stream.Memory e = refl
-same_fault stream.Memory stream.Read e = absurd (cc)
-same_fault stream.Memory stream.Write e = absurd (cc)
-same_fault stream.Read stream.Memory e = absurd (cc)
-same_fault stream.Read stream.Read e = refl
-same_fault stream.Read stream.Write e = absurd (cc)
-same_fault stream.Write stream.Memory e = absurd (cc)
-same_fault stream.Write stream.Read e = absurd (cc)
-same_fault stream.Write stream.Write e = refl
-
-pub fault_told : {A B : Type 0} (r : Result A StreamFault) (q : Result B ServeFault)
-    (fault told_as : StreamFault) → r ≡ Err fault → IsErrAnd q (λ e. e ≡ serve_fault fault) →
-    q ≡ Err (serve_fault told_as) → r ≡ Err told_as
-fault_told r (Ok x) fault told_as was gives e = absurd gives
-fault_told r (Err told_fault) fault told_as was gives e =
-    was ∙ ap (λ f. Err f) (same_fault fault told_as (sym gives ∙ ap error_of e))
-
--- memory was refused
-pub is_memory : {B : Type 0} (q : Result B ServeFault) → IsErrAnd q (λ e. e ≡ serve.Memory) →
-    q ≡ Err serve.Memory
-is_memory (Ok x) gives = absurd gives
-is_memory (Err e) gives = ap (λ f. Err f) gives
+-- a fault is known
+pub fault_is : {B : Type 0} (q : Result B ServeFault) (why : ServeFault) →
+    IsErrAnd q (λ e. e ≡ why) → q ≡ Err why
+fault_is (Ok x) why gives = absurd gives
+fault_is (Err e) why gives = ap (λ f. Err f) gives
 
 abbrev fault_of : {A : Type 0} → Result A StreamFault → StreamFault
 fault_of (Ok x) = stream.Memory
@@ -67,7 +43,7 @@ pub memory_told : {A B : Type 0} (r : Result A StreamFault) (q : Result B ServeF
     r ≡ Err stream.Memory → IsErrAnd q (λ e. e ≡ serve_fault (fault_of r)) →
     q ≡ Err serve.Memory
 memory_told r q is gives =
-    is_memory q (subst (λ x. IsErrAnd q (λ e. e ≡ serve_fault (fault_of x))) is gives)
+    fault_is q serve.Memory (subst (λ x. IsErrAnd q (λ e. e ≡ serve_fault (fault_of x))) is gives)
 
 -- a fault of the writer is no other
 pub not_memory : {A X : Type 0} (r : Result A StreamFault) → OnErr r (r ≡ Err stream.Write) →

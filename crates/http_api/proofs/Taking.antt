@@ -3,13 +3,17 @@
 use Rattle.std.proofs.Common.{◌≡◌, ◌≢◌, ◌≤◌, ◌<◌, ◌+◌, ◌-◌, ◌==◌, ℕ, zero, suc, Bool, true, false}
 use Rattle.std.proofs.Common.{true≢false, List, [], ◌∷◌, ◌++◌, take, refl, sym, ap, subst}
 use Rattle.std.proofs.Common.{◌∙◌, inl, inr, arith, le_refl, Option, Some, None, IfSome, Err}
+use Rattle.std.specs.Prelude.{IsErrAnd, OnErr, Result, Ok, IfOk}
 use Rattle.std.specs.Io.KnownBytes.{Appends}
 use Rattle.std.proofs.KnownBytes.{Appends-nil, Appends-trans}
+use Rattle.texts.specs.declared.streams.StreamFault.{StreamFault}
+use Rattle.texts.specs.declared.streams.StreamFault.TheVariants as broken
 use Rattle.shelves.specs.Shelves.{Shelf}
 use Rattle.keepers.specs.Seen.{Seen}
 use Rattle.keepers.specs.Tables.{Tables}
-use Rattle.charging.specs.Accepted.{Accepted}
-use Rattle.charging.specs.Continued.{ForEachList}
+use Rattle.charging.specs.Accepted.{Accepted, IsInTime}
+use Rattle.charging.specs.Continued.{ForEachList, GoesOn}
+use Rattle.charging.specs.Parts.{Leaves}
 use Rattle.charging.specs.Served.{AreTables}
 use Rattle.charging.proofs.Serving.{left_as}
 use Rattle.http_messages.specs.Parts.{first_part}
@@ -18,20 +22,30 @@ use Rattle.http_messages.specs.Requests.{Next, asks, refused, ended, IsNext}
 use Rattle.http_messages.specs.Asking.{Asking, refuses, IsAsked}
 use Rattle.http_messages.specs.Table.{asked_of}
 use Rattle.http_messages.specs.Texts.{Begins}
-use Rattle.http_messages.proofs.Begun.{begun_second}
+use Rattle.http_api.specs.declared.fault.ServeFault.{ServeFault}
 use Rattle.http_api.specs.declared.fault.ServeFault.TheVariants as fault
 use Rattle.http_api.specs.declared.hearing.Heard.{Heard}
+use Rattle.http_api.specs.declared.serving.Served.{Served}
 use Rattle.http_api.specs.Clocks.{GivesInTurn}
+use Rattle.http_api.specs.Faults.{serve_fault}
 use Rattle.http_api.specs.Hearing.{Hears, HearsNext}
 use Rattle.http_api.specs.Replies.{reply_text, IsReplied, Replies, IsReplyHeld, LeavesReply}
+use Rattle.http_api.specs.Replies.{AreLeftAfter, HoldsNext}
 use Rattle.http_api.specs.Connections.{Connection, new_connection, left_after, after_reply}
 use Rattle.http_api.specs.Connections.{IsAnswered, Takes, Turns, IsTaken, IsOver}
-use Rattle.http_api.specs.Connections.{IsConnectionServed}
-use Rattle.http_api.specs.Connections.{IsConnectionBegun, IsUnread, IsTakenWith, IsCutOff}
-use Rattle.http_api.specs.Connections.{ServesConnection, IsLeftWithin, LeavesTurns}
+use Rattle.http_api.specs.Connections.{IsConnectionServed, IsUnread, IsTakenWith, IsCutOff}
+use Rattle.http_api.specs.Connections.{ComesTo}
+use Rattle.http_api.specs.Connections.{ServesConnection, IsLeftWithin}
 use Rattle.http_api.proofs.Continuing.{continued_none}
-use Rattle.http_api.proofs.Leaving.{begins-all}
+use Rattle.http_api.proofs.RequestReplies.{fault_is, not_memory, not_read}
+use Rattle.http_api.proofs.ShownReplies.{holds_none, left_same}
 use Rattle.http_api.proofs.Statuses.{SaysStatus, asked_says, reply_says}
+
+-- where the reader shows its bytes, a stop leaves what it left before, or, of a keeper that was
+-- clean before, tables to which at most so many of its requests come
+abbrev pub LeavesTurns : Shelf → Option (List ℕ) → ℕ → Seen → Seen → Type 0
+LeavesTurns b bytes most old new = IfSome bytes (λ stream.
+    Leaves old new (λ t. old.clean × ForEachList b old.tables (IsLeftWithin b stream most t)))
 
 plus_one : (n : ℕ) → suc n ≡ n + 1
 plus_one n = omega arith
@@ -91,11 +105,15 @@ not_closed false left h = refl
 
 -- ---- one more request
 
+-- of lists whose tables these are
+abbrev AreOf : Shelf → Tables → List Accepted → Type 0
+AreOf b tables = λ list. AreTables b list tables
+
 -- so many requests were taken, and this is left
 record IsAt (b : Shelf) (stream : List ℕ)
     (count left : ℕ) (rest : List ℕ) (moments : List (Option ℕ)) (text : List ℕ) (content : Tables)
     (list : List Accepted) : Type 0 where
-  taken : IsTaken b stream count moments text content list
+  taken : IsTaken b stream count moments text (AreOf b content) list
   left_is : taken.last.left ≡ left
   rest_is : taken.last.rest ≡ rest
 
@@ -107,7 +125,7 @@ at-none b stream tables = λ list time are. record {
     turns = refl;
     given = refl;
     written = refl;
-    tables = are;
+    is = are;
     time = time;
   };
   left_is = refl;
@@ -118,7 +136,7 @@ at-none b stream tables = λ list time are. record {
 record IsMoreAt (b : Shelf) (stream : List ℕ) (count left : ℕ) (closes : Bool) (after : List ℕ)
     (moments : List (Option ℕ)) (text more : List ℕ) (content : Tables) (list : List Accepted) :
     Type 0 where
-  turned : IsTakenWith b stream count moments text more content list
+  turned : IsTakenWith b stream count moments text more (AreOf b content) list
   left_is : turned.last.left ≡ left_after closes left
   rest_is : turned.last.rest ≡ after
 
@@ -156,7 +174,7 @@ more-at b stream count left rest after moments ms text more mid new list asking 
         written = (λ i.
             at.taken.written i ++ reply_text (left_after closes (at.left_is i) == 0) replied.reply)
             ∙ ap (λ l. text ++ l) (sym replied.written);
-        tables = replied.tables;
+        is = replied.tables;
         time = replied.time;
       };
       left_is = ap (left_after closes) at.left_is;
@@ -174,7 +192,7 @@ at-more b stream count left closes after moments text more new list m = record {
         (m.turned.between, m.turned.turns, m.turned.turn);
     given = m.turned.given;
     written = m.turned.written;
-    tables = m.turned.tables;
+    is = m.turned.is;
     time = m.turned.time;
   };
   left_is = m.left_is;
@@ -195,10 +213,10 @@ module _ {C : Type 0} (gives : C → Option ℕ → C → Type 0) (b : Shelf) wh
 
   -- the same, of the tables at the last moment at which a store could be asked
   pub record IsHeldSoFar (count left : ℕ) (r0 r1 : Option (List ℕ)) (c0 c1 : C)
-      (w0 w1 : Option (List ℕ)) (old : Tables) (Now : Tables → Type 0) : Type 0 where
+      (w0 w1 : Option (List ℕ)) (old now : Seen) : Type 0 where
     pub held : Tables
-    pub now : Now held
-    pub so_far : IfSome r0 (λ stream. IsSoFar stream count left r1 c0 c1 w0 w1 old held)
+    pub holds : HoldsNext b old now old.tables held
+    pub so_far : IfSome r0 (λ stream. IsSoFar stream count left r1 c0 c1 w0 w1 old.tables held)
 
   pub so_far-none : (r : Option (List ℕ)) (c : C) (w : Option (List ℕ)) (tables : Tables) →
       IfSome r (λ stream. IsSoFar stream 0 1000 r c c w w tables tables)
@@ -225,7 +243,7 @@ module _ {C : Type 0} (gives : C → Option ℕ → C → Type 0) (b : Shelf) wh
     written : Appends w0 w1 text
     more : List ℕ
     wrote : Writes more
-    turned : ForEachList b old (IsTakenWith b stream count moments text more new)
+    turned : ForEachList b old (IsTakenWith b stream count moments text more (AreOf b new))
     at : ForEachList b old
         (IsAt b stream (count + 1) (left_after closes left) rest moments (text ++ more) new)
 
@@ -250,7 +268,7 @@ module _ {C : Type 0} (gives : C → Option ℕ → C → Type 0) (b : Shelf) wh
       so.at list time are in
       more-at b stream count left so.rest case.rest so.moments reply.moments so.text
       reply.text mid new list case.asking heard.closes here.next some here.is_next case.says
-      case.takes at (reply.replied at.taken.last.list at.taken.time at.taken.tables) in
+      case.takes at (reply.replied at.taken.last.list at.taken.time at.taken.is) in
       record {
         rest = case.rest;
         rest_is = case.goes_on;
@@ -310,12 +328,13 @@ module _ {C : Type 0} (gives : C → Option ℕ → C → Type 0) (b : Shelf) wh
       total ≡ count + 1 → next ≡ left_after closes left → next ≡ 0 →
       IfSome r0
       (λ stream. IsOneMore stream count left closes r2 c0 c2 w0 w1 (Appends w1 w2) old new) →
-      IfSome r0 (λ stream. IsConnectionServed gives b stream total c0 c2 w0 w2 old new)
+      IfSome r0 (λ stream. IsConnectionServed gives b stream total c0 c2 w0 w2 old (AreOf b new))
   so_far-closed count total left next closes None r2 c0 c2 w0 w1 w2 old new count_is next_is over
       one = tt
   so_far-closed count total left next closes (Some stream) r2 c0 c2 w0 w1 w2 old new count_is
       next_is over one =
-      let whole : IsConnectionServed gives b stream (count + 1) c0 c2 w0 w2 old new = record {
+      let whole : IsConnectionServed gives b stream (count + 1) c0 c2 w0 w2 old (AreOf b new) =
+      record {
         whole = record {
           moments = one.moments;
           given = one.given;
@@ -327,33 +346,15 @@ module _ {C : Type 0} (gives : C → Option ℕ → C → Type 0) (b : Shelf) wh
               record { taken = at.taken; over = inl (at.left_is ∙ sym next_is ∙ over) };
         };
       } in
-      subst (λ n. IsConnectionServed gives b stream n c0 c2 w0 w2 old new) (sym count_is) whole
-
-  -- or its answer isn't written to its end
-  pub so_far-broken : (count left : ℕ) (closes : Bool) (r0 r2 : Option (List ℕ)) (c0 c2 : C)
-      (w0 w1 w2 : Option (List ℕ)) (old new : Tables) → count < 1000 →
-      IfSome r0
-      (λ stream. IsOneMore stream count left closes r2 c0 c2 w0 w1 (Begins w1 w2) old new) →
-      IfSome r0 (λ stream. IsConnectionBegun gives b stream c0 c2 w0 w2 old new)
-  so_far-broken count left closes None r2 c0 c2 w0 w1 w2 old new few one = tt
-  so_far-broken count left closes (Some stream) r2 c0 c2 w0 w1 w2 old new few one = record {
-    count = count + 1;
-    bounded = omega (arith, few);
-    taken = record {
-      moments = one.moments;
-      given = one.given;
-      text = one.text ++ one.more;
-      written = begun_second w0 w1 w2 one.text one.more one.written one.wrote;
-      is = λ list time are. (one.at list time are).taken;
-    };
-  }
+      subst (λ n. IsConnectionServed gives b stream n c0 c2 w0 w2 old (AreOf b new)) (sym count_is)
+      whole
 
   -- of its answer a beginning is written
   pub so_far-cut : (count left : ℕ) (closes : Bool) (r0 r2 : Option (List ℕ)) (c0 c2 : C)
       (w0 w1 w2 : Option (List ℕ)) (old new : Tables) → count < 1000 →
       IfSome r0
       (λ stream. IsOneMore stream count left closes r2 c0 c2 w0 w1 (Begins w1 w2) old new) →
-      IfSome r0 (λ stream. IsCutOff gives b stream c0 c2 w0 w2 old new)
+      IfSome r0 (λ stream. IsCutOff gives b stream c0 c2 w0 w2 old (AreOf b new))
   so_far-cut count left closes None r2 c0 c2 w0 w1 w2 old new few one = tt
   so_far-cut count left closes (Some stream) r2 c0 c2 w0 w1 w2 old new few one = record {
     count = count;
@@ -376,7 +377,7 @@ module _ {C : Type 0} (gives : C → Option ℕ → C → Type 0) (b : Shelf) wh
       (so : IsSoFar stream count left r1 c0 c1 w0 w1 old new) →
       ((list : List Accepted) →
       (at : IsAt b stream count left so.rest so.moments so.text new list) → IsOver at.taken.last) →
-      IsConnectionServed gives b stream count c0 c1 w0 w1 old new
+      IsConnectionServed gives b stream count c0 c1 w0 w1 old (AreOf b new)
   served_over stream count left r1 c0 c1 w0 w1 old new so over = record {
     whole = record {
       moments = so.moments;
@@ -395,7 +396,7 @@ module _ {C : Type 0} (gives : C → Option ℕ → C → Type 0) (b : Shelf) wh
       (w0 w1 : Option (List ℕ)) (old new : Tables) (o : Option Heard) →
       o ≡ None → IfSome r0 (λ stream. IsSoFar stream count left r1 c0 c1 w0 w1 old new) →
       IfSome r1 (λ s. Hears s o r2) →
-      IfSome r0 (λ stream. IsConnectionServed gives b stream count c0 c1 w0 w1 old new)
+      IfSome r0 (λ stream. IsConnectionServed gives b stream count c0 c1 w0 w1 old (AreOf b new))
   so_far-ended count left None r1 r2 c0 c1 w0 w1 old new o is so hears = tt
   so_far-ended count left (Some stream) r1 r2 c0 c1 w0 w1 old new o is so hears =
       let here : Hears so.rest None r2 =
@@ -411,37 +412,20 @@ module _ {C : Type 0} (gives : C → Option ℕ → C → Type 0) (b : Shelf) wh
       (w0 w1 : Option (List ℕ)) (old new : Tables) →
       total ≡ count →
       left ≡ 0 → IfSome r0 (λ stream. IsSoFar stream count left r1 c0 c1 w0 w1 old new) →
-      IfSome r0 (λ stream. IsConnectionServed gives b stream total c0 c1 w0 w1 old new)
+      IfSome r0 (λ stream. IsConnectionServed gives b stream total c0 c1 w0 w1 old (AreOf b new))
   so_far-full count total left None r1 c0 c1 w0 w1 old new count_is none so = tt
   so_far-full count total left (Some stream) r1 c0 c1 w0 w1 old new count_is none so =
-      let whole : IsConnectionServed gives b stream count c0 c1 w0 w1 old new =
+      let whole : IsConnectionServed gives b stream count c0 c1 w0 w1 old (AreOf b new) =
       served_over stream count left r1 c0 c1 w0 w1 old new so
       (λ list at. inl (at.left_is ∙ none)) in
-      subst (λ n. IsConnectionServed gives b stream n c0 c1 w0 w1 old new) (sym count_is) whole
+      subst (λ n. IsConnectionServed gives b stream n c0 c1 w0 w1 old (AreOf b new)) (sym count_is)
+      whole
 
-  -- the next request isn't read
-  pub so_far-begun : (count left : ℕ) (r0 r1 : Option (List ℕ)) (c0 c1 : C)
-      (w0 w1 : Option (List ℕ)) (old new : Tables) →
-      count ≤ 1000 → IfSome r0 (λ stream. IsSoFar stream count left r1 c0 c1 w0 w1 old new) →
-      IfSome r0 (λ stream. IsConnectionBegun gives b stream c0 c1 w0 w1 old new)
-  so_far-begun count left None r1 c0 c1 w0 w1 old new few so = tt
-  so_far-begun count left (Some stream) r1 c0 c1 w0 w1 old new few so = record {
-    count = count;
-    bounded = few;
-    taken = record {
-      moments = so.moments;
-      given = so.given;
-      text = so.text;
-      written = begins-all w0 w1 so.text so.written;
-      is = λ list time are. (so.at list time are).taken;
-    };
-  }
-
-  -- since the reader fails, or memory is refused
+  -- the next request isn't read, since the reader fails or memory is refused
   pub so_far-unread : (count left : ℕ) (r0 r1 : Option (List ℕ)) (c0 c1 : C)
       (w0 w1 : Option (List ℕ)) (old new : Tables) → count < 1000 → 0 < left →
       IfSome r0 (λ stream. IsSoFar stream count left r1 c0 c1 w0 w1 old new) →
-      IfSome r0 (λ stream. IsUnread gives b stream c0 c1 w0 w1 old new)
+      IfSome r0 (λ stream. IsUnread gives b stream c0 c1 w0 w1 old (AreOf b new))
   so_far-unread count left None r1 c0 c1 w0 w1 old new few some so = tt
   so_far-unread count left (Some stream) r1 c0 c1 w0 w1 old new few some so = record {
     count = count;
@@ -501,7 +485,7 @@ module _ {C : Type 0} (gives : C → Option ℕ → C → Type 0) (b : Shelf) wh
         bounded = le_refl (count + 1);
         last = here.taken.last;
         turns = here.taken.turns;
-        tables = here.taken.tables;
+        tables = here.taken.is;
         time = here.taken.time;
       }
 
@@ -522,8 +506,8 @@ module _ {C : Type 0} (gives : C → Option ℕ → C → Type 0) (b : Shelf) wh
   pub turns_more : (count left : ℕ) (r0 r1 r2 : Option (List ℕ)) (c0 c1 : C)
       (w0 w1 : Option (List ℕ)) (old mid new : Seen) (o : Option Heard) (heard : Heard) →
       0 < left → o ≡ Some heard → (mid.clean → old.clean) → (new.honest → mid.honest) →
-      (mid.honest → IsHeldSoFar count left r0 r1 c0 c1 w0 w1 old.tables
-      (λ t. mid.clean → t ≡ mid.tables)) → IfSome r1 (λ s. Hears s o r2) →
+      (mid.honest → IsHeldSoFar count left r0 r1 c0 c1 w0 w1 old mid) →
+      IfSome r1 (λ s. Hears s o r2) →
       ((asking : Asking) → IsAsked asking heard.asked → LeavesReply b asking mid new) →
       LeavesTurns b r0 count old mid → LeavesTurns b r0 (count + 1) old new
   turns_more count left None r1 r2 c0 c1 w0 w1 old mid new o heard some is cleanness honesty had
@@ -552,39 +536,185 @@ module _ {C : Type 0} (gives : C → Option ℕ → C → Type 0) (b : Shelf) wh
               (had (honesty h)).held t list case.asking heard.closes here.next some here.is_next
               case.says case.takes at
               (w.1 at.taken.last.list at.taken.time (subst (AreTables b at.taken.last.list)
-              ((had (honesty h)).now w.0) at.taken.tables)),
+              ((had (honesty h)).holds.now w.0) at.taken.is)),
         )
       ]
 
+  -- ---- what comes of a connection
+
+  -- the tables at the last moment at which a store could be asked, and what comes of them
+  pub record HasCome (r0 : Option (List ℕ)) (c0 c1 : C) (w0 w1 : Option (List ℕ)) (old new : Seen)
+      (result : Result Served ServeFault) : Type 0 where
+    pub held : Tables
+    pub holds : HoldsNext b old new old.tables held
+    pub comes : IfSome r0 (λ stream.
+        ComesTo gives b stream c0 c1 w0 w1 old.tables (AreOf b held) result)
+
+  module _ (c0 c1 : C) (w0 w1 : Option (List ℕ)) (old : Tables) (Is Are : List Accepted → Type 0)
+      (weaker : (list : List Accepted) → IsInTime list → Is list → Are list) where
+    abbrev taken_as : (stream : List ℕ) (count : ℕ) (moments : List (Option ℕ)) (text : List ℕ)
+        (list : List Accepted) → IsTaken b stream count moments text Is list →
+        IsTaken b stream count moments text Are list
+    taken_as stream count moments text list x = record {
+      last = x.last;
+      turns = x.turns;
+      given = x.given;
+      written = x.written;
+      is = weaker x.last.list x.time x.is;
+      time = x.time;
+    }
+
+    unread_as : (stream : List ℕ) → IsUnread gives b stream c0 c1 w0 w1 old Is →
+        IsUnread gives b stream c0 c1 w0 w1 old Are
+    unread_as stream x = record {
+      count = x.count;
+      bounded = x.bounded;
+      taken = record {
+        moments = x.taken.moments;
+        given = x.taken.given;
+        text = x.taken.text;
+        written = x.taken.written;
+        is = λ list time are. record {
+          taken = taken_as stream x.count x.taken.moments x.taken.text list
+              (x.taken.is list time are).taken;
+          goes_on = (x.taken.is list time are).goes_on;
+        };
+      };
+    }
+
+    -- what is so of the accepted commands may be said otherwise
+    comes_as : (stream : List ℕ) (result : Result Served ServeFault) →
+        ComesTo gives b stream c0 c1 w0 w1 old Is result →
+        ComesTo gives b stream c0 c1 w0 w1 old Are result
+    comes_as stream (Ok done) x = record {
+      whole = record {
+        moments = x.whole.moments;
+        given = x.whole.given;
+        text = x.whole.text;
+        written = x.whole.written;
+        is = λ list time are. record {
+          taken = taken_as stream done.requests x.whole.moments x.whole.text list
+              (x.whole.is list time are).taken;
+          over = (x.whole.is list time are).over;
+        };
+      };
+    }
+    comes_as stream (Err fault.Memory) x = unread_as stream x
+    comes_as stream (Err fault.Read) x = unread_as stream x
+    comes_as stream (Err fault.Write) x = record {
+      count = x.count;
+      bounded = x.bounded;
+      more = x.more;
+      begun = x.begun;
+      taken = record {
+        moments = x.taken.moments;
+        given = x.taken.given;
+        text = x.taken.text;
+        written = x.taken.written;
+        is = λ list time are.
+            let cut : IsTakenWith b stream x.count x.taken.moments x.taken.text x.more Is list =
+            x.taken.is list time are in
+            record {
+              between = cut.between;
+              turns = cut.turns;
+              whole = cut.whole;
+              last = cut.last;
+              turn = cut.turn;
+              given = cut.given;
+              written = cut.written;
+              is = weaker cut.last.list cut.time cut.is;
+              time = cut.time;
+            };
+      };
+    }
+
+    comes_shown : (r0 : Option (List ℕ)) (result : Result Served ServeFault) →
+        IfSome r0 (λ stream. ComesTo gives b stream c0 c1 w0 w1 old Is result) →
+        IfSome r0 (λ stream. ComesTo gives b stream c0 c1 w0 w1 old Are result)
+    comes_shown None result x = tt
+    comes_shown (Some stream) result x = comes_as stream result x
+
+  -- so it comes of a keeper's tables, and of what a stop leaves
+  pub serves : (r0 : Option (List ℕ)) (c0 c1 : C) (w0 w1 : Option (List ℕ)) (old new : Seen)
+      (result : Result Served ServeFault) → (new.clean → new.honest) →
+      ((t : Tables) → old.clean → old.left t → t ≡ old.tables) →
+      (new.honest → HasCome r0 c0 c1 w0 w1 old new result) →
+      IfOk result (λ done. done.requests ≤ 1000) → GoesOn b old new →
+      LeavesTurns b r0 1000 old new →
+      ServesConnection gives b r0 c0 c1 w0 w1 old new result
+  serves r0 c0 c1 w0 w1 old new result honesty settled come bounded goes_on held = record {
+    comes = λ clean.
+        let had : HasCome r0 c0 c1 w0 w1 old new result = come (honesty clean) in
+        comes_shown c0 c1 w0 w1 old.tables (AreOf b had.held) (AreOf b new.tables)
+        (λ list time are. subst (AreTables b list) (had.holds.now clean) are) r0 result had.comes;
+    shown = λ h.
+        let had : HasCome r0 c0 c1 w0 w1 old new result = come h in
+        (had.held, had.comes);
+    found = λ h clean t l.
+        let had : HasCome r0 c0 c1 w0 w1 old new result = come h in
+        comes_shown c0 c1 w0 w1 old.tables (AreOf b had.held) (AreLeftAfter b t)
+        (had.holds.left (λ x was. left_same b old.tables x (settled x clean was)) t l) r0 result
+        had.comes;
+    bounded = bounded;
+    goes_on = goes_on;
+    held = held;
+  }
+
   -- nothing is read, since memory is refused
   pub none_served : (r : Option (List ℕ)) (c : C) (w : Option (List ℕ)) (k : Seen) →
+      (k.clean → k.honest) → ((t : Tables) → k.clean → k.left t → t ≡ k.tables) →
       ServesConnection gives b r c c w w k k (Err fault.Memory)
-  none_served r c w k = record {
-    served = λ is_clean. tt;
-    begun = λ is_clean. so_far-begun 0 1000 r r c c w w k.tables k.tables (omega arith)
-        (so_far-none r c w k.tables);
-    memory = λ is_clean e. so_far-unread 0 1000 r r c c w w k.tables k.tables (omega arith)
-        (omega arith) (so_far-none r c w k.tables);
-    read = λ is_clean e. absurd (cc);
-    write = λ is_clean e. absurd (cc);
-    bounded = tt;
-    shown = λ is_honest. record {
-      held = k.tables;
-      served = tt;
-      begun = so_far-begun 0 1000 r r c c w w k.tables k.tables (omega arith)
-          (so_far-none r c w k.tables);
-      memory = λ e. so_far-unread 0 1000 r r c c w w k.tables k.tables (omega arith)
-          (omega arith) (so_far-none r c w k.tables);
-      read = λ e. absurd (cc);
-      write = λ e. absurd (cc);
-    };
-    continued = λ is_clean. continued_none b k.tables;
-    cleanness = λ is_clean. is_clean;
-    honesty = λ is_honest. is_honest;
-    left = λ is_honest t l. inl l;
-    held = turns_none r 1000 k;
-    failures = le_refl k.failed;
-  }
+  none_served r c w k honesty settled = serves r c c w w k k (Err fault.Memory) honesty settled
+      (λ h. record {
+        held = k.tables;
+        holds = holds_none b k;
+        comes = so_far-unread 0 1000 r r c c w w k.tables k.tables (omega arith) (omega arith)
+            (so_far-none r c w k.tables);
+      }) tt (record {
+        continued = λ clean. continued_none b k.tables;
+        cleanness = λ clean. clean;
+        honesty = λ honest. honest;
+        left = λ h t l. inl l;
+        failures = le_refl k.failed;
+      }) (turns_none r 1000 k)
+
+  -- ---- faults
+
+  -- a fault of hearing is none of the writer
+  pub unread_comes : {A : Type 0} (r : Result A StreamFault) (why : StreamFault)
+      (q : Result Served ServeFault) (r0 : Option (List ℕ)) (c0 c1 : C) (w0 w1 : Option (List ℕ))
+      (old : Tables) (Is : List Accepted → Type 0) → r ≡ Err why → (r ≡ Err broken.Write → ⊥) →
+      IsErrAnd q (λ e. e ≡ serve_fault why) →
+      IfSome r0 (λ stream. IsUnread gives b stream c0 c1 w0 w1 old Is) →
+      IfSome r0 (λ stream. ComesTo gives b stream c0 c1 w0 w1 old Is q)
+  unread_comes r why q r0 c0 c1 w0 w1 old Is was other is unread =
+      subst (λ (x : Result Served ServeFault).
+      IfSome r0 (λ stream. ComesTo gives b stream c0 c1 w0 w1 old Is x)) (sym (fault_is q _ is))
+      (at why was)
+    where
+      at : (f : StreamFault) → r ≡ Err f →
+          IfSome r0 (λ stream. ComesTo gives b stream c0 c1 w0 w1 old Is (Err (serve_fault f)))
+      at broken.Memory e = unread
+      at broken.Read e = unread
+      at broken.Write e = absurd (other e)
+
+  -- a fault of an answer is one of the writer
+  pub cut_comes : {A : Type 0} (r : Result A StreamFault) (why : StreamFault)
+      (q : Result Served ServeFault) (r0 : Option (List ℕ)) (c0 c1 : C) (w0 w1 : Option (List ℕ))
+      (old : Tables) (Is : List Accepted → Type 0) → r ≡ Err why →
+      OnErr r (r ≡ Err broken.Write) → IsErrAnd q (λ e. e ≡ serve_fault why) →
+      IfSome r0 (λ stream. IsCutOff gives b stream c0 c1 w0 w1 old Is) →
+      IfSome r0 (λ stream. ComesTo gives b stream c0 c1 w0 w1 old Is q)
+  cut_comes r why q r0 c0 c1 w0 w1 old Is was only is cut =
+      subst (λ (x : Result Served ServeFault).
+      IfSome r0 (λ stream. ComesTo gives b stream c0 c1 w0 w1 old Is x)) (sym (fault_is q _ is))
+      (at why was)
+    where
+      at : (f : StreamFault) → r ≡ Err f →
+          IfSome r0 (λ stream. ComesTo gives b stream c0 c1 w0 w1 old Is (Err (serve_fault f)))
+      at broken.Memory e = not_memory r only e
+      at broken.Read e = absurd (not_read r only e)
+      at broken.Write e = cut
 
 -- ---- how many requests are left
 

@@ -3,8 +3,7 @@
 -- the place of a refusal.
 -- Source: RFC 9112 sections 2.1, 6 and 9.3; the bounds: profile.
 use Rattle.std.specs.Prelude.{◌≡◌, ◌<◌, ◌≤◌, ◌-◌, ◌==◌, ℕ, zero, suc, Bool, true, if◌then◌else◌}
-use Rattle.std.specs.Prelude.{List, [], ◌++◌, take, Option, ◌⊎◌, Result, IfOk, OnErr, IfSome}
-use Rattle.std.specs.Prelude.{IsErrOf}
+use Rattle.std.specs.Prelude.{List, [], ◌++◌, take, Option, ◌⊎◌, Result, Ok, Err, IfOk, IfSome}
 use Rattle.std.specs.Io.KnownBytes.{Appends}
 use Rattle.units.specs.Words.{Moment}
 use Rattle.texts.specs.StreamWords.{Bytes}
@@ -12,17 +11,16 @@ use Rattle.shelves.specs.Shelves.{Shelf}
 use Rattle.keepers.specs.Seen.{Seen}
 use Rattle.keepers.specs.Tables.{Tables}
 use Rattle.charging.specs.Accepted.{Accepted, IsInTime}
-use Rattle.charging.specs.Continued.{ForEachList, Continues, LeavesOn}
+use Rattle.charging.specs.Continued.{ForEachList, GoesOn}
 use Rattle.charging.specs.Parts.{Leaves}
 use Rattle.charging.specs.Served.{AreTables}
 use Rattle.http_messages.specs.Statuses.{IsAnswerStatus}
 use Rattle.http_messages.specs.Requests.{Next, asks, refused, ended, IsNext}
 use Rattle.http_messages.specs.Asking.{Asking, refuses}
 use Rattle.http_messages.specs.Table.{asked_of}
-use Rattle.http_messages.specs.Texts.{Begins}
 use Rattle.http_api.specs.Words.{most_requests}
 use Rattle.http_api.specs.Clocks.{GivesInTurn}
-use Rattle.http_api.specs.Replies.{Reply, reply_text, IsReply}
+use Rattle.http_api.specs.Replies.{Reply, reply_text, IsReply, AreLeftAfter}
 use Rattle.http_api.specs.declared.fault.ServeFault.{ServeFault}
 use Rattle.http_api.specs.declared.fault.ServeFault.TheVariants.{Memory, Read, Write}
 use Rattle.http_api.specs.declared.serving.Served.{Served}
@@ -89,22 +87,42 @@ IsOver last = (last.left ≡ 0) ⊎ IsNext last.rest ended
 
 -- ---- over a reader, a writer, a keeper and a clock
 
--- so many requests of a stream come to these moments, this text and these tables
+-- so many requests of a stream come to these moments, to this text, and to accepted commands of
+-- which this is so
 pub record IsTaken (b : Shelf) (stream : Bytes) (count : ℕ) (moments : List (Option Moment))
-    (text : Bytes) (content : Tables) (list : List Accepted) : Type 0 where
+    (text : Bytes) (Is : List Accepted → Type 0) (list : List Accepted) : Type 0 where
   pub last : Connection
   pub turns : Turns b count (new_connection stream list) last
   pub given : last.moments ≡ moments
   pub written : last.written ≡ text
-  pub tables : AreTables b last.list content
+  pub is : Is last.list
   pub time : IsInTime last.list
 
 -- and the connection is over
 pub record IsWholeConnection (b : Shelf) (stream : Bytes) (count : ℕ)
     (moments : List (Option Moment))
-    (text : Bytes) (content : Tables) (list : List Accepted) : Type 0 where
-  pub taken : IsTaken b stream count moments text content list
+    (text : Bytes) (Is : List Accepted → Type 0) (list : List Accepted) : Type 0 where
+  pub taken : IsTaken b stream count moments text Is list
   pub over : IsOver taken.last
+
+-- or it takes more
+pub record IsTakenOn (b : Shelf) (stream : Bytes) (count : ℕ) (moments : List (Option Moment))
+    (text : Bytes) (Is : List Accepted → Type 0) (list : List Accepted) : Type 0 where
+  pub taken : IsTaken b stream count moments text Is list
+  pub goes_on : 0 < taken.last.left
+
+-- so many of its requests were answered with a text, and one more with another
+pub record IsTakenWith (b : Shelf) (stream : Bytes) (count : ℕ) (moments : List (Option Moment))
+    (text more : Bytes) (Is : List Accepted → Type 0) (list : List Accepted) : Type 0 where
+  pub between : Connection
+  pub turns : Turns b count (new_connection stream list) between
+  pub whole : between.written ≡ text
+  pub last : Connection
+  pub turn : IsTurn b between last
+  pub given : last.moments ≡ moments
+  pub written : last.written ≡ text ++ more
+  pub is : Is last.list
+  pub time : IsInTime last.list
 
 -- a part of a connection: the moments that the clock gave in turn, the text of the answers, what is
 -- written of it, and what both are of the stream, over each list of commands that the tables before
@@ -120,60 +138,47 @@ pub record IsPart {C : Type 0} (gives : C → Option Moment → C → Type 0) (b
 
 -- a stream is served to the end of the connection
 pub record IsConnectionServed {C : Type 0} (gives : C → Option Moment → C → Type 0) (b : Shelf)
-    (stream : Bytes) (count : ℕ) (before after : C) (empty full : Option Bytes) (old new : Tables)
-    : Type 0 where
+    (stream : Bytes) (count : ℕ) (before after : C) (empty full : Option Bytes) (old : Tables)
+    (Is : List Accepted → Type 0) : Type 0 where
   pub whole : IsPart gives b before after old (Appends empty full)
-      (λ moments text. IsWholeConnection b stream count moments text new)
+      (λ moments text. IsWholeConnection b stream count moments text Is)
 
--- so many requests of it were taken, and a beginning of their answers is written
-pub record IsConnectionBegun {C : Type 0} (gives : C → Option Moment → C → Type 0) (b : Shelf)
-    (stream : Bytes) (before after : C) (empty full : Option Bytes) (old new : Tables)
-    : Type 0 where
-  pub count : ℕ
-  pub bounded : count ≤ most_requests
-  pub taken : IsPart gives b before after old (Begins empty full)
-      (λ moments text. IsTaken b stream count moments text new)
-
--- so many of its requests were answered, and the connection takes more
-pub record IsTakenOn (b : Shelf) (stream : Bytes) (count : ℕ) (moments : List (Option Moment))
-    (text : Bytes) (content : Tables) (list : List Accepted) : Type 0 where
-  pub taken : IsTaken b stream count moments text content list
-  pub goes_on : 0 < taken.last.left
-
--- where the reader fails, or memory is refused, so many requests of a stream were answered whole,
--- and nothing is done for the next one
+-- so many requests of a stream were answered whole, and nothing is done for the next one
 pub record IsUnread {C : Type 0} (gives : C → Option Moment → C → Type 0) (b : Shelf)
-    (stream : Bytes) (before after : C) (empty full : Option Bytes) (old new : Tables)
-    : Type 0 where
+    (stream : Bytes) (before after : C) (empty full : Option Bytes) (old : Tables)
+    (Is : List Accepted → Type 0) : Type 0 where
   pub count : ℕ
   pub bounded : count < most_requests
   pub taken : IsPart gives b before after old (Appends empty full)
-      (λ moments text. IsTakenOn b stream count moments text new)
+      (λ moments text. IsTakenOn b stream count moments text Is)
 
--- so many of its requests were answered with a text, and one more with another
-pub record IsTakenWith (b : Shelf) (stream : Bytes) (count : ℕ) (moments : List (Option Moment))
-    (text more : Bytes) (content : Tables) (list : List Accepted) : Type 0 where
-  pub between : Connection
-  pub turns : Turns b count (new_connection stream list) between
-  pub whole : between.written ≡ text
-  pub last : Connection
-  pub turn : IsTurn b between last
-  pub given : last.moments ≡ moments
-  pub written : last.written ≡ text ++ more
-  pub tables : AreTables b last.list content
-  pub time : IsInTime last.list
-
--- where the writer fails so many requests of a stream were answered whole, and of the answer to the
--- next one a beginning is written
+-- so many were answered whole, and of the answer to the next one a beginning is written
 pub record IsCutOff {C : Type 0} (gives : C → Option Moment → C → Type 0) (b : Shelf)
-    (stream : Bytes) (before after : C) (empty full : Option Bytes) (old new : Tables)
-    : Type 0 where
+    (stream : Bytes) (before after : C) (empty full : Option Bytes) (old : Tables)
+    (Is : List Accepted → Type 0) : Type 0 where
   pub count : ℕ
   pub bounded : count < most_requests
   pub more : Bytes
   pub begun : ℕ
   pub taken : IsPart gives b before after old (λ text. Appends empty full (text ++ take begun more))
-      (λ moments text. IsTakenWith b stream count moments text more new)
+      (λ moments text. IsTakenWith b stream count moments text more Is)
+
+-- what comes of a connection, by its end: it is served to its end; or the reader fails, or memory
+-- is refused, before the next request; or the writer fails, in an answer. The accepted commands
+-- after it are so.
+abbrev pub ComesTo : {C : Type 0} → (C → Option Moment → C → Type 0) → Shelf → Bytes → C → C →
+    Option Bytes → Option Bytes → Tables → (List Accepted → Type 0) → Result Served ServeFault →
+    Type 0
+ComesTo gives b stream before after empty full old Is (Ok done) =
+    IsConnectionServed gives b stream done.requests before after empty full old Is
+ComesTo gives b stream before after empty full old Is (Err Memory) =
+    IsUnread gives b stream before after empty full old Is
+ComesTo gives b stream before after empty full old Is (Err Read) =
+    IsUnread gives b stream before after empty full old Is
+ComesTo gives b stream before after empty full old Is (Err Write) =
+    IsCutOff gives b stream before after empty full old Is
+
+-- ---- what a stop leaves
 
 -- at most so many requests of a stream come to these tables
 pub record IsLeftWithin (b : Shelf) (stream : Bytes) (most : ℕ) (held : Tables)
@@ -185,52 +190,24 @@ pub record IsLeftWithin (b : Shelf) (stream : Bytes) (most : ℕ) (held : Tables
   pub tables : AreTables b last.list held
   pub time : IsInTime last.list
 
--- where the reader shows its bytes, a stop leaves what it left before, or, of a keeper that was
--- clean before, tables to which at most so many of its requests come
-abbrev pub LeavesTurns : Shelf → Option Bytes → ℕ → Seen → Seen → Type 0
-LeavesTurns b bytes most old new = IfSome bytes (λ stream.
-    Leaves old new (λ t. old.clean × ForEachList b old.tables (IsLeftWithin b stream most t)))
+-- ---- a connection
 
--- the same of an honest keeper that may not be asked any more: of the tables at the last moment at
--- which it could be asked
-pub record IsShown {C : Type 0} (gives : C → Option Moment → C → Type 0) (b : Shelf)
-    (bytes : Option Bytes) (before after : C) (empty full : Option Bytes) (old : Tables)
-    (result : Result Served ServeFault) : Type 0 where
-  pub held : Tables
-  pub served : IfOk result (λ done. IfSome bytes (λ stream.
-      IsConnectionServed gives b stream done.requests before after empty full old held))
-  pub begun : OnErr result (IfSome bytes (λ stream.
-      IsConnectionBegun gives b stream before after empty full old held))
-  pub memory : IsErrOf result Memory → IfSome bytes (λ stream.
-      IsUnread gives b stream before after empty full old held)
-  pub read : IsErrOf result Read → IfSome bytes (λ stream.
-      IsUnread gives b stream before after empty full old held)
-  pub write : IsErrOf result Write → IfSome bytes (λ stream.
-      IsCutOff gives b stream before after empty full old held)
-
--- what comes of a connection over a keeper that stays clean, where the reader shows its bytes: it
--- is served to its end, or a beginning of it is, and each fault says which; at most 1,000 requests
--- are answered, and the accepted commands go on, also those that are found after a stop: these are
--- of a beginning of its requests
+-- What comes of a connection where the reader shows its bytes: its answers, and by them the tables
+-- of a keeper that stays clean (`comes`). Of an honest keeper that may not be asked any more these
+-- are the tables at the last moment at which it could be asked (`shown`), and a stop leaves each
+-- command that was answered, and at most one more (`found`): one of its requests (`held`). At most
+-- 1,000 requests are answered, and the accepted commands go on.
 pub record ServesConnection {C : Type 0} (gives : C → Option Moment → C → Type 0) (b : Shelf)
     (bytes : Option Bytes) (before after : C) (empty full : Option Bytes) (old new : Seen)
     (result : Result Served ServeFault) : Type 0 where
-  pub served : new.clean → IfOk result (λ done. IfSome bytes (λ stream.
-      IsConnectionServed gives b stream done.requests before after empty full old.tables
-      new.tables))
-  pub begun : new.clean → OnErr result (IfSome bytes (λ stream.
-      IsConnectionBegun gives b stream before after empty full old.tables new.tables))
-  pub memory : new.clean → IsErrOf result Memory → IfSome bytes (λ stream.
-      IsUnread gives b stream before after empty full old.tables new.tables)
-  pub read : new.clean → IsErrOf result Read → IfSome bytes (λ stream.
-      IsUnread gives b stream before after empty full old.tables new.tables)
-  pub write : new.clean → IsErrOf result Write → IfSome bytes (λ stream.
-      IsCutOff gives b stream before after empty full old.tables new.tables)
-  pub shown : new.honest → IsShown gives b bytes before after empty full old.tables result
+  pub comes : new.clean → IfSome bytes (λ stream. ComesTo gives b stream before after empty full
+      old.tables (λ list. AreTables b list new.tables) result)
+  pub shown : new.honest → (held : Tables) × IfSome bytes (λ stream.
+      ComesTo gives b stream before after empty full
+      old.tables (λ list. AreTables b list held) result)
+  pub found : new.honest → old.clean → (left : Tables) → new.left left → IfSome bytes (λ stream.
+      ComesTo gives b stream before after empty full old.tables (AreLeftAfter b left) result)
   pub bounded : IfOk result (λ done. done.requests ≤ most_requests)
-  pub continued : new.clean → Continues b old.tables new.tables
-  pub cleanness : new.clean → old.clean
-  pub honesty : new.honest → old.honest
-  pub left : LeavesOn b old new
-  pub held : LeavesTurns b bytes most_requests old new
-  pub failures : old.failed ≤ new.failed
+  pub goes_on : GoesOn b old new
+  pub held : IfSome bytes (λ stream. Leaves old new (λ left.
+      old.clean × ForEachList b old.tables (IsLeftWithin b stream most_requests left)))

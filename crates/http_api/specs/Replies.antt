@@ -24,7 +24,9 @@ use Rattle.charging.specs.Balances.{by_number}
 use Rattle.charging.specs.Continued.{ForEachList, Continues, LeavesOn}
 use Rattle.charging.specs.Histories.{History}
 use Rattle.charging.specs.Parts.{Leaves}
+use Rattle.charging.specs.Runs.{after_command}
 use Rattle.charging.specs.Served.{AreTables, history, moment_of, answer_to, with_command}
+use Rattle.charging.specs.declared.running.DatedCommand.{DatedCommand}
 use Rattle.http_messages.specs.Statuses as status
 use Rattle.http_messages.specs.Asking.{Asking, refuses, reads, states}
 use Rattle.http_messages.specs.declared.asking.StatementAsked.{StatementAsked}
@@ -137,22 +139,36 @@ pub record Replies {C : Type 0} (gives : C → Option Moment → C → Type 0) (
   pub written : Writes text
   pub replied : ForEachList b old (IsReplied b asking closes moments text new)
 
+-- tables that a stop may leave after accepted commands: their own, or those with one command more
+abbrev pub AreLeftAfter : Shelf → Tables → List Accepted → Type 0
+AreLeftAfter b left list = AreTables b list left
+    ⊎ ((dated : DatedCommand) × AreTables b (after_command b list dated) left)
+
+-- what becomes of tables that a keeper had at the last moment at which it could be asked: commands
+-- come to them, they are its own where it is clean after it, and a stop leaves them, or one command
+-- more, where one before left no other
+pub record HoldsNext (b : Shelf) (old new : Seen) (held next : Tables) : Type 0 where
+  pub now : new.clean → next ≡ new.tables
+  pub continued : Continues b held next
+  pub left : ((t : Tables) → old.left t → ForEachList b held (AreLeftAfter b t)) →
+      (t : Tables) → new.left t → ForEachList b next (AreLeftAfter b t)
+
 -- what is said of tables and of those after them, over a store that may not be asked any more: of
 -- the tables at the last moment at which it could be asked
 pub record ShowsReply {A : Type 0} (Told : (Bytes → Type 0) → Tables → Tables → Type 0)
-    (empty full : Option Bytes) (held : Tables) (Now : Tables → Type 0)
+    (b : Shelf) (empty full : Option Bytes) (old new : Seen) (held : Tables)
     (result : Result A StreamFault) : Type 0 where
   pub next : Tables
-  pub now : Now next
+  pub holds : HoldsNext b old new held next
   pub ok : OnOk result (Told (Appends empty full) held next)
   pub err : OnErr result (Told (Begins empty full) held next)
 
 -- so it is over an honest keeper, from any tables on that are the keeper's where it is clean
-abbrev pub Shows : {A : Type 0} → ((Bytes → Type 0) → Tables → Tables → Type 0) → Option Bytes →
-    Option Bytes → Seen → Seen → Result A StreamFault → Type 0
-Shows Told empty full old new result =
+abbrev pub Shows : {A : Type 0} → ((Bytes → Type 0) → Tables → Tables → Type 0) → Shelf →
+    Option Bytes → Option Bytes → Seen → Seen → Result A StreamFault → Type 0
+Shows Told b empty full old new result =
     new.honest → (held : Tables) → (old.clean → held ≡ old.tables) →
-    ShowsReply Told empty full held (λ t. new.clean → t ≡ new.tables) result
+    ShowsReply Told b empty full old new held result
 
 -- tables are those after a reply to the request
 pub record IsReplyHeld (b : Shelf) (asking : Asking) (held : Tables) (list : List Accepted) : Type 0

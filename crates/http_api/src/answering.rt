@@ -34,7 +34,7 @@ pub(crate) fn answer_request<W: Write, K: ChargeSource, C: Clock>(
     following: Following,
 ) -> Result<(), StreamFault>
     ensures shown { Shows (λ Writes x y. (asking : Asking) → IsAsked asking asked →
-        Replies C.gives shelf.now asking following.closes clock.old clock.new Writes x y)
+        Replies C.gives shelf.now asking following.closes clock.old clock.new Writes x y) shelf.now
         (W.contents writer.old) (W.contents writer.new) (K.seen keeper.old) (K.seen keeper.new)
         result }
     ensures goes_on { GoesOn shelf.now (K.seen keeper.old) (K.seen keeper.new) result }
@@ -66,7 +66,7 @@ fn serve_command<W: Write, K: ChargeSource, C: Clock>(
 ) -> Result<(), StreamFault>
     ensures shown { Shows
         (Replies C.gives shelf.now (reads (Ok command)) following.closes clock.old clock.new)
-        (W.contents writer.old) (W.contents writer.new) (K.seen keeper.old) (K.seen keeper.new)
+        shelf.now (W.contents writer.old) (W.contents writer.new) (K.seen keeper.old) (K.seen keeper.new)
         result }
     ensures goes_on { GoesOn shelf.now (K.seen keeper.old) (K.seen keeper.new) result }
     ensures held { LeavesReply shelf.now (reads (Ok command))

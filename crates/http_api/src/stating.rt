@@ -42,7 +42,7 @@ pub(crate) fn serve_statement<W: Write, K: ChargeSource, C: Clock>(
 ) -> Result<(), StreamFault>
     ensures shown { Shows
         (Replies C.gives shelf.now (states asked.now) following.closes clock.old clock.new)
-        (W.contents writer.old) (W.contents writer.new) (K.seen keeper.old) (K.seen keeper.new)
+        shelf.now (W.contents writer.old) (W.contents writer.new) (K.seen keeper.old) (K.seen keeper.new)
         result }
     ensures fault { OnErr result (result ≡ Err StreamFault.Write) }
     ensures same { (K.seen keeper.new).clean →

@@ -13,12 +13,12 @@ pub returns-in-Refused-clause-shown : goal.returns-in-Refused-clause-shown
 returns-in-Refused-clause-shown g c = shows_same
     (λ Writes x y. (asking : Asking) → IsAsked asking c.args.asked →
     Replies g.C.Clock.gives c.args.shelf.now asking c.args.following.closes c.args.clock.now
-    c.args.clock.now Writes x y) (g.W.Write.contents c.args.writer.now)
+    c.args.clock.now Writes x y) c.args.shelf.now (g.W.Write.contents c.args.writer.now)
     (g.W.Write.contents c.tell_refusal.new.writer) (g.K.Keeper.seen c.args.keeper.now)
     (g.K.Keeper.seen c.args.keeper.now) c.tell_refusal.result
     (λ Writes. Writes (response (refusal_status c.in-Refused.refusal) c.args.following.closes
     no_members))
-    (λ clean. clean) (λ clean. refl)
+    (λ clean. clean) (λ clean. refl) (λ honest t l. l)
     (λ Writes t tells asking asked. refused_reply g.C.Clock.gives c.args.shelf.now
     c.args.following.closes
     Writes c.in-Refused.refusal c.args.clock.now t tells asking
@@ -29,10 +29,11 @@ pub returns-in-Unread-clause-shown : goal.returns-in-Unread-clause-shown
 returns-in-Unread-clause-shown g c = shows_same
     (λ Writes x y. (asking : Asking) → IsAsked asking c.args.asked →
     Replies g.C.Clock.gives c.args.shelf.now asking c.args.following.closes c.args.clock.now
-    c.args.clock.now Writes x y) (g.W.Write.contents c.args.writer.now)
+    c.args.clock.now Writes x y) c.args.shelf.now (g.W.Write.contents c.args.writer.now)
     (g.W.Write.contents c.tell_fault.new.writer) (g.K.Keeper.seen c.args.keeper.now)
     (g.K.Keeper.seen c.args.keeper.now) c.tell_fault.result
     (TellsFault c.args.following.closes c.in-Unread.fault) (λ clean. clean) (λ clean. refl)
+    (λ honest t l. l)
     (λ Writes t tells asking asked. unread_reply g.C.Clock.gives c.args.shelf.now
     c.args.following.closes
     Writes c.in-Unread.fault c.args.clock.now t tells asking
@@ -41,7 +42,8 @@ returns-in-Unread-clause-shown g c = shows_same
 pub returns-in-Does-clause-shown : goal.returns-in-Does-clause-shown
 returns-in-Does-clause-shown g c = shows_as
     (Replies g.C.Clock.gives c.args.shelf.now (reads (Ok c.in-Does.command)) c.args.following.closes
-    c.args.clock.now c.serve_command.new.clock) (g.W.Write.contents c.args.writer.now)
+    c.args.clock.now c.serve_command.new.clock) c.args.shelf.now
+    (g.W.Write.contents c.args.writer.now)
     (g.W.Write.contents c.serve_command.new.writer) (g.K.Keeper.seen c.args.keeper.now)
     (g.K.Keeper.seen c.serve_command.new.keeper) c.serve_command.result
     (λ Writes x y. (asking : Asking) → IsAsked asking c.args.asked →
@@ -55,7 +57,8 @@ returns-in-Does-clause-shown g c = shows_as
 pub returns-in-States-clause-shown : goal.returns-in-States-clause-shown
 returns-in-States-clause-shown g c = shows_as
     (Replies g.C.Clock.gives c.args.shelf.now (states c.in-States.statement) c.args.following.closes
-    c.args.clock.now c.serve_statement.new.clock) (g.W.Write.contents c.args.writer.now)
+    c.args.clock.now c.serve_statement.new.clock) c.args.shelf.now
+    (g.W.Write.contents c.args.writer.now)
     (g.W.Write.contents c.serve_statement.new.writer) (g.K.Keeper.seen c.args.keeper.now)
     (g.K.Keeper.seen c.serve_statement.new.keeper) c.serve_statement.result
     (λ Writes x y. (asking : Asking) → IsAsked asking c.args.asked →

@@ -7,7 +7,7 @@ use Rattle.http_api.specs.Replies.{Replies}
 use Rattle.http_api.proofs.Continuing.{continued_step, leaves_step, held_step}
 use Rattle.http_api.proofs.RequestReplies.{unclocked_reply, failed_reply}
 use Rattle.http_api.proofs.RequestReplies.{served_reply}
-use Rattle.http_api.proofs.ShownReplies.{shows_new, shows_same}
+use Rattle.http_api.proofs.ShownReplies.{shows_new, shows_same, shows_failed}
 use Rattle.http_api.proofs.answering.serve_command.Goals as goal
 
 pub returns-in-Ok-clause-goes_on : goal.returns-in-Ok-clause-goes_on
@@ -39,12 +39,13 @@ returns-in-Err-clause-goes_on g c = record {
 pub returns-in_default-clause-shown : goal.returns-in_default-clause-shown
 returns-in_default-clause-shown g c = shows_same
     (Replies g.C.Clock.gives c.args.shelf.now (reads (Ok c.args.command)) c.args.following.closes
-    c.args.clock.now c.now.new.self) (g.W.Write.contents c.args.writer.now)
+    c.args.clock.now c.now.new.self) c.args.shelf.now (g.W.Write.contents c.args.writer.now)
     (g.W.Write.contents c.tell_unable.new.writer) (g.K.Keeper.seen c.args.keeper.now)
     (g.K.Keeper.seen c.args.keeper.now) c.tell_unable.result
     (λ Writes. Writes (response service_unavailable c.args.following.closes unable))
     (λ clean. clean)
     (λ clean. refl)
+    (λ honest t l. l)
     (λ Writes t w. unclocked_reply g.C.Clock.gives c.args.shelf.now c.args.following.closes Writes
     c.args.command c.args.clock.now c.now.new.self t
     (subst (λ o. g.C.Clock.gives c.args.clock.now o c.now.new.self) c.in_default.is c.now.ensures)
@@ -53,11 +54,15 @@ returns-in_default-clause-shown g c = shows_same
 pub returns-in-Ok-clause-shown : goal.returns-in-Ok-clause-shown
 returns-in-Ok-clause-shown g c = shows_new
     (Replies g.C.Clock.gives c.args.shelf.now (reads (Ok c.args.command)) c.args.following.closes
-    c.args.clock.now c.now.new.self) (g.W.Write.contents c.args.writer.now)
+    c.args.clock.now c.now.new.self) c.args.shelf.now (g.W.Write.contents c.args.writer.now)
     (g.W.Write.contents c.tell_answer.new.writer) (g.K.Keeper.seen c.args.keeper.now)
     (g.K.Keeper.seen c.step.new.keeper) c.tell_answer.result
     (λ Writes. Writes (response ok c.args.following.closes (answer_text c.in-Ok.answer)))
     c.in-Ok.ensures.stands c.in-Ok.ensures.kept.cleanness
+    (λ clean. continued_step c.args.shelf.now c.args.command c.in-Some.moment
+    (g.K.Keeper.seen c.args.keeper.now).tables (g.K.Keeper.seen c.step.new.keeper).tables
+    c.step.result (c.step.ensures.served clean))
+    (λ t clean l. g.met.K.Keeper.settled c.step.new.keeper t clean l)
     (λ Writes clean tells. served_reply g.C.Clock.gives c.args.shelf.now c.args.following.closes
     Writes
     c.args.command c.in-Some.moment c.args.clock.now c.now.new.self
@@ -67,13 +72,14 @@ returns-in-Ok-clause-shown g c = shows_new
     (c.in-Ok.ensures.served clean) tells) c.tell_answer.ensures.ok c.tell_answer.ensures.err
 
 pub returns-in-Err-clause-shown : goal.returns-in-Err-clause-shown
-returns-in-Err-clause-shown g c = shows_same
+returns-in-Err-clause-shown g c = shows_failed
     (Replies g.C.Clock.gives c.args.shelf.now (reads (Ok c.args.command)) c.args.following.closes
-    c.args.clock.now c.now.new.self) (g.W.Write.contents c.args.writer.now)
+    c.args.clock.now c.now.new.self) c.args.shelf.now (g.W.Write.contents c.args.writer.now)
     (g.W.Write.contents c.tell_unable-in-Err.new.writer) (g.K.Keeper.seen c.args.keeper.now)
     (g.K.Keeper.seen c.step.new.keeper) c.tell_unable-in-Err.result
+    (record { moment = c.in-Some.moment; command = c.args.command })
     (λ Writes. Writes (response service_unavailable c.args.following.closes unable))
-    c.in-Err.ensures.kept.cleanness c.in-Err.ensures.kept.err
+    c.in-Err.ensures.kept.cleanness c.in-Err.ensures.kept.err c.in-Err.ensures.left
     (λ Writes t w. failed_reply g.C.Clock.gives c.args.shelf.now c.args.following.closes Writes
     c.args.command c.in-Some.moment c.args.clock.now c.now.new.self t t c.in-Err.field-0
     (subst (λ o. g.C.Clock.gives c.args.clock.now o c.now.new.self) c.in-Some.is c.now.ensures)

@@ -31,12 +31,16 @@ returns-in_err-parser g c =
     (sym (memory_told _ c.from_residual.result c.in_err-parser.ensures
     c.from_residual.ensures.1))
     (none_served g.C.Clock.gives c.args.shelf.now (g.R.Read.remaining c.args.reader.now)
-    c.args.clock.now (g.W.Write.contents c.args.writer.now) (g.K.Keeper.seen c.args.keeper.now))
+    c.args.clock.now (g.W.Write.contents c.args.writer.now) (g.K.Keeper.seen c.args.keeper.now)
+    (g.met.K.Keeper.honesty c.args.keeper.now)
+    (λ t clean l. g.met.K.Keeper.settled c.args.keeper.now t clean l))
 
 pub returns-in_default : goal.returns-in_default
 returns-in_default g c =
     none_served g.C.Clock.gives c.args.shelf.now (g.R.Read.remaining c.args.reader.now)
     c.args.clock.now (g.W.Write.contents c.args.writer.now) (g.K.Keeper.seen c.args.keeper.now)
+    (g.met.K.Keeper.honesty c.args.keeper.now)
+    (λ t clean l. g.met.K.Keeper.settled c.args.keeper.now t clean l)
 
 pub returns : goal.returns
 returns g c =
