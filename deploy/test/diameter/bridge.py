@@ -4,6 +4,7 @@ from __future__ import annotations
 import json
 import os
 import pathlib
+import re
 import signal
 import socket
 import socketserver
@@ -251,11 +252,20 @@ class Bridge:
         return one
 
     def memory(self) -> int:
-        """Its resident KiB."""
+        """Its KiB, resident and swapped out."""
         assert self.process
-        asked = ["ps", "--no-headers", "-o", "rss", "-g", str(self.process.pid)]
+        asked = ["ps", "--no-headers", "-o", "pid", "-g", str(self.process.pid)]
         told = subprocess.run(asked, capture_output=True, text=True, check=True).stdout
-        return max(map(int, told.split()))
+        return max(map(held, told.split()))
+
+
+def held(process: str) -> int:
+    """The KiB of a process, resident and swapped out; 0 where it has ended."""
+    try:
+        text = pathlib.Path(f"/proc/{process}/status").read_text()
+    except OSError:
+        return 0
+    return sum(map(int, re.findall(r"^Vm(?:RSS|Swap):\s+(\d+) kB$", text, re.M)))
 
 
 def built(place: pathlib.Path) -> pathlib.Path:

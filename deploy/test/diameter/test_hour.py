@@ -152,7 +152,7 @@ def calls(home: pathlib.Path, tmp_path: pathlib.Path, clock: Clock) -> Iterator[
 
 
 def watched(calls: Calls, clock: Clock, process: subprocess.Popen[bytes]) -> list[int]:
-    """The bridge's resident KiB, every ten seconds until the calls have ended. It reads its
+    """The bridge's KiB, every ten seconds until the calls have ended. It reads its
     configuration again when the later book has begun."""
     memory, began, is_read = list[int](), time.monotonic(), False
     while process.poll() is None:
@@ -186,7 +186,7 @@ def test_calls_over_a_change_of_the_clock_and_a_later_book(calls: Calls, clock: 
         f" change and {later} over the later book's begin, {len(rows)} requests,"
         f" {answers.count('2001')} answered 2001, {sum(row.used for row in rows)} s reported,"
         f" {charged} micro-units charged; {count} frames, {len(bad)} malformed, {lengths} with"
-        f" Kamailio's length; resident KiB {early:.0f}, then {late:.0f}; sipp {process.returncode}"
+        f" Kamailio's length; KiB {early:.0f}, then {late:.0f}; sipp {process.returncode}"
     )
     print(told)
     assert set.union(*map(clock.prices, rows)) == set(PRICES) and over and later, told
