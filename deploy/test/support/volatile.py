@@ -13,6 +13,7 @@ import struct
 import subprocess
 import sys
 import threading
+from collections.abc import Sequence
 
 SECTOR = 512
 MAGIC, OPTIONS, REPLY = 0x4E42444D41474943, 0x49484156454F5054, 0x3E889045565A9
@@ -26,21 +27,25 @@ FATES = ("kept", "lost", "torn")
 
 
 class Disk:
-    """The process, started for each time that the disk has power."""
+    """The process, started for each time that the disk has power. It listens at a path, or at an
+    address and a port; `inside` are the words before its own where it isn't to be where this process
+    is."""
 
-    def __init__(self, file: pathlib.Path) -> None:
-        self.file, self.socket = file, file.with_suffix(".nbd")
+    def __init__(
+        self, file: pathlib.Path, inside: Sequence[str] = (), address: str | None = None
+    ) -> None:
+        self.file, self.inside = file, inside
+        self.where = address or str(file.with_suffix(".nbd"))
         self.process: subprocess.Popen[str] | None = None
 
     def start(self) -> str:
         """Gives it power; the source that a machine plugs in."""
-        self.socket.unlink(missing_ok=True)
-        words = [sys.executable, __file__, str(self.file), str(self.socket)]
+        words = [*self.inside, sys.executable, __file__, str(self.file), self.where]
         pipe = subprocess.PIPE
         self.process = subprocess.Popen(words, stdin=pipe, stdout=pipe, text=True)
         assert self.process.stdout
         self.process.stdout.readline()
-        return f"nbd:{self.socket}"
+        return f"nbd:{self.where}"
 
     def cut(self, fate: str, seed: int) -> int:
         """Its power is cut; how many writes weren't flushed."""
@@ -171,17 +176,29 @@ def serve(peer: socket.socket, cache: Cache) -> None:
         peer.sendall(struct.pack(">IIQ", ANSWER, 0, cookie) + data)
 
 
-def main() -> None:
-    """Serves one client after another: FILE SOCKET."""
-    cache = Cache(sys.argv[1])
+def listener(where: str) -> socket.socket:
+    """Listens at a path, or at an address and a port."""
+    address, _, port = where.rpartition(":")
+    if address:
+        return socket.create_server((address, int(port)))
+    pathlib.Path(where).unlink(missing_ok=True)
     door = socket.socket(socket.AF_UNIX)
-    door.bind(sys.argv[2])
+    door.bind(where)
     door.listen()
+    return door
+
+
+def main() -> None:
+    """Serves one client after another: FILE PATH, or FILE ADDRESS:PORT."""
+    cache = Cache(sys.argv[1])
+    door = listener(sys.argv[2])
     threading.Thread(target=obey, args=(cache,), daemon=True).start()
     print("ready", flush=True)
     while True:
         peer, _ = door.accept()
         with peer:
+            if peer.family == socket.AF_INET:
+                peer.setsockopt(socket.IPPROTO_TCP, socket.TCP_NODELAY, 1)
             try:
                 greet(peer, cache)
                 serve(peer, cache)
