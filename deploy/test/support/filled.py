@@ -5,7 +5,7 @@ import pathlib
 import random
 
 from support.gateways import Door, Gateways
-from support.served import BOOKS, FIRST, Served
+from support.served import BOOKS, FIRST, GATEWAYS, Served
 from support.uncut import Uncut
 
 # Of the engine: a log's header, a frame's with its page; frames until the log is written back.
@@ -22,7 +22,7 @@ class Filled:
         uncut = Uncut(place, BOOKS[0])
         uncut.start(FIRST)
         try:
-            self.gateways = Gateways(uncut.connect, gateways=6, each=3, seed="filled")
+            self.gateways = Gateways(uncut.connect, GATEWAYS, each=3, seed="filled")
             self.gateways.open()
             self.fill(uncut)
             self.files = uncut.files()

@@ -16,9 +16,11 @@ from support.gateways import BOOK, Gateways
 from support.turns import Turns
 from support.uncut import Rows, Uncut, rows_of
 
+GATEWAYS = 8
 FIRST, STEP, VALIDITY = 1_767_607_200, 600, 3600
 BOOKS = [BOOK.format(validity=VALIDITY, price=price) for price in (90000, 80000)]
-MAKE = {"ext4": "mkfs.ext4 -q -F", "xfs": "mkfs.xfs -q -f"}
+# Blocks that nobody has used aren't written: a mirror would write them on both disks.
+MAKE = {"ext4": "mkfs.ext4 -q -F -E nodiscard", "xfs": "mkfs.xfs -q -f -K"}
 # Another process may still have the file system of a disk that has gone, in mounts of its own.
 MOUNT = {"ext4": "mount", "xfs": "mount -o nouuid"}
 SERVE = """
@@ -64,7 +66,7 @@ class Served:
 
     def __init__(self, place: pathlib.Path, turns: Turns, kind: str) -> None:
         self.uncut, self.turns = Uncut(place, BOOKS[0]), turns
-        self.gateways = Gateways(self.turns.connect, gateways=6, each=3, seed=kind)
+        self.gateways = Gateways(self.turns.connect, GATEWAYS, each=3, seed=kind)
         self.kind = kind
         self.moment, self.header = FIRST, b""
         # The moment of a book that is being added; what happened so far.

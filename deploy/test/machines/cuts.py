@@ -1,0 +1,55 @@
+"""Cuts of a pair's power, one after another: of the machine that serves, or of the other."""
+from __future__ import annotations
+
+import contextlib
+import pathlib
+import time
+from collections.abc import Iterator
+
+from machines.pair import Pair
+
+# Each third cut comes while a book is added, each fourth is the second machine's, and after each
+# tenth both disks are compared.
+BOOK, SECOND, COMPARED = 3, 4, 10
+
+
+def rounds(place: pathlib.Path, kind: str, count: int) -> None:
+    """So many cuts, and in the end each acknowledged command is asked again."""
+    with standing(place, kind) as pair:
+        pair.begin()
+        pair.served.gateways.start()
+        for at in range(1, count + 1):
+            began = time.monotonic()
+            one_round(pair, at)
+            print(f"{kind}: cut {at}, {time.monotonic() - began:.0f} s", flush=True)
+        gateways = pair.served.gateways
+        gateways.end()
+        pair.verify()
+        gateways.end()
+        gateways.settle()
+        assert gateways.repeat() == gateways.answered
+        told = f"{pair.served.counts()}, {pair.unflushed} writes that weren't flushed"
+        print(f"{kind}: {count} cuts, {told}", flush=True)
+
+
+def one_round(pair: Pair, at: int) -> None:
+    """A machine is cut, and comes back."""
+    pair.ask()
+    victim = pair.second if at % SECOND == 0 else pair.serving
+    if at % BOOK == 0 and victim is pair.serving:
+        pair.add_book()
+    pair.lose(victim)
+    pair.come_back(victim)
+    if at % COMPARED == 0:
+        pair.verify()
+
+
+@contextlib.contextmanager
+def standing(place: pathlib.Path, kind: str) -> Iterator[Pair]:
+    """A pair that is made; it goes in the end."""
+    pair = Pair(place, kind)
+    try:
+        pair.make()
+        yield pair
+    finally:
+        pair.end()
