@@ -43,6 +43,10 @@ class Here:
         """Where the shard is asked."""
         return f"127.0.0.1:{self.layout.port}"
 
+    def disk(self, file: pathlib.Path) -> Disk:
+        """A disk that this machine may have."""
+        return Disk(file)
+
     def start(self, disk: Disk) -> str:
         """The disk gets power; the device of the kernel that it is. The shard has a port of its own
         each time."""

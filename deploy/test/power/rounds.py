@@ -35,6 +35,9 @@ class Powered(Protocol):
     def where(self) -> str:
         """Where it is asked."""
 
+    def disk(self, file: pathlib.Path) -> Disk:
+        """A disk that it may have."""
+
     def start(self, disk: Disk) -> str:
         """Gives all power; the disk's device."""
 
@@ -74,7 +77,7 @@ class Drill:
     """A disk, the shard on it, and what happens to it."""
 
     def __init__(self, place: pathlib.Path, powered: Powered, kind: str) -> None:
-        self.powered, self.disk = powered, Disk(place / "disk.img")
+        self.powered, self.disk = powered, powered.disk(place / "disk.img")
         self.served = Served(place, powered.turns, kind)
         self.chance, self.unflushed = random.Random(f"{kind} {place.name}"), 0
 

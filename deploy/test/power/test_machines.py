@@ -1,0 +1,35 @@
+"""The power of a machine is cut while it serves a shard, on ext4 and on XFS: Debian's kernel as a
+program (user-mode-linux) ends with its file system, its memory and the program, and its disk keeps
+all, nothing or some sectors of what it wasn't told to flush.
+
+OFFICE_CUTS has another number of cuts."""
+from __future__ import annotations
+
+import os
+import pathlib
+
+import pytest
+from power.rounds import rounds
+from power.there import There
+from support.served import MAKE
+
+CUTS, QUICK = int(os.environ.get("OFFICE_CUTS", "20")), 2
+
+
+@pytest.mark.slow
+@pytest.mark.parametrize("kind", MAKE)
+def test_what_was_answered_outlives_a_machine(tmp_path: pathlib.Path, kind: str) -> None:
+    cut(tmp_path, kind, CUTS)
+
+
+def test_what_was_answered_outlives_two_cuts(tmp_path: pathlib.Path) -> None:
+    cut(tmp_path, "xfs", QUICK)
+
+
+def cut(place: pathlib.Path, kind: str, count: int) -> None:
+    """So many cuts of a machine."""
+    there = There(place)
+    try:
+        rounds(place, there, kind, count)
+    finally:
+        there.end()
