@@ -51,8 +51,10 @@ OTHERS = {
     "holds": "SELECT * FROM holds WHERE amount > 0 ORDER BY account",
 }
 # Ways of one account that are gone at once, and moments that are tried for one command.
-MOST_WAYS, MOST_MOMENTS = 64, 400
+MOST_WAYS, MOST_MOMENTS = 64, 500
 DAY = 86_400
+# Seconds in which changes of a period are looked for, where a moment may be one of years.
+SPAN = 30 * DAY
 
 
 def findings(shard: str, database: Database) -> Iterator[Finding]:
@@ -206,7 +208,13 @@ class Ways:
         found = {book.starts for book in self.shelf}
         found |= {edge for one in way.buckets for edge in (one.starts, one.ends)}
         found |= {session.ends for session in way.sessions.values() if session.is_open}
-        found |= set(self.edges(first, last, answer))
+        spans = [(first, last)]
+        if not first:
+            # No row tells it, as of what comes first behind a carry: near the last one, or the bucket.
+            begun = max((one.starts for one in way.buckets if one.starts <= last), default=0)
+            spans = [(begun, min(begun + SPAN, last)), (max(0, last - SPAN), last)]
+        for span in spans:
+            found |= set(self.edges(*span, answer))
         yield from sorted(moment for moment in found if first < moment <= last)
 
     def edges(self, first: int, last: int, answer: Any) -> Iterator[int]:
