@@ -5,7 +5,6 @@ The words `diameter` and `credited` use it. A call a bridge."""
 from __future__ import annotations
 
 import dataclasses
-import http.client
 import json
 
 from office import schema
@@ -32,7 +31,10 @@ class Diameter:
 
 def credited(bridge: str, account: str) -> int | None:
     """Tells a bridge that an account has got something: the sessions whose gateways it tells, or
-    none where it doesn't answer."""
+    none where it doesn't answer. HTTP is a third of what a word takes to begin, and every word reads
+    this module, so it is imported here."""
+    import http.client
+
     address, _, port = bridge.partition(":")
     connection = http.client.HTTPConnection(address, int(port), timeout=SECONDS)
     body = json.dumps({"Account": account})
