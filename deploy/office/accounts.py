@@ -19,12 +19,12 @@ NO_END = 4_102_444_800
 BUCKETS = """
     SELECT b.*, b.scope IS NOT NULL AND a.number IS NOT NULL AS is_blocks
     FROM buckets b LEFT JOIN allowance_buckets a USING (account, number)
-    ORDER BY b.account, b.number"""
+    {where} ORDER BY b.account, b.number"""
 HELD = """
     SELECT h.account, h.bucket, h.amount, s.session, s.touched
     FROM holds h JOIN session_groups g USING (account, session, rating_group)
     JOIN sessions s USING (account, session)
-    WHERE g.reserved = 1 AND s.state = 1"""
+    WHERE g.reserved = 1 AND s.state = 1 {more}"""
 OPEN = "SELECT account, session, touched FROM sessions WHERE state = 1 ORDER BY account, session"
 
 
@@ -49,10 +49,11 @@ class Bucket:
         return self.credited, self.available, self.reserved, self.charged, self.expired
 
 
-def buckets(database: Database, moment: int) -> Iterator[Bucket]:
-    """All buckets by account and number, as they stand at a moment."""
-    released = dict(over(database, moment))
-    for row in database.rows(BUCKETS):
+def buckets(database: Database, moment: int, account: str = "") -> Iterator[Bucket]:
+    """All buckets by account and number, as they stand at a moment; of one account, where it is named."""
+    released = dict(over(database, moment, account))
+    where, values = ("WHERE b.account = ?", (account,)) if account else ("", ())
+    for row in database.rows(BUCKETS.format(where=where), *values):
         free = released.get((row["account"], row["number"]), 0)
         available, reserved = row["available"] + free, row["reserved"] - free
         expired = row["expired"]
@@ -63,11 +64,14 @@ def buckets(database: Database, moment: int) -> Iterator[Bucket]:
         yield Bucket(**row)
 
 
-def over(database: Database, moment: int) -> Iterator[tuple[tuple[str, int], int]]:
+def over(
+    database: Database, moment: int, account: str = ""
+) -> Iterator[tuple[tuple[str, int], int]]:
     """What sessions that are over at a moment still hold, by account and bucket."""
     held = collections.Counter[tuple[str, int]]()
     shelf = books.shelf(database)
-    for row in database.rows(HELD):
+    more, values = ("AND h.account = ?", (account,)) if account else ("", ())
+    for row in database.rows(HELD.format(more=more), *values):
         if moment >= end_of(shelf, row["touched"]):
             held[row["account"], row["bucket"]] += row["amount"]
     yield from held.items()

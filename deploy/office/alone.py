@@ -16,6 +16,7 @@ import time
 from collections.abc import Iterator
 
 from office import clock, places, units
+from office.archive import known
 from office.faults import Refused
 from office.machines import pacemaker
 from office.settings import Settings
@@ -29,6 +30,7 @@ GUARD = """\
 if [ ! -e "$1" ] && [ -e "$1.next" ]; then
     rm -f "$1-wal" "$1-shm" && mv "$1.next" "$1"
 fi
+rm -f "$3"
 exec systemctl start "$2"
 """
 LISTENING = "0A"
@@ -42,34 +44,49 @@ class Pause:
 
 
 @contextlib.contextmanager
-def alone(settings: Settings, shard: Shard) -> Iterator[Pause]:
+def alone(settings: Settings, shard: Shard, *, is_held: bool = False) -> Iterator[Pause]:
     """The shard stands still meanwhile; how long its requests waited is said on standard error. A
-    shard that wasn't up stays so. With two machines Pacemaker has to leave its unit alone."""
+    shard that wasn't up stays so. With two machines Pacemaker has to leave its unit alone.
+
+    Where its requests are `held`, HAProxy decides where each goes once the word has ended, and none is
+    on its way to the shard meanwhile."""
     if settings.machines and units.is_active(shard) and not pacemaker.leaves(shard):
         raise Refused(
             f"Pacemaker would start {shard.unit} again: first `{pacemaker.leave(shard)}`, and "
             f"afterwards `{pacemaker.take(shard)}`"
         )
     with held(settings, shard) as lock:
-        places.settle(settings, shard)
+        settle(settings, shard)
         pause = Pause()
         if not units.is_active(shard):
-            yield pause
+            with known.held(settings, shard) if is_held else contextlib.nullcontext():
+                yield pause
             return
         # It is up, so it may come up again, by whatever clock this is.
         clock.mean(shard)
-        guard = set_guard(shard, lock)
+        guard = set_guard(settings, shard, lock)
         begun = time.monotonic()
         try:
+            if is_held:
+                known.hold(settings, shard)
             units.systemctl("stop", shard.unit)
             yield pause
         finally:
             with units.undisturbed():
+                known.release(settings, shard)
                 units.systemctl("start", shard.unit)
                 units.systemctl("stop", guard)
         wait_until_up(shard)
         pause.seconds = time.monotonic() - begun
         print(f"{shard}: requests waited {pause.seconds:.1f} s", file=sys.stderr)
+
+
+def settle(settings: Settings, shard: Shard) -> None:
+    """Puts right what a word that was killed left of a shard."""
+    gone = places.settle(settings, shard)
+    known.release(settings, shard)
+    for name in gone:
+        known.drop(settings, name)
 
 
 @contextlib.contextmanager
@@ -102,11 +119,12 @@ def take(lock: int, shard: Shard) -> None:
         time.sleep(EACH)
 
 
-def set_guard(shard: Shard, lock: pathlib.Path) -> str:
+def set_guard(settings: Settings, shard: Shard, lock: pathlib.Path) -> str:
     """A unit that waits for the lock and then starts the shard; its name."""
     name = f"office-guard-{shard}-{os.getpid()}-{time.monotonic_ns()}.service"
     told = f"--description=Starts {shard.unit} when the word that stopped it has ended"
     waits = ["flock", str(lock), "sh", "-c", GUARD, "sh", str(shard.database), shard.unit]
+    waits.append(str(known.held_of(settings, shard)))
     units.run("systemd-run", "--quiet", "--collect", f"--unit={name}", told, *waits)
     return name
 

@@ -31,6 +31,7 @@ class Answer:
     shard: str  # its number, 01 to 99
     text: str
     request: str  # the id under which the doors' log has it
+    archive: str = ""  # the name of the archive that has it, where it is one of before a carry
 
     @functools.cached_property
     def body(self) -> Body:
@@ -67,7 +68,7 @@ class Client:
     """A connection to the scripts' door, made anew when it ends. For one thread."""
 
     def __init__(self, settings: Settings, *, patience: float = 0.0) -> None:
-        waits = settings.waits
+        self.settings, waits = settings, settings.waits
         seconds = waits.request + waits.start + waits.queue + waits.answer + 5
         self.path, self.patience = settings.scripts(), patience
         self.connection = SocketConnection(self.path, seconds)
@@ -109,8 +110,9 @@ class Client:
             raise Unanswered(f"{asked}: {answer.status} {told.strip()[:200]}")
         if answer.status != 200 and not (answer.status == 400 and "Result-Code" in told):
             raise TurnedAway(asked, answer.status, told)
-        shard, request = answer.getheader("Office-Shard", ""), answer.getheader("X-Request-Id", "")
-        return Answer(answer.status, shard, told, request)
+        names = ("Office-Shard", "X-Request-Id", "Office-Archive")
+        shard, request, archive = (answer.getheader(name, "") for name in names)
+        return Answer(answer.status, shard, told, request, archive)
 
     def close(self) -> None:
         """Ends the connection."""

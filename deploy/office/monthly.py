@@ -1,7 +1,8 @@
 """A file an account of all shards, for a month: what `office statements` and `office exports` share.
 
 Each shard is copied once, and its accounts are written in one pass. A shard's folder takes its name
-when it is whole, so the same words again make those that are left."""
+when it is whole, so the same words again make those that are left. What archives have of the month is
+in the texts too (`archive.months`); that costs a look at each archive for each account."""
 from __future__ import annotations
 
 import argparse
@@ -13,6 +14,8 @@ import time
 from collections.abc import Callable, Iterable
 
 from office import civil, copies, options, shards
+from office.archive import past
+from office.archive.months import Months
 from office.faults import Refused
 from office.progress import shown
 from office.settings import Settings
@@ -59,13 +62,22 @@ def of_shard(
         part.mkdir(parents=True)
     except OSError as fault:
         raise Refused(f"{part}: {fault.strerror}") from fault
-    count = 0
-    with copies.made(settings, [shard]) as copied, opened(copied[0]) as database:
+    count, months = 0, Months()
+    with (
+        copies.made(settings, [shard]) as copied,
+        opened(copied[0]) as database,
+        past.opened_parts(past.files(settings)) as parts,
+    ):
         moment, total = max(int(time.time()), database.last_moment), accounts(database)
+        with_past = months.export if ending == "csv" else months.statement
         for account, text in shown(f"{shard}", texts(database, month, moment), total):
-            if homes.home(account) == shard:
-                (part / f"{account}.{ending}").write_text(text, encoding="utf-8")
-                count += 1
+            if homes.home(account) != shard:
+                continue
+            own = past.of_account(parts, account)
+            if months.is_past(own, account, month):
+                text = with_past(own, account, month, database, moment)
+            (part / f"{account}.{ending}").write_text(text, encoding="utf-8")
+            count += 1
     os.replace(part, made)
     return count
 

@@ -69,16 +69,19 @@ def discard(database: pathlib.Path) -> None:
         database.with_name(database.name + end).unlink(missing_ok=True)
 
 
-def settle(settings: Settings, shard: Shard) -> None:
+def settle(settings: Settings, shard: Shard) -> list[str]:
     """Puts right what a word that was killed left: its archive has its name where the new database
-    took the shard's place, and goes with the new one where it didn't."""
-    next_one = next_of(shard)
+    took the shard's place, and goes with the new one where it didn't. The names of those that went.
+    """
+    next_one, gone = next_of(shard), list[str]()
     if next_one.exists() and shard.database.exists():
         for path in turning(settings, shard):
+            gone.append(path.name.removesuffix(f".db{TURNING}"))
             path.unlink()
         next_one.unlink()
     finish(settings, shard)
     discard(new_of(shard))
+    return gone
 
 
 def finish(settings: Settings, shard: Shard) -> None:

@@ -75,3 +75,13 @@ def readable(path: pathlib.Path) -> Iterator[pathlib.Path]:
         made.write_bytes(content)
         os.chmod(made, 0o644)
         yield made
+
+
+@contextlib.contextmanager
+def written(text: str) -> Iterator[pathlib.Path]:
+    """A file with a text, which the databases' owner may read."""
+    with tempfile.TemporaryDirectory() as folder:
+        path = pathlib.Path(folder) / "file"
+        path.write_text(text, encoding="utf-8")
+        with readable(path) as made:
+            yield made

@@ -79,6 +79,35 @@ def process(settings: Settings) -> str:
     return next((line[5:] for line in lines if line.startswith("Pid: ")), "")
 
 
+def alone(settings: Settings) -> None:
+    """Waits until the process at the doors is the only one. One that was replaced ends its requests
+    first, by the files as it read them; `hard-stop-after` of the configuration bounds it."""
+    waits = settings.waits
+    end = time.monotonic() + waits.queue + waits.start + waits.answer + SECONDS
+    while older := others(settings):
+        if time.monotonic() > end:
+            told = " ".join(map(str, older))
+            raise Refused(f"HAProxy was reloaded, and processes of before haven't ended: {told}")
+        time.sleep(0.05)
+
+
+def others(settings: Settings) -> list[int]:
+    """The processes of HAProxy's unit beside its master and the one at the doors."""
+    here = process(settings)
+    try:
+        asked = ("show", "--property", "MainPID,ControlGroup", UNIT)
+        rows = units.systemctl(*asked).splitlines()
+    except Refused:
+        return []
+    told = dict(row.split("=", 1) for row in rows if "=" in row)
+    group = pathlib.Path("/sys/fs/cgroup") / told.get("ControlGroup", "").lstrip("/")
+    path = group / "cgroup.procs"
+    if not here or not told.get("ControlGroup") or not path.exists():
+        return []
+    mine = {told.get("MainPID"), here}
+    return [int(each) for each in path.read_text(encoding="ascii").split() if each not in mine]
+
+
 def up(settings: Settings, is_changed: bool) -> str:
     """Starts HAProxy, or has it read a configuration that was changed; what was done."""
     if units.systemctl("show", "--property", "ActiveState", "--value", UNIT).strip() == "active":

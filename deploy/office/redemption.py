@@ -13,8 +13,10 @@ from collections.abc import Iterable
 from office.client import Answer, Client
 from office.faults import Refused
 from office.settings import Settings
+from office.tables import opened
 
 UNKNOWN = {"Refusal": "O3"}
+BUCKET = "SELECT credited, ends, scope FROM buckets WHERE account = ? AND number = ?"
 
 
 def redeem(
@@ -29,7 +31,7 @@ def redeem(
     for clearing in clearings:
         answer = redeemed(client, code, clearing, f"voucher-{code}-{account}")
         if "Bucket" in answer.body:
-            return credited(client, code, account, clearing, answer.body["Bucket"])
+            return credited(client, code, account, clearing, answer)
         if answer.body != UNKNOWN:
             return answer
     return answer
@@ -41,14 +43,26 @@ def redeemed(client: Client, code: str, account: str, reference: str) -> Answer:
     return client.ask("POST", f"/vouchers/{code}/redeem", body)
 
 
-def credited(client: Client, code: str, account: str, clearing: str, number: int) -> Answer:
-    """The answer to a credit of what the code brought to a clearing account as this bucket."""
+def credited(client: Client, code: str, account: str, clearing: str, cleared: Answer) -> Answer:
+    """The answer to a credit of what the code brought to a clearing account."""
+    amount, until, scope = brought(client, clearing, cleared)
+    body = {"Amount": amount, "Until": until, "Reference": f"voucher-{code}"}
+    if scope is not None:
+        body["Scope"] = scope
+    return client.ask("POST", f"/accounts/{account}/credits", body)
+
+
+def brought(client: Client, clearing: str, cleared: Answer) -> tuple[int, int, int | None]:
+    """Amount, end and scope of the bucket of a redemption. One of before a carry has its number in the
+    archive, where it is as it was made."""
+    number = cleared.body["Bucket"]
+    if cleared.archive:
+        path = pathlib.Path(client.settings.keeping.archive) / f"{cleared.archive}.db"
+        with opened(path, is_still=True) as database:
+            return tuple(next(database.rows(BUCKET, clearing, number)).values())  # type: ignore[return-value]
     balance = client.ask("GET", f"/accounts/{clearing}").body
     bucket = next(one for one in balance["Buckets"] if one["Number"] == number)
-    body = {"Amount": bucket["Credited"], "Until": bucket["Until"], "Reference": f"voucher-{code}"}
-    if "Scope" in bucket:
-        body["Scope"] = bucket["Scope"]
-    return client.ask("POST", f"/accounts/{account}/credits", body)
+    return bucket["Credited"], bucket["Until"], bucket.get("Scope")
 
 
 def clearings(settings: Settings) -> list[str]:

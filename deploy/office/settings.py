@@ -13,6 +13,7 @@ from typing import Protocol
 
 from office import cluster, schema
 from office.agent.table import Agent
+from office.archive.table import Archive
 from office.bridges import Diameter
 from office.cluster import Cluster, Machine
 from office.faults import Unread
@@ -201,6 +202,7 @@ class Settings:
     tls: Tls = schema.one(Tls)
     measures: Measures = schema.one(Measures)
     agent: Agent = schema.one(Agent)
+    archive: Archive = schema.one(Archive)
     diameter: Diameter = schema.one(Diameter)
     cluster: Cluster = schema.one(Cluster)
     # Without one, `first_doors`: on this machine alone, without certificates.

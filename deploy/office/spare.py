@@ -42,10 +42,12 @@ class Spare:
 
 
 @contextlib.contextmanager
-def served(settings: Settings, database: pathlib.Path, *more: object) -> Iterator[Spare]:
-    """A database that nobody else serves, on the spare port meanwhile; `more` are options of
-    `ocs serve`."""
-    port = settings.keeping.spare_port
+def served(
+    settings: Settings, database: pathlib.Path, *more: object, port: int = 0
+) -> Iterator[Spare]:
+    """A database that nobody else serves, on the spare port (or another one) meanwhile; `more` are
+    options of `ocs serve`."""
+    port = port or settings.keeping.spare_port
     words = ["setpriv", "--pdeathsig", "KILL", settings.office.program, "serve", str(database)]
     words += ["--port", str(port), "--connections", str(CONNECTIONS), *map(str, more)]
     pipe, owner = subprocess.PIPE, program.as_owner(settings)

@@ -41,7 +41,12 @@ def statements(database: Database, month: str, moment: int) -> Iterator[tuple[st
 def exports(database: Database, month: str) -> Iterator[tuple[str, str]]:
     """Each account with the charges of its month as CSV."""
     for account, charges in with_charges(database, month):
-        yield account, "\n".join([EXPORT, *map(record, charges)]) + "\n"
+        yield account, export(charges)
+
+
+def export(charges: Iterable[Row]) -> str:
+    """Charges as CSV."""
+    return "\n".join([EXPORT, *map(record, charges)]) + "\n"
 
 
 class Merged:
@@ -76,14 +81,6 @@ def with_charges(database: Database, month: str) -> Iterator[tuple[str, list[Row
             charges = list(pair[1])
             pair = next(by_account, None)
         yield account, charges
-
-
-def has_charges(database: Database, account: str, month: str) -> bool:
-    """Whether an account has charges in a month."""
-    zone = books.shelf(database)[0].zone
-    asked = "SELECT moment FROM charges WHERE account = ? AND moment BETWEEN ? AND ?"
-    moments = database.rows(asked, account, *around(zone, month))
-    return any(zone.month(row["moment"]) == month for row in moments)
 
 
 def around(zone: Zone, month: str) -> tuple[int, int]:

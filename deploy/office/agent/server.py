@@ -49,29 +49,33 @@ class Server(socketserver.ThreadingMixIn, socketserver.UnixStreamServer):
     def __init__(self, path: pathlib.Path, office: Office) -> None:
         self.office = office
         super().__init__(str(path), Handler, bind_and_activate=False)
-        if os.environ.get("LISTEN_PID") == str(os.getpid()):
-            self.socket.close()
-            self.socket = socket.socket(fileno=GIVEN)
-        else:
-            self.open(path)
-
-    def open(self, path: pathlib.Path) -> None:
-        """Opens a socket that HAProxy's group may use."""
-        make_way(path)
-        before = os.umask(0o117)
-        try:
-            self.server_bind()
-            self.server_activate()
-            give(self.office.settings, path)
-        except OSError as fault:
-            raise Refused(f"{path}: {fault.strerror or fault}") from fault
-        finally:
-            os.umask(before)
+        take_or_open(self, office.settings, path)
 
     def handle_error(self, request: Any, client_address: Any) -> None:
         """A peer that went away is no fault; anything else is a mistake of ours."""
         if not isinstance(sys.exc_info()[1], (ConnectionError, TimeoutError)):
             traceback.print_exc()
+
+
+def take_or_open(
+    server: socketserver.UnixStreamServer, settings: Settings, path: pathlib.Path
+) -> None:
+    """Takes systemd's socket, where the unit was started by one, which keeps requests while the
+    process starts; else opens one that HAProxy's group may use."""
+    if os.environ.get("LISTEN_PID") == str(os.getpid()):
+        server.socket.close()
+        server.socket = socket.socket(fileno=GIVEN)
+        return
+    make_way(path)
+    before = os.umask(0o117)
+    try:
+        server.server_bind()
+        server.server_activate()
+        give(settings, path)
+    except OSError as fault:
+        raise Refused(f"{path}: {fault.strerror or fault}") from fault
+    finally:
+        os.umask(before)
 
 
 class Handler(http.server.BaseHTTPRequestHandler):
@@ -130,7 +134,7 @@ def make_way(path: pathlib.Path) -> None:
             if fault.errno == errno.ECONNREFUSED:
                 path.unlink(missing_ok=True)
             return
-    raise Refused(f"an agent listens at {path} already")
+    raise Refused(f"somebody listens at {path} already")
 
 
 def give(settings: Settings, path: pathlib.Path) -> None:

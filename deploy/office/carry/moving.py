@@ -20,16 +20,18 @@ import pathlib
 import time
 from collections.abc import Iterator
 
-from office import copies, operate, program, proxy, units
+from office import copies, operate, places, program, proxy, units
 from office.alone import alone
-from office.carry import repeats, runtime
+from office.archive import known, past
+from office.carry import runtime
 from office.carry.plan import Plan, Request
 from office.client import Answer, Body, Client, compact
 from office.faults import Refused
 from office.progress import shown
+from office.scratch import scratch
 from office.settings import Settings
 from office.shards import Shard, named
-from office.tables import opened
+from office.tables import Database, opened
 
 THERE, DONE = {"Refusal": "O1"}, 2001
 PATIENCE = 60.0
@@ -47,6 +49,8 @@ class Note:
     barred: list[str]
     requests: list[Request]
     buckets: dict[str, list[Body]]  # what each account has then, by `shape`
+    archive: str  # the name of the archive that their rows go to
+    process: str  # of HAProxy, which has the accounts wait
 
 
 def note_of(settings: Settings) -> pathlib.Path:
@@ -105,6 +109,7 @@ def guarded(lock: pathlib.Path, arguments: argparse.Namespace) -> Iterator[None]
 def finish(settings: Settings, client: Client) -> None:
     """Ends what a move that was killed has begun, or takes it back."""
     path, there = note_of(settings), runtime.entries(settings)
+    proxy.alone(settings)
     moving = [account for account, value in there.items() if value == runtime.MOVING]
     if path.exists():
         note = Note(**json.loads(path.read_text(encoding="utf-8")))
@@ -113,6 +118,9 @@ def finish(settings: Settings, client: Client) -> None:
         else:
             # HAProxy was started anew meanwhile: its requests went where the file says.
             path.unlink()
+    for left in pathlib.Path(settings.keeping.archive).glob(f"*-to-*.db{places.TURNING}"):
+        left.unlink()
+        known.drop(settings, left.name.removesuffix(f".db{places.TURNING}"))
     runtime.settle(settings, moving)
 
 
@@ -136,6 +144,8 @@ def held(
 ) -> tuple[Note, list[str]]:
     """Holds the requests of accounts, and notes what is to be done for those that can move; the others
     go on, with a line each."""
+    proxy.alone(settings)
+    process = proxy.process(settings)
     there, why = runtime.entries(settings), dict[str, str]()
     try:
         for account in those:
@@ -147,13 +157,14 @@ def held(
                 why[account] = f"{account} stays: it has rows in shard {target} already"
         with copies.made(settings, [source]) as made, opened(made[0]) as database:
             plan = Plan(database, int(time.time()), lambda account: account in set(those))
-            for one in repeats.expected(settings, database):
-                why.setdefault(one.split()[0], f"{one} stays: its answer didn't arrive")
-        for session in plan.sessions:
-            why.setdefault(
-                session.split()[0], f"{session.split()[0]} stays: live session {session}"
-            )
-        note = noted(plan, source, target, [one for one in plan.accounts if one not in why])
+            for session in plan.sessions:
+                account = session.split()[0]
+                why.setdefault(account, f"{account} stays: live session {session}")
+            name = past.name_of_move(settings, str(source), str(target), plan.at)
+            free = [one for one in plan.accounts if one not in why]
+            note = noted(plan, source, target, free, name, process)
+            if free:
+                archive(settings, database, note)
         write(settings, note)
     except BaseException:
         runtime.settle(settings, those)
@@ -173,7 +184,50 @@ def drain(settings: Settings, source: Shard) -> None:
         time.sleep(EACH)
 
 
-def noted(plan: Plan, source: Shard, target: Shard, those: list[str]) -> Note:
+def archive(settings: Settings, database: Database, note: Note) -> None:
+    """Keeps the rows of the accounts of a note, under a name that isn't an archive's yet."""
+    path = archive_of(settings, note)
+    folder = path.parent
+    folder.mkdir(mode=0o750, parents=True, exist_ok=True)
+    program.give(settings, folder)
+    with scratch(folder, ".move-") as place:
+        program.give(settings, place)
+        made = place / "rows.db"
+        past.extract(settings, database, note.accounts, made)
+        copies.make_whole(made, path)
+    os.chmod(path, 0o440)
+    program.give(settings, path)
+    copies.sync(folder)
+
+
+def archive_of(settings: Settings, note: Note) -> pathlib.Path:
+    """Where the rows lie of accounts that are moving."""
+    return pathlib.Path(settings.keeping.archive) / f"{note.archive}.db{places.TURNING}"
+
+
+def in_force(settings: Settings, note: Note) -> None:
+    """Has what the accounts were answered before be answered by their archive from now on, and notes
+    where they live; refused, neither is so."""
+    path = archive_of(settings, note)
+    made = path.with_name(path.name.removesuffix(places.TURNING))
+    try:
+        if path.exists():
+            with opened(path, is_still=True) as database:
+                known.put(settings, note.archive, known.of_copy(database))
+            os.replace(path, made)
+            copies.sync(made.parent)
+        if note.process != proxy.process(settings):
+            raise Refused("HAProxy was reloaded meanwhile: the accounts stay where they were")
+        runtime.write(settings, note.accounts, note.target)
+    except BaseException:
+        made.unlink(missing_ok=True)
+        known.drop(settings, note.archive)
+        raise
+
+
+def noted(
+    plan: Plan, source: Shard, target: Shard, those: list[str], name: str, process: str
+) -> Note:
     """The note of a plan, for some of its accounts."""
     wanted = set(those)
     requests = [one for one in plan.requests() if account_of(one) in wanted]
@@ -184,7 +238,7 @@ def noted(plan: Plan, source: Shard, target: Shard, those: list[str]) -> Note:
                 shape(one.starts, one.ends, one.scope, one.is_blocks, one.left)
             )
     barred = [account for account in those if plan.accounts[account]]
-    return Note(str(source), str(target), those, barred, requests, buckets)
+    return Note(str(source), str(target), those, barred, requests, buckets, name, process)
 
 
 def account_of(request: Request) -> str:
@@ -214,8 +268,9 @@ def carry_out(settings: Settings, client: Client, note: Note) -> None:
             bar(settings, client, note)
             for account in note.accounts:
                 compare(account, note, client.ask("GET", f"/accounts/{account}", shard=note.target))
-            runtime.write(settings, note.accounts, note.target)
+            in_force(settings, note)
         finally:
+            archive_of(settings, note).unlink(missing_ok=True)
             runtime.settle(settings, note.accounts)
             note_of(settings).unlink()
 

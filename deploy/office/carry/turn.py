@@ -13,9 +13,10 @@ import time
 from collections.abc import Iterator
 
 from office import copies, places, program, shards, spare
-from office.alone import alone, held
+from office.alone import alone, held, settle
+from office.archive import known
 from office.audit import reckoned, strays
-from office.carry import repeats
+from office.carry import moving, repeats
 from office.carry.plan import Plan, rows
 from office.client import compact
 from office.faults import Refused
@@ -32,22 +33,26 @@ MOST, EACH = 20, 0.004
 
 def shard(settings: Settings, one: Shard, is_audited: bool, may_wait: bool) -> None:
     """Carries a shard; refused, it goes on as it is."""
+    if not settings.machines:
+        known.is_served(settings)
     with held(settings, one):
-        places.settle(settings, one)
+        settle(settings, one)
     with copies.made(settings, [one]) as made:
         plan = planned(settings, one, made[0], int(time.time()))
-        if not may_wait:
+        if settings.machines and not may_wait:
             unrepeated(settings, one, made[0])
         if is_audited:
             audited(made[0])
+        with opened(made[0]) as read:
+            keys, since = known.of_copy(read), read.last_moment
     seconds = EACH * plan.count()
     if seconds > settings.waits.start and not may_wait:
         raise Refused(
             f"shard {one} would be away for some {seconds:.0f} s, and requests wait for "
             f"{settings.waits.start} s ([waits] start): --long does it all the same"
         )
-    with alone(settings, one):
-        turned(settings, one, may_wait)
+    with moving.under_way(settings), alone(settings, one, is_held=True):
+        turned(settings, one, may_wait, keys, since)
         places.finish(settings, one)
 
 
@@ -83,10 +88,12 @@ def audited(copy: pathlib.Path) -> None:
         raise Refused(f"the audit has {len(found)} findings (--unaudited carries it):\n  {told}")
 
 
-def turned(settings: Settings, one: Shard, may_wait: bool) -> None:
-    """Makes the new database of a shard that is stopped, and puts it in the old one's place. A request
-    that the stop cut off may have been accepted, so the log is asked again when the shard stands.
-    """
+def turned(settings: Settings, one: Shard, may_wait: bool, keys: known.Filter, since: int) -> None:
+    """Makes the new database of a shard that is stopped, and puts it in the old one's place, once the
+    old one answers what is repeated of it. `keys` are those of a copy, which had its last moment then.
+
+    With two machines a request that the stop cut off may have been accepted, so the log is asked again
+    when the shard stands."""
     new = places.new_of(one)
     places.discard(new)
     try:
@@ -97,10 +104,14 @@ def turned(settings: Settings, one: Shard, may_wait: bool) -> None:
         differs = plan.differs(found)
         if differs:
             raise Refused(f"the new database of shard {one} has other {differs}")
-        if not may_wait:
+        if settings.machines and not may_wait:
             unrepeated(settings, one, one.database)
         places.ready(settings, one, new)
-        archive(settings, one, plan.at)
+        name = archive(settings, one, plan.at)
+        if not settings.machines:
+            with opened(one.database) as read:
+                known.add_since(keys, read, since)
+            known.put(settings, name, keys)
         places.swap(one, None)
         print("\n".join(f"{one} {line}" for line in found.sums()))
     finally:
@@ -110,7 +121,7 @@ def turned(settings: Settings, one: Shard, may_wait: bool) -> None:
 def make(settings: Settings, plan: Plan, new: pathlib.Path) -> None:
     """Makes a database of a plan: books, accounts, vouchers, bars."""
     for book in plan.books:
-        with written(book.text) as file:
+        with program.written(book.text) as file:
             if book is plan.books[0]:
                 program.done(settings, "init", new, file)
             else:
@@ -122,30 +133,22 @@ def make(settings: Settings, plan: Plan, new: pathlib.Path) -> None:
                 raise Refused(f"{method} {path} {compact(body or {})}: {compact(answer)}")
     at = ("--at", plan.at)
     if plan.vouchers:
-        with written(rows(plan.vouchers)) as file:
+        with program.written(rows(plan.vouchers)) as file:
             program.done(settings, "import", new, file, *at)
     for account in (account for account, is_barred in plan.accounts.items() if is_barred):
         program.done(settings, "bar", new, account, *at)
 
 
-@contextlib.contextmanager
-def written(text: str) -> Iterator[pathlib.Path]:
-    """A file with a text, which the databases' owner may read."""
-    with tempfile.TemporaryDirectory() as folder:
-        path = pathlib.Path(folder) / "file"
-        path.write_text(text, encoding="utf-8")
-        with program.readable(path) as readable:
-            yield readable
-
-
-def archive(settings: Settings, one: Shard, at: int) -> None:
-    """Makes one whole file of the old database, under a name that isn't an archive's yet."""
+def archive(settings: Settings, one: Shard, at: int) -> str:
+    """Makes one whole file of the old database, under a name that isn't an archive's yet; its name then."""
     folder = pathlib.Path(settings.keeping.archive)
     folder.mkdir(mode=0o750, parents=True, exist_ok=True)
     program.give(settings, folder)
-    path = folder / f"{one}-{time.strftime(places.FORM, time.gmtime(at))}.db{places.TURNING}"
+    name = f"{one}-{time.strftime(places.FORM, time.gmtime(at))}"
+    path = folder / f"{name}.db{places.TURNING}"
     path.unlink(missing_ok=True)
     copies.make_whole(one.database, path)
     os.chmod(path, 0o440)
     program.give(settings, path)
     copies.sync(folder)
+    return name

@@ -33,7 +33,7 @@ def text(settings: Settings) -> str:
     made = [*process(settings), "", "defaults", *logged(), *defaults(settings)]
     for door in settings.doors:
         made += ["", *frontend(settings, door)]
-    made += ["", *backend(settings), "", *tables(), "", *agent(settings)]
+    made += ["", *backend(settings), "", *tables(), "", *agent(settings), *archive(settings)]
     if settings.machines:
         made += ["", *relays(settings)]
     named = rules.by_password(settings)
@@ -62,7 +62,7 @@ def process(settings: Settings) -> list[str]:
         "    set-var proc.begun date()",
         f"    lua-load {pathlib.Path(__file__).with_name('woken.lua')}",
     ]
-    made += waits_for_moves(settings)
+    made += waits_for_moves(settings) + looks_at_archives(settings)
     return made + ([f"    user {proxy.user}", f"    group {proxy.user}"] if proxy.user else [])
 
 
@@ -138,7 +138,9 @@ def frontend(settings: Settings, door: Door) -> list[str]:
         "    http-after-response set-header Cross-Origin-Resource-Policy same-origin",
     ]
     if door.role in ("gateway", "shop"):
-        made.append("    http-after-response del-header Office-Shard")
+        made += [
+            f"    http-after-response del-header Office-{each}" for each in ("Shard", "Archive")
+        ]
     return made + rules.of(settings, door) + to_shard(settings, door)
 
 
@@ -172,15 +174,19 @@ def to_shard(settings: Settings, door: Door) -> list[str]:
         is_named = "{ req.fhdr(Office-Shard) -m found }"
         made.append(f"    http-request set-var(txn.shard) req.fhdr(Office-Shard) if {is_named}")
         made += rules.refused(400, "shard", "if { path /sweep } !{ var(txn.shard) -m found }")
+    made += to_archive(settings)
     numbers = "|".join(shard.number for shard in shards.of(settings))
     is_shard = f"{{ var(txn.shard) -m reg ^({numbers})$ }}"
+    kept = [] if settings.machines else ["    use_backend archive if { var(txn.past) -m str kept }"]
     return [
         *made,
         *rules.refused(404, "shard", f"if {{ var(txn.shard) -m found }} !{is_shard}"),
         f"    http-request del-header {STRANGE} -m reg",
         "    http-response wait-for-body time 1s",
         *(to_agent(settings, door) if door.role in routes.PEOPLE else ()),
-        "    http-response set-header Office-Shard %s unless { var(txn.agent) -m found }",
+        *kept,
+        "    http-response set-header Office-Shard %s unless { var(txn.agent) -m found } "
+        "|| { var(txn.past) -m found }",
         "    default_backend shards",
     ]
 
@@ -203,6 +209,18 @@ def to_agent(settings: Settings, door: Door) -> list[str]:
     return [*made, f"    use_backend agent {is_agent}"]
 
 
+def to_archive(settings: Settings) -> list[str]:
+    """What may be a repeat of before a carry or a move is asked for at the archive's service; where
+    that is away nobody else may answer it. Who names a shard means that one."""
+    if settings.machines:
+        return []
+    is_asked = "if !{ req.fhdr(Office-Shard) -m found } !{ path_beg /office/ }"
+    made = [f"    http-request lua.known {is_asked}"]
+    for why in ("held", "away"):
+        made += rules.refused(503, f"archive-{why}", f"if {{ var(txn.past) -m str {why} }}")
+    return [*made, "    http-request unset-var(txn.past) if { var(txn.past) -m str new }"]
+
+
 def has_moved(settings: Settings) -> bool:
     """Whether accounts may live elsewhere than in the shard of their hash."""
     return settings.office.more > 0 or pathlib.Path(settings.office.moved).exists()
@@ -219,18 +237,54 @@ def waits_for_moves(settings: Settings) -> list[str]:
     ]
 
 
+def looks_at_archives(settings: Settings) -> list[str]:
+    """What says of a request that an archive may have it."""
+    if settings.machines:
+        return []
+    return [
+        f"    setenv OFFICE_KNOWN {settings.archive.known}",
+        f"    setenv OFFICE_ARCHIVE {settings.archive.socket}",
+        f"    setenv OFFICE_WAIT {1000 * (settings.waits.queue + settings.waits.start)}",
+        f"    setenv OFFICE_HASHED {settings.office.shards}",
+        f"    setenv OFFICE_SHARDS {settings.office.shards + settings.office.more}",
+        f"    lua-load {pathlib.Path(__file__).with_name('known.lua')}",
+    ]
+
+
+def archive(settings: Settings) -> list[str]:
+    """The service `office archive`; a request that isn't equal to the first takes it a start of the
+    program."""
+    if settings.machines:
+        return []
+    return [
+        "",
+        "backend archive",
+        f"    timeout server {AGENT_ANSWER}s",
+        *lines.of_answer(),
+        *counted(),
+        f"    server archive unix@{settings.archive.socket} maxconn 16",
+    ]
+
+
+def counted() -> list[str]:
+    """Answers are counted by who asked and what was said."""
+    key = "'%[var(txn.who,-)] %[var(txn.code,-)] %[var(txn.service,-)] %[var(txn.refusal,-)]'"
+    return [
+        f"    http-response set-var-fmt(txn.counted) {key}",
+        "    http-response track-sc1 var(txn.counted) table counted",
+        "    http-response sc-inc-gpc0(1)",
+    ]
+
+
 def backend(settings: Settings) -> list[str]:
     """The shards: one connection each, and the queue before it."""
-    counted = "'%[var(txn.who,-)] %[var(txn.code,-)] %[var(txn.service,-)] %[var(txn.refusal,-)]'"
     made = [
         "backend shards",
         "    balance hash var(txn.account)",
         "    hash-type consistent sdbm avalanche",
         *shared(settings),
         *lines.of_answer(),
-        f"    http-response set-var-fmt(txn.counted) {counted}",
-        "    http-response track-sc1 var(txn.counted) table counted",
-        "    http-response sc-inc-gpc0(1)",
+        *counted(),
         "    use-server %[var(txn.shard)] if { var(txn.shard) -m found }",
     ]
     if settings.machines:

@@ -7,10 +7,9 @@
 
 Some accounts at a time (--batch) wait while they move; all other requests go on. What moves is what
 `office carry` carries. An account with a live session stays, and is told: the same words again move it
-when the session is over. So does one whose last answers didn't arrive, by the doors' log of 15
-minutes: its gateway may repeat. And one that has rows in the other shard already. The codes of vouchers
-stay in their shard, and so do clearing accounts; charges and answers too, so a repeat of a request of
-before is answered anew, but for credits of live buckets.
+when the session is over. So does one that has rows in the other shard already. The codes of vouchers
+stay in their shard, and so do clearing accounts. What the accounts did goes to an archive, from which
+repeats of before, statements and exports are answered.
 
 With two machines it is refused: the doors of the other one have a map of moved accounts of their own.
 
@@ -25,6 +24,7 @@ import argparse
 import sys
 
 from office import operate, redemption, shards
+from office.archive import known
 from office.audit.together import shelves
 from office.carry import moving
 from office.client import Client
@@ -70,6 +70,7 @@ def run(settings: Settings, arguments: argparse.Namespace) -> int:
         if arguments.dry_run:
             print(f"{len(those)} accounts would move from {source} to {target}")
             return 0
+        known.is_served(settings)
         with moving.under_way(settings) as lock, moving.guarded(lock, arguments):
             moving.finish(settings, client)
             same_books(settings, source, target)

@@ -18,6 +18,7 @@ started is a hope."""
 from __future__ import annotations
 
 import argparse
+import os
 import pathlib
 import shutil
 import time
@@ -37,6 +38,7 @@ from office import (
     spare,
     vouchers,
 )
+from office.archive import known
 from office.faults import Refused, Unread
 from office.settings import Settings
 from office.shards import Shard
@@ -72,10 +74,21 @@ def run(settings: Settings, arguments: argparse.Namespace) -> int:
         with alone.alone(settings, shard):
             places.ready(settings, shard, work)
             places.swap(shard, keep)
+            overtaken(settings, shard, nights.moment(night))
     finally:
         places.discard(work)
     print(f"{shard} starts from {night}; what was there is {keep}")
     return 0
+
+
+def overtaken(settings: Settings, shard: Shard, night: float) -> None:
+    """Takes the shard's archives out of force that are of after a copy from which it starts: what they
+    have as accepted since is lost, and may be asked for again."""
+    for moment, path in places.archives(settings, shard, time.time()).items():
+        if moment > night:
+            os.replace(path, path.with_name(f"{path.name}.overtaken"))
+            known.drop(settings, path.stem)
+            print(f"{shard} archive {path} is of after the copy: it answers nothing any more")
 
 
 def chosen(settings: Settings, name: str | None) -> pathlib.Path:

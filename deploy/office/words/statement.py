@@ -4,16 +4,19 @@
     office statement 49151 202610 --archive /var/lib/ocs/archive/02-20261101T000000Z.db
 
 The bytes are those of the program's own word over a copy of the account's shard, so no request
-waits for it. `office statements` makes those of all accounts. What was
-charged before a shard was carried is in its archive; standard error names those that have charges of
-the account in that month."""
+waits for it. `office statements` makes those of all accounts. Where archives of carries and moves have a
+part of the month, its charges are there too, in their order; a month that ended before the last carry is
+as of that carry, and says its moment. --archive prints what the program prints of that one alone."""
 from __future__ import annotations
 
 import argparse
 import pathlib
 import sys
+import time
 
-from office import civil, copies, operate, program, statements, vouchers
+from office import civil, copies, operate, program
+from office.archive import past
+from office.archive.months import Months
 from office.faults import Unread
 from office.settings import Settings
 from office.tables import opened
@@ -34,15 +37,21 @@ def run(settings: Settings, arguments: argparse.Namespace) -> int:
         raise Unread(f"{account!r} is no account: 1 to 15 digits")
     if arguments.archive:
         return written(settings, arguments, arguments.archive)
+    month = civil.month_of(arguments.month)
     found = operate.located(settings, [account])[0]
     if isinstance(found, str):
         print(found.partition(" ")[2])
         return 1
+    with past.opened_parts(past.files(settings)) as parts:
+        own, months = past.of_account(parts, account), Months()
+        if months.is_past(own, account, month):
+            with copies.made(settings, [found.shard]) as made, opened(made[0]) as database:
+                moment = max(int(time.time()), database.last_moment)
+                text = months.export if arguments.csv else months.statement
+                sys.stdout.write(text(own, account, month, database, moment))
+            return 0
     with copies.made(settings, [found.shard]) as made:
-        status = written(settings, arguments, made[0])
-    for path in archives(settings, account, civil.month_of(arguments.month)):
-        print(f"office: {path} has charges of this month too (--archive)", file=sys.stderr)
-    return status
+        return written(settings, arguments, made[0])
 
 
 def written(settings: Settings, arguments: argparse.Namespace, database: pathlib.Path) -> int:
@@ -54,13 +63,3 @@ def written(settings: Settings, arguments: argparse.Namespace, database: pathlib
     sys.stdout.write(ended.stdout)
     sys.stderr.write(ended.stderr)
     return ended.returncode
-
-
-def archives(settings: Settings, account: str, month: str) -> list[pathlib.Path]:
-    """The archives that have charges of an account in a month."""
-    found = []
-    for path in vouchers.archives(settings):
-        with opened(path) as database:
-            if statements.has_charges(database, account, month):
-                found.append(path)
-    return found

@@ -16,14 +16,15 @@ BOOK = "examples/book.toml"
 SET_UP = f"""
 set -e
 useradd --system --home-dir /var/lib/ocs ocs
-install -m 644 deploy/ocs@.service /etc/systemd/system/
+install -m 644 deploy/ocs@.service deploy/office-archive.socket deploy/office-archive.service \\
+    /etc/systemd/system/
 install -D -m 644 -t /usr/local/share/ocs/console deploy/console/*
 install -d -o ocs -g ocs -m 750 /var/lib/ocs && install -d /etc/ocs /run/haproxy /etc/haproxy
 ln -s /srv/ocs/deploy/bin/office /usr/local/bin/office
 printf '[office]\\nsynchronised = false\\n' > /etc/ocs/office.toml
 for s in 01 02 03 04; do runuser -u ocs -- ocs init /var/lib/ocs/$s.db ${{1:-{BOOK}}}; done
 systemctl daemon-reload
-systemctl start ocs@01 ocs@02 ocs@03 ocs@04
+systemctl start ocs@01 ocs@02 ocs@03 ocs@04 office-archive.socket
 """
 DOORS = """
 set -e

@@ -5,9 +5,7 @@ import dataclasses
 import json
 import os
 import pathlib
-import signal
 import socket
-import subprocess
 import time
 from collections.abc import Iterator
 
@@ -17,6 +15,7 @@ from month.machine import program, wait_until
 from month.stand import Stand, now, request, stand
 from month.worlds import BERLIN, World, ocs, world
 from office import settings
+from office.audit import reckoned
 from office.carry import turn
 from office.carry.plan import Plan
 from office.tables import opened
@@ -89,6 +88,30 @@ def test_day_and_month_counters_are_carried(tmp_path: pathlib.Path) -> None:
     assert ocs("replay", made.path, file) == ocs("replay", new, file)
 
 
+def test_an_audit_reckons_what_comes_first_behind_a_carry(tmp_path: pathlib.Path) -> None:
+    """No row tells the moments of a new database's first answers, where no counter was carried."""
+    made = World(tmp_path, 2)
+    at = made.moment + DAY
+    new = carried(made, at, tmp_path)
+    account = next(one for one in made.accounts if rich(new, one))
+    file = tmp_path / "first.in"
+    lines = [
+        f"{at + 60} {json.dumps(request(account, 'first', 1, 0, 10, 60))}",
+        f"{at + 90} {json.dumps(request(account, 'first', 3, 1, 10, -1, 30))}",
+    ]
+    file.write_text("\n".join(lines) + "\n", encoding="utf-8")
+    assert ocs("replay", new, file).count('"Result-Code":2001,"Session-Id"') == 2
+    with opened(new) as database:
+        assert list(reckoned.findings("01", database)) == []
+
+
+def rich(database: pathlib.Path, account: str) -> bool:
+    """Whether an account has money for any group."""
+    asked = "SELECT sum(available) FROM buckets WHERE account = ? AND scope IS NULL"
+    with opened(database) as read:
+        return int(read.one(asked, account) or 0) > 1_000_000
+
+
 @pytest.fixture(scope="module", name="office")
 def made() -> Iterator[Stand]:
     with stand() as office:
@@ -127,15 +150,17 @@ def test_a_shard_goes_on_with_its_money_alone(office: Stand) -> None:
     assert office.ask("GET", f"/accounts/{own[1]}")["Barred"] is True
     archive = lines[4].removeprefix("02 archive ")
     new, of_old = (
-        office.run(f"office statement {own[0]} {month} {more}")
+        office.run(f"office statement {own[0]} {month} {more}").splitlines()
         for more in ("", f"--archive {archive}")
     )
-    assert of_old.splitlines()[1:] == old.splitlines()[1:] and old.count("\n") > new.count("\n") - 2
-    assert f"{archive} has charges of this month too" in new
+    # The whole month is on a statement; the buckets are those of now.
+    uses = old.splitlines().index(next(line for line in old.splitlines() if "TOTAL" in line)) + 1
+    assert of_old[1:] == old.splitlines()[1:] and new[1:uses] == of_old[1:uses]
     assert office.table("02", "SELECT count(*) FROM charges") == ["0"]
     # A credit that is repeated isn't credited again; a spent code isn't added again.
     repeat = {"Amount": 1_000_000, "Reference": "new/1"}
-    assert office.ask("POST", f"/accounts/{own[0]}/credits", repeat) == {"Refusal": "O5"}
+    again = office.ask("POST", f"/accounts/{own[0]}/credits", repeat)
+    assert again == {"Bucket": 1, "Result-Code": 2001} and office.available(own[0]) == had[own[0]]
     assert "as spent" in office.run("office import /tmp/v.csv", 1)
     office.run("office audit")
 
@@ -150,7 +175,18 @@ def test_a_live_session_is_refused_before_the_stop(office: Stand) -> None:
     office.run("office carry 03")
 
 
-def test_a_repeat_that_may_come_is_waited_for(office: Stand) -> None:
+# Prints the accounts of a copy whose requests may be repeated, with their requests.
+EXPECTED = """
+import pathlib, sys
+sys.path.insert(0, "/srv/ocs/deploy")
+from office import settings, tables
+from office.carry import repeats
+with tables.opened(pathlib.Path("/tmp/copy.db")) as database:
+    print("\\n".join(repeats.expected(settings.read(), database)))
+"""
+
+
+def test_a_debit_whose_answer_did_not_arrive_is_charged_once(office: Stand) -> None:
     one = of_shard(office, "03")[1]
     had = office.available(one)
     body = json.dumps(request(one, "unanswered", 4, 0, 10, 60))
@@ -163,62 +199,14 @@ def test_a_repeat_that_may_come_is_waited_for(office: Stand) -> None:
     )
     office.run(f"kill -CONT {process}")
     wait_until(lambda: office.available(one) < had, "the debit")
+    charged = office.available(one)
     office.logs('"session":"unanswered"')
-    told = office.machine.run("office carry 03", 1)
-    assert "answers didn't arrive" in told.stderr and f"{one} unanswered 0" in told.stderr
-    assert "waited" not in told.stderr
-    charged = office.available(one)
+    office.machine.write("/tmp/expected.py", EXPECTED)
+    told = office.run("office backup 03 /tmp/copy.db > /dev/null; python3 /tmp/expected.py")
+    assert told.strip() == f"{one} unanswered 0"
+    office.run("office carry 03")
     assert office.debit(one, "unanswered")["Result-Code"] == 2001
-    office.logs('"session":"unanswered"', 2)
     assert office.available(one) == charged
-    office.run("office carry 03")
-    assert office.available(one) == charged
-
-
-@pytest.mark.slow
-def test_a_request_that_was_cut_off_by_the_stop_is_waited_for(office: Stand) -> None:
-    one = of_shard(office, "03")[2]
-    had = office.available(one)
-    word = held_before_the_stop(office, "03")
-    body = json.dumps(request(one, "cut-off", 4, 0, 10, 60))
-    process = process_of(office, "03")
-    office.run(f"kill -STOP {process}")
-    office.run(
-        "curl -sS --max-time 5 --unix-socket /run/haproxy/office.sock -H 'Content-Type: "
-        f"application/json' -d '{body}' http://office/ccr",
-        28,
-    )
-    office.run(f"kill -CONT {process}")
-    wait_until(lambda: office.available(one) < had, "the debit")
-    charged = office.available(one)
-    office.logs('"session":"cut-off"')
-    word.send_signal(signal.SIGCONT)
-    told = word.communicate(timeout=300)[0]
-    assert word.returncode == 1 and f"{one} cut-off 0" in told, told
-    assert "answers didn't arrive" in told and process_of(office, "03") != process
-    assert office.debit(one, "cut-off")["Result-Code"] == 2001
-    office.logs('"session":"cut-off"', 2)
-    assert office.available(one) == charged
-    office.run("office carry 03")
-    assert office.available(one) == charged
-
-
-def held_before_the_stop(office: Stand, shard: str) -> subprocess.Popen[str]:
-    """A carry that stands still behind its checks, before it stops the shard. So does nsenter, which
-    started it, and which hands on the signal that lets it go on."""
-    guards = pathlib.Path(f"/proc/{office.machine.first()}/root/run/systemd/transient")
-    name = f"office-guard-{shard}-*.service"
-    for _ in range(20):
-        wait_until(lambda: not list(guards.glob(name)), "no guard")
-        before, word = process_of(office, shard), office.started(f"office carry {shard}")
-        while not list(guards.glob(name)) and word.poll() is None:
-            time.sleep(0.001)
-        os.kill(child_of(word), signal.SIGSTOP)
-        if process_of(office, shard) == before:
-            return word
-        word.send_signal(signal.SIGCONT)
-        word.communicate(timeout=300)
-    raise AssertionError("the carry was always past the stop")
 
 
 def process_of(office: Stand, shard: str) -> str:
@@ -226,15 +214,9 @@ def process_of(office: Stand, shard: str) -> str:
     return office.run(f"systemctl show --property MainPID --value ocs@{shard}").strip()
 
 
-def child_of(word: subprocess.Popen[str]) -> int:
-    """The one process that nsenter has started."""
-    path = pathlib.Path(f"/proc/{word.pid}/task/{word.pid}/children")
-    return int(path.read_text(encoding="ascii").split()[0])
-
-
 FULL = """
 set -e
-systemctl stop ocs@01 ocs@02 ocs@03 ocs@04
+systemctl stop ocs@01 ocs@02 ocs@03 ocs@04 office-archive.service
 mv /var/lib/ocs /var/lib/kept
 install -d -o ocs -g ocs -m 750 /var/lib/ocs
 mount -t tmpfs -o size=900M,mode=750,uid=$(id -u ocs),gid=$(id -g ocs) tmpfs /var/lib/ocs
@@ -261,7 +243,7 @@ def test_a_full_disk_leaves_the_shard(office: Stand, free: int) -> None:
     office.run("office carry 02")
     assert {account: office.available(account) for account in own} == had
     office.run(
-        "set -e; systemctl stop ocs@01 ocs@02 ocs@03 ocs@04; rm -r /var/lib/kept; "
+        "set -e; systemctl stop ocs@01 ocs@02 ocs@03 ocs@04 office-archive.service; rm -r /var/lib/kept; "
         "cp -a /var/lib/ocs /var/lib/kept; umount /var/lib/ocs; rmdir /var/lib/ocs; "
         "mv /var/lib/kept /var/lib/ocs; systemctl start ocs@01 ocs@02 ocs@03 ocs@04"
     )

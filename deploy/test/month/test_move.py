@@ -143,6 +143,50 @@ def test_a_move_that_is_killed_is_ended(office: Stand) -> None:
 
 
 @pytest.mark.slow
+def test_a_move_behind_a_reload_waits_for_the_process_of_before(office: Stand) -> None:
+    """A request is under way in the process that was replaced, which goes by the file as it was."""
+    one = of_shard(office, "03")[0]
+    had = office.available(one)
+    process = office.run("systemctl show --property MainPID --value ocs@03").strip()
+    office.run(f"kill -STOP {process}")
+    before = at_the_gateways_door(office, one, 0)
+    time.sleep(1)
+    office.run("systemctl reload haproxy")
+    show = "echo 'show map /etc/ocs/moved' | socat stdio /run/haproxy/admin.sock"
+    word = office.started(f"office move --from 03 --to 05 {one}")
+    time.sleep(4)
+    assert word.poll() is None and "moving" not in office.run(show)
+    office.run(f"kill -CONT {process}")
+    assert '"Result-Code":2001' in before.communicate(timeout=600)[0]
+    assert "moved 1 stay 0" in word.communicate(timeout=600)[0]
+    assert office.home(one) == "05" and office.available(one) == had - PRICE
+    office.run("office audit")
+
+
+@pytest.mark.slow
+def test_a_reload_in_a_move_loses_nothing(office: Stand) -> None:
+    everyone = list(map(str, range(FIRST, FIRST + COUNT)))
+    before = {account: office.available(account) for account in everyone}
+    asks = office.asks(FIRST, COUNT, 6, "reloaded")
+    for _ in range(3):
+        word = office.started("office move --from 02 --to 05 --all --batch 2")
+        while word.poll() is None:
+            time.sleep(0.7)
+            office.run("systemctl reload haproxy", None)
+        told = word.communicate(timeout=600)[0]
+        assert word.returncode == 0 or "reloaded meanwhile" in told or "stays" in told, told
+    done, _ = asks.communicate(timeout=900)[0].split()
+    assert int(done) == 6 * COUNT
+    assert {account: office.available(account) for account in everyone} == {
+        account: amount - 6 * PRICE for account, amount in before.items()
+    }
+    office.run("office carry 05")
+    office.run("office move --from 02 --to 05 --all")
+    assert of_shard(office, "02") == []
+    office.run("office audit")
+
+
+@pytest.mark.slow
 def test_the_doors_go_by_the_file_after_a_restart(office: Stand) -> None:
     own = of_shard(office, "05")
     assert len(own) > COUNT // 2

@@ -79,6 +79,7 @@ def test_it_is_installed_upgraded_and_purged(fresh: Fresh) -> None:
     assert "bind 127.0.0.1:8080" in fresh.run("office doors")
     assert "/usr/bin/ocs-server serve" in fresh.run("cat /lib/systemd/system/ocs@.service")
     assert "/usr/bin/office agent" in fresh.run("cat /lib/systemd/system/office-agent.service")
+    assert "/usr/bin/office archive" in fresh.run("cat /lib/systemd/system/office-archive.service")
     assert "/usr/bin/office backups" in fresh.run("cat /lib/systemd/system/office-backups.service")
     # The version before: its database is told by its version, and migrated by the operator.
     fresh.run(f'{as_ocs} sqlite3 {DATABASE} "{BACK}"')
