@@ -8,6 +8,7 @@ import pathlib
 
 from office import books, shards, statements
 from office.agent.asked import Asked, Body, Office
+from office.archive import past
 from office.audit import sums as reckoned
 from office.audit.together import Living
 from office.civil import Zone, month_of
@@ -22,7 +23,10 @@ def sums(office: Office, asked: Asked) -> Body:
     if "month" not in told:
         raise Unread("month=YYYYMM is missing behind the ?")
     month = month_of(told["month"])
-    with office.kept.all() as copies:
+    with (
+        office.kept.all() as copies,
+        past.opened_parts(past.files(office.settings)) as parts,
+    ):
         databases = {copy.shard.number: copy.database for copy in copies}
         book = books.shelf(copies[0].database)[0]
         living = Living(shards.Homes(office.settings), clearing(office.settings), databases)
@@ -36,8 +40,8 @@ def sums(office: Office, asked: Asked) -> Body:
             "month": month,
             "zone": book.zone.text,
             "currency": book.currency,
-            "charges": list(reckoned.charges(living, by_day, span)),
-            "buckets": list(reckoned.buckets(living, by_day, span)),
+            "charges": list(reckoned.charges(living, by_day, span, parts)),
+            "buckets": list(reckoned.buckets(living, by_day, span, parts)),
         }
 
 

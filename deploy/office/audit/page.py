@@ -114,9 +114,8 @@ def table(title: str, rows: list[Row]) -> str:
     """Rows as they are in the CSV."""
     if not rows:
         return f"<h2>{title}</h2><p>none</p>"
-    head = "".join(f"<th>{html.escape(name.replace('_', ' '))}</th>" for name in rows[0])
-    body = "\n".join(
-        "<tr>" + "".join(f"<td>{html.escape(str(value))}</td>" for value in row.values()) + "</tr>"
-        for row in rows
-    )
+    names = list(dict.fromkeys(name for row in rows for name in row))
+    head = "".join(f"<th>{html.escape(name.replace('_', ' '))}</th>" for name in names)
+    cells = ([html.escape(str(row.get(name, ""))) for name in names] for row in rows)
+    body = "\n".join("<tr>" + "".join(f"<td>{one}</td>" for one in row) + "</tr>" for row in cells)
     return f'<h2>{title}</h2>\n<div class="more"><table><tr>{head}</tr>\n{body}</table></div>'

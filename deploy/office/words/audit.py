@@ -14,7 +14,8 @@ was accepted by then is still there, and bars that changed are told, which leave
 
 Nothing is changed. Prints a line a finding, and their number on standard error; the status is 1 where
 there is one. --sums writes charges.csv (by month, shard, book, rating group), buckets.csv (by month,
-shard, kind) and index.html, each account once and without clearing accounts."""
+shard, kind) and index.html, each account once and without clearing accounts; what archives have is in
+rows of their own, with the archive's name, whose books are counted from its own first one."""
 from __future__ import annotations
 
 import argparse
@@ -24,6 +25,8 @@ import sys
 from collections.abc import Iterator
 
 from office import copies, shards, vouchers
+from office.archive import past
+from office.archive.past import Part
 from office.audit import page, reckoned, strays, sums, together
 from office.audit.findings import Finding
 from office.audit.together import Living, Named
@@ -32,8 +35,8 @@ from office.progress import shown
 from office.settings import Settings
 from office.tables import opened
 
-CHARGES = ("month", "shard", "book", "rating_group", *sums.USES)
-BUCKETS = ("month", "shard", "kind", *sums.AMOUNTS)
+CHARGES = ("month", "shard", "book", "rating_group", *sums.USES, "archive")
+BUCKETS = ("month", "shard", "kind", *sums.AMOUNTS, "archive")
 
 
 def add(parser: argparse.ArgumentParser) -> None:
@@ -52,7 +55,8 @@ def run(settings: Settings, arguments: argparse.Namespace) -> int:
         for count, one in enumerate(found(living, arguments.before), 1):
             print(one, flush=True)
         if arguments.sums:
-            write(living, arguments.sums, count)
+            with past.opened_parts(past.files(settings)) as parts:
+                write(living, parts, arguments.sums, count)
     print(f"findings {count} in {len(read)} databases", file=sys.stderr)
     return 1 if count else 0
 
@@ -85,10 +89,11 @@ def clearing(settings: Settings) -> set[str]:
     return set(path.read_text(encoding="utf-8").split()) if path.exists() else set()
 
 
-def write(living: Living, folder: pathlib.Path, count: int) -> None:
+def write(living: Living, parts: list[Part], folder: pathlib.Path, count: int) -> None:
     """Writes the sums as CSV and as a page."""
     folder.mkdir(parents=True, exist_ok=True)
-    charges, buckets = list(sums.charges(living)), list(sums.buckets(living))
+    charges = list(sums.charges(living, parts=parts))
+    buckets = list(sums.buckets(living, parts=parts))
     sums.write(folder / "charges.csv", charges, CHARGES)
     sums.write(folder / "buckets.csv", buckets, BUCKETS)
     (folder / "index.html").write_text(page.page(charges, buckets, count), encoding="utf-8")
