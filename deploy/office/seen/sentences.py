@@ -64,6 +64,9 @@ REASONS = {
     "head": "its head is too long",
     "type": "its body isn't called JSON",
     "account": "its account can't be told",
+    "moving": "its account was moving for too long",
+    "archive-held": "its shard was carried for too long",
+    "archive-away": "it may be a repeat, and the archive's service didn't say",
     # Of the bridge from Diameter (deploy/diameter).
     "in-flight": "too many requests were under way",
     "office-busy": "the office turned it away, and nothing was done",
