@@ -17,7 +17,7 @@ from month.stand import SOCKET
 
 # What HAProxy answers of its own where the shard gave no answer, and a shard whose disk failed.
 UNANSWERED = (429, 500, 502, 503, 504)
-CALLERS, PATIENCE = 6, 900.0
+CALLERS, PATIENCE = 24, 900.0
 
 
 @dataclasses.dataclass

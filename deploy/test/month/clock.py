@@ -22,9 +22,12 @@ SLEEP = (
     "import select, time; "
     "time.sleep = lambda seconds, wait=select.select: wait([], [], [], seconds) and None\n"
 )
+# HAProxy's watchdog is a signal in the middle of anything, and asks the clock: in the middle of faketime's
+# own look at it that would wait for itself for good.
+NO_WATCH = "SystemCallFilter=~timer_create\\nSystemCallErrorNumber=EPERM\\n"
 SET_UP = f"""
 set -e
-printf '[Service]\\nEnvironment=FAKETIME_TIMESTAMP_FILE={GOES_ON}\\n' > /run/clock.conf
+printf '[Service]\\nEnvironment=FAKETIME_TIMESTAMP_FILE={GOES_ON}\\n{NO_WATCH}' > /run/clock.conf
 install -D -m 644 /run/clock.conf /etc/systemd/system/haproxy.service.d/clock.conf
 systemctl daemon-reload
 systemctl set-environment {' '.join(ENVIRONMENT)}

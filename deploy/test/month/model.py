@@ -6,6 +6,7 @@ statements and exports. Nothing is read of a database but what a carry puts into
 to leave each account with what it had."""
 from __future__ import annotations
 
+import collections
 import copy
 import importlib
 import json
@@ -28,6 +29,8 @@ class Model:
         self.codes: dict[str, str] = {}  # each voucher's shard
         self.crossed: list[tuple[str, str]] = []  # codes redeemed for accounts of other shards
         self.clearings: dict[str, str] = {}  # each shard's clearing account
+        # What accounts did in databases in which they live no more.
+        self.past = collections.defaultdict[str, list[Any]](list)
 
     def asked(self, method: str, path: str, body: Body | None, at: int) -> str:
         """The answer to a request, as compact JSON."""
@@ -122,4 +125,12 @@ class Model:
             had = self.left(account, at), self.places(account, at)
             self.office.accounts[account] = now
             assert (self.left(account, at), self.places(account, at)) == had, account
+            self.past[account] += was.uses
         return old
+
+    def whole(self, account: str) -> Any:
+        """An account with all that it did in any database, but for what a carry sent of itself."""
+        one = copy.copy(self.office.accounts[account])
+        uses = [*self.past[account], *one.uses]
+        one.uses = [it for it in uses if not it["session"].startswith("carry-counter-")]
+        return one

@@ -1,12 +1,15 @@
 """The office on which a month is played: March 2027 in Berlin, where every answer has to be the model's."""
 from __future__ import annotations
 
+import collections
 import contextlib
 import datetime
+import json
 import os
 import pathlib
 import shutil
 import tempfile
+import time
 from collections.abc import Callable, Iterator
 from typing import Any
 
@@ -64,6 +67,13 @@ BOOKS = (
 )
 
 
+def is_kept(one: Asked) -> bool:
+    """Whether an answer is that of an accepted request which changed something."""
+    is_read = (one.body or {}).get("Requested-Action") in (2, 3)
+    code = json.loads(one.answer).get("Result-Code")
+    return one.method == "POST" and not is_read and code in (2001, 4010, 4012, 5031)
+
+
 class Month:
     """The office, its clock and its subscribers, and what it has to have."""
 
@@ -73,7 +83,10 @@ class Month:
         self.accounts = [str(FIRST + each) for each in range(SUBSCRIBERS)]
         self.traffic = Traffic(1, self.accounts)
         self.root = pathlib.Path(f"/proc/{office.machine.first()}/root")
-        self.day, self.counts = 0, dict.fromkeys(("requests", "kills", "words", "texts"), 0)
+        self.day = 0
+        self.counts = dict.fromkeys(("requests", "repeats", "kills", "words", "texts"), 0)
+        self.kept_answers: list[Asked] = []  # what was accepted, which is answered so for good
+        self.spent = collections.defaultdict[str, float](float)  # seconds, by what they went to
         self.kept: tuple[dict[str, Any], dict[str, Any]] = (
             {},
             {},
@@ -82,7 +95,22 @@ class Month:
     def word(self, words: str, status: int = 0) -> str:
         """What a word of the office prints on both streams."""
         self.counts["words"] += 1
-        return self.office.run(words, status)
+        with self.timed(" ".join(words.split()[:2])):
+            return self.office.run(words, status)
+
+    @contextlib.contextmanager
+    def timed(self, what: str) -> Iterator[None]:
+        """Adds up the seconds of something."""
+        begun = time.monotonic()
+        try:
+            yield
+        finally:
+            self.spent[what] += time.monotonic() - begun
+
+    def times(self) -> str:
+        """What the seconds went to."""
+        most = sorted(self.spent.items(), key=lambda each: -each[1])
+        return ", ".join(f"{what} {seconds:.0f} s" for what, seconds in most[:9])
 
     def fetched(self, path: str) -> pathlib.Path:
         """A copy of a file of the machine, which SQLite finds by its name."""
@@ -94,12 +122,16 @@ class Month:
         self, moment: int, asked: list[Asked], meanwhile: Callable[[], None] | None = None
     ) -> None:
         """Everything is asked at a moment, and answered as the model says."""
-        self.clock.set(moment)
-        self.doors.ask(asked, meanwhile)
+        with self.timed("clock"):
+            self.clock.set(moment)
+        with self.timed("asked"):
+            self.doors.ask(asked, meanwhile)
         self.counts["requests"] += len(asked)
-        for one in asked:
-            wanted = self.model.asked(one.method, one.path, one.body, moment)
-            assert one.answer == wanted, f"day {self.day}: {one}: {wanted}"
+        with self.timed("model"):
+            for one in asked:
+                wanted = self.model.asked(one.method, one.path, one.body, moment)
+                assert one.answer == wanted, f"day {self.day}: {one}: {wanted}"
+        self.kept_answers += filter(is_kept, asked)
 
     def balances(self, moment: int) -> None:
         """Each balance is the model's, that of clearing accounts too."""

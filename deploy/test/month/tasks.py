@@ -1,6 +1,7 @@
 """What an operator does in a month, each task by its word, and what the model says of it."""
 from __future__ import annotations
 
+import dataclasses
 import json
 import pathlib
 import time
@@ -23,6 +24,7 @@ FULL = """
 until mount -o remount,size=$(($(df --output=used -k /var/lib/ocs | tail -n 1) + 64))k /var/lib/ocs
 do sleep 0.05; done 2> /dev/null
 """
+MOST_REPEATS = 1500
 LOAD = "account,amount,blocks,scope,until,reference\n"
 
 
@@ -174,6 +176,24 @@ def without_past(month: Month, database: pathlib.Path, accounts: list[str]) -> N
         assert texts[account] == old.statement(MONTH, moment)
         month.counts["texts"] += 2
     month.balances(moment)
+
+
+def repeats(month: Month, shard: str) -> None:
+    """What was accepted for accounts of a shard in another database is asked again, some of it while the
+    archive's service is killed, and has its first answer, byte for byte."""
+    own = set(month.of(shard))
+    those = [one for one in month.kept_answers if one.account in own]
+    those = those[:: len(those) // MOST_REPEATS + 1]
+    first = [dataclasses.replace(one, answer="") for one in those]
+
+    def kill() -> None:
+        month.office.run("systemctl kill -s KILL office-archive", None)
+
+    month.doors.ask(first, kill)
+    for was, now in zip(those, first):
+        assert now.answer == was.answer, f"day {month.day}: {was}: {now.answer}"
+    month.counts["repeats"] += len(those)
+    month.balances(month.clock.now)
 
 
 def one_more(month: Month) -> None:

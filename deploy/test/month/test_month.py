@@ -5,6 +5,7 @@ statement and export in the end. Then rows are changed by hand.
 MONTH_SUBSCRIBERS says how many subscribers there are."""
 from __future__ import annotations
 
+import csv
 import pathlib
 import time
 from collections.abc import Callable, Iterator
@@ -27,6 +28,23 @@ def nothing(_: Month) -> None:
     """A day on which an operator does nothing."""
 
 
+def texts_are_right(month: Month, number: str) -> None:
+    """Each statement and export of a month is the model's."""
+    folders = {kind: f"/tmp/{kind}-{number}-{month.day}" for kind in ("statements", "exports")}
+    for kind, folder in folders.items():
+        month.word(f"office {kind} {number} {folder}")
+    everyone = [*month.accounts, *month.model.clearings.values()]
+    for account in everyone:
+        one, home = month.model.whole(account), month.doors.homes[account]
+        for kind, ending in (("statements", "txt"), ("exports", "csv")):
+            file = month.root / folders[kind][1:] / home / f"{account}.{ending}"
+            wanted = (
+                one.export(number) if ending == "csv" else one.statement(number, month.clock.now)
+            )
+            assert file.read_text(encoding="utf-8") == wanted, account
+            month.counts["texts"] += 1
+
+
 # What is done at noon and in the evening of a day.
 PLAN: dict[int, tuple[Task, Task]] = {
     2: (nothing, tasks.upgrade),
@@ -40,9 +58,12 @@ PLAN: dict[int, tuple[Task, Task]] = {
     12: (lambda month: tasks.redeem(month, 4, 8), tasks.restore),
     15: (nothing, lambda month: tasks.carry(month, "03")),
     16: (tasks.drill, tasks.audit),
-    17: (nothing, tasks.one_more),
+    17: (lambda month: tasks.repeats(month, "03"), tasks.one_more),
+    18: (lambda month: tasks.repeats(month, "05"), lambda month: texts_are_right(month, MONTH)),
     20: (nothing, lambda month: tasks.new_book(month, 3, 22)),
     23: (nothing, tasks.audit),
+    24: (nothing, lambda month: tasks.carry(month, "03")),
+    25: (lambda month: tasks.repeats(month, "03"), nothing),
     26: (lambda month: tasks.redeem(month, 8, 12), nothing),
 }
 
@@ -63,29 +84,29 @@ def test_a_month(month: Month) -> None:
         month.passes(lambda: noon(month), lambda: evening(month))
         seconds = time.monotonic() - begun
         print(f"day {day}: {month.counts}, again {month.doors.again}, {seconds:.0f} s", flush=True)
+        print(f"  {month.times()}", flush=True)
     tasks.last_hour(month)
     month.balances(month.clock.now)
     for each in (MONTH, "202704"):
         texts_are_right(month, each)
     told = month.word("office audit --sums /tmp/sums")
     assert told == "findings 0 in 5 databases\n"
+    sums_are_right(month)
     print(f"{SUBSCRIBERS} subscribers: {month.counts}, again {month.doors.again}", flush=True)
 
 
-def texts_are_right(month: Month, number: str) -> None:
-    """Each statement and export of a month is the model's."""
-    month.word(f"office statements {number} /tmp/statements-{number}")
-    month.word(f"office exports {number} /tmp/exports-{number}")
-    everyone = [*month.accounts, *month.model.clearings.values()]
-    for account in everyone:
-        one, home = month.model.office.accounts[account], month.doors.homes[account]
-        for kind, ending in (("statements", "txt"), ("exports", "csv")):
-            file = month.root / f"tmp/{kind}-{number}/{home}/{account}.{ending}"
-            wanted = (
-                one.export(number) if ending == "csv" else one.statement(number, month.clock.now)
-            )
-            assert file.read_text(encoding="utf-8") == wanted, account
-            month.counts["texts"] += 1
+def sums_are_right(month: Month) -> None:
+    """The office's sums of each month are those of the model's uses."""
+    with (month.root / "tmp/sums/charges.csv").open(encoding="utf-8", newline="") as stream:
+        rows = list(csv.DictReader(stream))
+    for number in (MONTH, "202704"):
+        uses = [
+            use for account in month.accounts for use in month.model.whole(account).uses_of(number)
+        ]
+        own = [row for row in rows if row["month"] == number]
+        for name in ("blocks", "covered", "rated", "collected"):
+            assert sum(int(row[name]) for row in own) == sum(use[name] for use in uses), name
+        assert sum(int(row["charges"]) for row in own) == len(uses)
 
 
 def test_rows_that_another_hand_changed(month: Month, tmp_path: pathlib.Path) -> None:
