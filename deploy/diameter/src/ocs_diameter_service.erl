@@ -11,6 +11,8 @@
 
 -define(SERVICE, ocs).
 -define(VENDOR_3GPP, 10415).
+%% How long a port may take to open: on a busy machine the first one of TLS takes seconds.
+-define(OPEN_MS, 30000).
 
 -spec start_link() -> {ok, pid()} | {error, term()}.
 start_link() ->
@@ -101,18 +103,21 @@ service(#{origin_host := Host, origin_realm := Realm, origin_state_id := StateId
 -spec listens(ocs_diameter_config:listen(), ocs_diameter_config:config()) -> boolean().
 listens(#{ip := Ip, port := Port} = Listen, Config) ->
     {ok, Ref} = diameter:add_transport(?SERVICE, {listen, transport(Listen, Config)}),
-    IsOpen = is_open(Ref, Port, 40),
+    IsOpen = is_open(Ref, Port, ocs_diameter_clock:ms() + ?OPEN_MS),
     IsOpen andalso ?LOG_NOTICE("listening ~s", [ocs_diameter_address:text({Ip, Port})]),
     IsOpen.
 
--spec is_open(term(), inet:port_number(), non_neg_integer()) -> boolean().
-is_open(_, _, 0) ->
-    false;
-is_open(Ref, Port, Tries) ->
+-spec is_open(term(), inet:port_number(), integer()) -> boolean().
+is_open(Ref, Port, Until) ->
     case [P || {listen, P, _} <- diameter_tcp:ports(Ref), P == Port] of
         [_ | _] -> true;
-        [] -> timer:sleep(50), is_open(Ref, Port, Tries - 1)
+        [] -> ocs_diameter_clock:left(Until) > 0 andalso again(Ref, Port, Until)
     end.
+
+-spec again(term(), inet:port_number(), integer()) -> boolean().
+again(Ref, Port, Until) ->
+    timer:sleep(50),
+    is_open(Ref, Port, Until).
 
 -spec transport(ocs_diameter_config:listen(), ocs_diameter_config:config()) -> [term()].
 transport(#{ip := Ip, port := Port} = Listen, #{watchdog_timer := Watchdog, pool_size := Pool}) ->
