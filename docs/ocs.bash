@@ -1,5 +1,5 @@
 # Completions of ocs for bash: source this file, or copy it as `ocs` to a folder of bash-completion.
-# tools/words compares them with what the program says of its words.
+# tools/repo words compares them with what the program says of its words.
 
 _ocs_commands() {
     echo once init migrate book serve import open bar unbar sweep credit allow statement replay help

@@ -1,4 +1,4 @@
-# Completions of ocs for fish: copy this file to ~/.config/fish/completions, or source it. tools/words
+# Completions of ocs for fish: copy this file to ~/.config/fish/completions, or source it. tools/repo words
 # compares them with what the program says of its words.
 
 # Whether a path belongs at the cursor: each command's first operands are paths, so many.

@@ -1,4 +1,4 @@
-"""What an office has to have, by tools/ledgers.py: a reading of docs/RULES.md that shares nothing with
+"""What an office has to have, by tools/lib/ledgers.py: a reading of docs/RULES.md that shares nothing with
 the program or with the command `office`.
 
 It is handed each command once, at the moment at which its shard had it, and says the answer, balances,
@@ -16,7 +16,7 @@ from typing import Any
 
 from month.machine import TOP
 
-sys.path.append(str(TOP / "tools"))
+sys.path.append(str(TOP / "tools/lib"))
 ledgers: Any = importlib.import_module("ledgers")
 Body = dict[str, Any]
 

@@ -1,5 +1,5 @@
 """A month of an office of four shards, and of a fifth: March 2027 in Berlin with its change of the clock,
-by Debian's faketime. Every answer is the one that tools/ledgers.py reckons, and so is every balance,
+by Debian's faketime. Every answer is the one that tools/lib/ledgers.py reckons, and so is every balance,
 statement and export in the end. Then rows are changed by hand.
 
 MONTH_SUBSCRIBERS says how many subscribers there are."""

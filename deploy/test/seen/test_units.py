@@ -1,4 +1,4 @@
-"""The units under systemd, in a copy of this machine (tools/deploy): what they may, what is left after
+"""The units under systemd, in a copy of this machine (tools/play lines): what they may, what is left after
 a kill, whether the clock holds a start up, and what is seen of all of it."""
 from __future__ import annotations
 
@@ -77,8 +77,8 @@ class Machine:
 @pytest.fixture(scope="module")
 def machine() -> Iterator[Machine]:
     """A machine whose clock isn't set yet: its shards are enabled and wait."""
-    sys.path.insert(0, str(TOP / "tools"))
-    loader = SourceFileLoader("tools_deploy", str(TOP / "tools/deploy"))
+    sys.path.insert(0, str(TOP / "tools/lib"))
+    loader = SourceFileLoader("tools_deploy", str(TOP / "tools/lib/deploy"))
     spec = importlib.util.spec_from_loader("tools_deploy", loader)
     assert spec
     tool: Any = importlib.util.module_from_spec(spec)

@@ -1,6 +1,6 @@
 """Ports of 127.0.0.1 for the processes of tests, also for runs side by side.
 
-They are given by the same file as those of tools/ports.py, so that both keep out of each other's
+They are given by the same file as those of tools/lib/ports.py, so that both keep out of each other's
 way."""
 from __future__ import annotations
 

@@ -1,4 +1,4 @@
-"""The words `check` and `status`; `up` is tried under systemd by tools/deploy."""
+"""The words `check` and `status`; `up` is tried under systemd by tools/play lines."""
 from __future__ import annotations
 
 import time

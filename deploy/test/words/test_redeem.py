@@ -1,4 +1,4 @@
-"""Clearing accounts and redemptions over shards; tools/redemptions stops them at each request."""
+"""Clearing accounts and redemptions over shards; tools/play redemptions stops them at each request."""
 from __future__ import annotations
 
 import json

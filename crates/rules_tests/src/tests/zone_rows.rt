@@ -1,4 +1,4 @@
-//! What the clocks of 300 zones show: `tools/zones` makes these modules.
+//! What the clocks of 300 zones show: `tools/repo zones` makes these modules.
 
 pub(crate) mod at_new_year;
 pub(crate) mod northern;

@@ -1,6 +1,6 @@
 //! Zones with summer time: what their texts say, which texts none has, and what their clocks show.
 //! What a text says is POSIX's (Base Definitions 8.3) and the ranges of `docs/FORMATS.md`; what a
-//! clock shows comes from tables of changes that zic compiled (`tools/zones`).
+//! clock shows comes from tables of changes that zic compiled (`tools/repo zones`).
 
 use crate::tests::tables::{Teller, try_table};
 use crate::tests::zone_rows::{at_new_year, northern, offices, southern};

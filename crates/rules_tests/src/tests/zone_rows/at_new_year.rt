@@ -1,5 +1,5 @@
 //! What the clocks of zones with a change in another year on UTC's clock show.
-//! `tools/zones` makes this file.
+//! `tools/repo zones` makes this file.
 
 pub(crate) mod table_1;
 pub(crate) mod table_2;

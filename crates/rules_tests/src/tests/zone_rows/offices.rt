@@ -1,5 +1,5 @@
 //! What the clocks of zones of offices show.
-//! `tools/zones` makes this file.
+//! `tools/repo zones` makes this file.
 
 pub(crate) mod table_1;
 pub(crate) mod table_2;

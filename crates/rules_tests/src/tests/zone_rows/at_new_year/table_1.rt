@@ -1,5 +1,5 @@
 //! What the clocks of zones with a change in another year on UTC's clock show.
-//! `tools/zones` makes this file.
+//! `tools/repo zones` makes this file.
 
 pub(crate) const ROWS: &str = "Qzi-10:02Cep-12:02,M8.5.5/5:53,M1.1.5/5:04 => zone
 157723079 => 1826 59 157723080

@@ -1,5 +1,5 @@
 //! What the clocks of zones with a change in another year on UTC's clock show.
-//! `tools/zones` makes this file.
+//! `tools/repo zones` makes this file.
 
 pub(crate) const ROWS: &str = "lCX-12:00bxyEE-13:43,M9.2.5,M1.1.1/1:05 => zone
 38620799 => 448 29 38664000

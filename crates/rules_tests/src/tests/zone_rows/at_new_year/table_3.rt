@@ -1,5 +1,5 @@
 //! What the clocks of zones with a change in another year on UTC's clock show.
-//! `tools/zones` makes this file.
+//! `tools/repo zones` makes this file.
 
 pub(crate) const ROWS: &str = "EqY-10:00BaLxS-10:41,M6.5.3/11:00,M1.1.3/00:19 => zone
 504884280 => 5844 59 504883140

@@ -1,5 +1,5 @@
 //! What the clocks of zones with a change in another year on UTC's clock show.
-//! `tools/zones` makes this file.
+//! `tools/repo zones` makes this file.
 
 pub(crate) const ROWS: &str = "ZjP+13mus12:37,M8.5.0/07,M12.5.0/16:22 => zone
 317493359 => 3675 8 317566800

@@ -1,5 +1,5 @@
 //! What the clocks of zones with a change in another year on UTC's clock show.
-//! `tools/zones` makes this file.
+//! `tools/repo zones` makes this file.
 
 pub(crate) const ROWS: &str = "MsCb-11:14YJRg-13:14,M6.3.0,M1.1.4/06:16 => zone
 207786119 => 2406 28 207830760

@@ -1,5 +1,5 @@
 //! What the clocks of zones whose summer time ends in its year, taken by chance show.
-//! `tools/zones` makes this file.
+//! `tools/repo zones` makes this file.
 
 pub(crate) const ROWS: &str = "XiIT-05:01wnUzt-6:01,M4.4.2/22:14,M9.3.1/6 => zone
 41620320 => 482 55 41623140

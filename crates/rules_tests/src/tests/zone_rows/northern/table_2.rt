@@ -1,5 +1,5 @@
 //! What the clocks of zones whose summer time ends in its year, taken by chance show.
-//! `tools/zones` makes this file.
+//! `tools/repo zones` makes this file.
 
 pub(crate) const ROWS: &str = "yoEQ+6:38pPah6:08,M1.5.1/11,M5.2.0 => zone
 389779679 => 4512 4 389860680

@@ -1,5 +1,5 @@
 //! What the clocks of zones whose summer time ends in its year, taken by chance show.
-//! `tools/zones` makes this file.
+//! `tools/repo zones` makes this file.
 
 pub(crate) const ROWS: &str = "sEefuf-07CuAasS-7:30,M2.2.2/13:50,M7.4.4/13 => zone
 18673199 => 217 24 18723600

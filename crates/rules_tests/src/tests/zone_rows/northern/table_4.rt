@@ -1,5 +1,5 @@
 //! What the clocks of zones whose summer time ends in its year, taken by chance show.
-//! `tools/zones` makes this file.
+//! `tools/repo zones` makes this file.
 
 pub(crate) const ROWS: &str = "Wni+01:00zLE-1:00,M7.4.4/21:17,M10.3.3/02 => zone
 238976160 => 2766 53 238978800

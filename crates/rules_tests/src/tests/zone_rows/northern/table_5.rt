@@ -1,5 +1,5 @@
 //! What the clocks of zones whose summer time ends in its year, taken by chance show.
-//! `tools/zones` makes this file.
+//! `tools/repo zones` makes this file.
 
 pub(crate) const ROWS: &str = "PmUp10pgv+9:30,M7.3.0,M9.1.0 => zone
 522244740 => 6045 4 522322200

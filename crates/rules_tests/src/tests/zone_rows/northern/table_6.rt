@@ -1,5 +1,5 @@
 //! What the clocks of zones whose summer time ends in its year, taken by chance show.
-//! `tools/zones` makes this file.
+//! `tools/repo zones` makes this file.
 
 pub(crate) const ROWS: &str = "guC9lhKuZ08:16,M6.1.3/21:42,M8.3.1 => zone
 446896079 => 5173 1 446979600

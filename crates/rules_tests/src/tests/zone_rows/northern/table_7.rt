@@ -1,5 +1,5 @@
 //! What the clocks of zones whose summer time ends in its year, taken by chance show.
-//! `tools/zones` makes this file.
+//! `tools/repo zones` makes this file.
 
 pub(crate) const ROWS: &str = "SgWrWO-2:00OwdzZ,M1.5.6/02:20,M11.3.1/18 => zone
 67579919 => 783 17 67640400

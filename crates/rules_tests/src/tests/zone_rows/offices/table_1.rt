@@ -1,5 +1,5 @@
 //! What the clocks of zones of offices show.
-//! `tools/zones` makes this file.
+//! `tools/repo zones` makes this file.
 
 pub(crate) const ROWS: &str = "CET-1CEST,M3.5.0,M10.5.0/3 => zone
 190139760 => 2201 44 190162800

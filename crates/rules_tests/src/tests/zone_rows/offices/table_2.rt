@@ -1,5 +1,5 @@
 //! What the clocks of zones of offices show.
-//! `tools/zones` makes this file.
+//! `tools/repo zones` makes this file.
 
 pub(crate) const ROWS: &str = "NST3:30NDT,M3.2.0/0:01,M11.1.0/0:01 => zone
 69219000 => 802 0 69301800

@@ -1,5 +1,5 @@
 //! What the clocks of zones whose summer time ends in the year after, taken by chance show.
-//! `tools/zones` makes this file.
+//! `tools/repo zones` makes this file.
 
 pub(crate) const ROWS: &str = "WyA10:00sQSE+8,M8.4.6/1:29,M6.2.3/3:02 => zone
 251053919 => 2906 22 251107200

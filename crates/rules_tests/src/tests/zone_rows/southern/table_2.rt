@@ -1,5 +1,5 @@
 //! What the clocks of zones whose summer time ends in the year after, taken by chance show.
-//! `tools/zones` makes this file.
+//! `tools/repo zones` makes this file.
 
 pub(crate) const ROWS: &str = "sZS+13:56WjKUht11:56,M6.4.1/2,M2.1.3/3:00 => zone
 236274900 => 2735 4 236346960

@@ -1,5 +1,5 @@
 //! What the clocks of zones whose summer time ends in the year after, taken by chance show.
-//! `tools/zones` makes this file.
+//! `tools/repo zones` makes this file.
 
 pub(crate) const ROWS: &str = "lGWC11:06OdKCQ+10:19,M10.4.2/02,M3.3.1 => zone
 217308660 => 2515 43 217333140

@@ -1,5 +1,5 @@
 //! What the clocks of zones whose summer time ends in the year after, taken by chance show.
-//! `tools/zones` makes this file.
+//! `tools/repo zones` makes this file.
 
 pub(crate) const ROWS: &str = "MmLnRa+12:39iUx+12:09,M9.5.2/16,M5.4.2 => zone
 56795579 => 657 50 56808540

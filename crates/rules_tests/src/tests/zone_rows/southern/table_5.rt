@@ -1,5 +1,5 @@
 //! What the clocks of zones whose summer time ends in the year after, taken by chance show.
-//! `tools/zones` makes this file.
+//! `tools/repo zones` makes this file.
 
 pub(crate) const ROWS: &str = "tWqJ-13:30Knt-14,M9.3.2/2,M1.1.6/20:15 => zone
 464272140 => 5375 4 464349600

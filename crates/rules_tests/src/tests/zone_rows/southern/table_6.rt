@@ -1,5 +1,5 @@
 //! What the clocks of zones whose summer time ends in the year after, taken by chance show.
-//! `tools/zones` makes this file.
+//! `tools/repo zones` makes this file.
 
 pub(crate) const ROWS: &str = "tGsui-3:54Aucy-04:54,M4.1.2/19:26,M1.5.3 => zone
 72934200 => 845 21 72990360

@@ -1,5 +1,5 @@
 //! What the clocks of zones whose summer time ends in the year after, taken by chance show.
-//! `tools/zones` makes this file.
+//! `tools/repo zones` makes this file.
 
 pub(crate) const ROWS: &str = "efd12:00wgm,M11.3.3/11,M3.4.0/12 => zone
 92658960 => 1072 59 92660400
