@@ -9,6 +9,7 @@ use Rattle.buckets.specs.Spend.{inserted}
 use Rattle.buckets.specs.Laws.{IsAddedAlone, IsAddedInOrder}
 use Rattle.buckets.proofs.SharesAlong.{IsInOrder-inserted}
 
+-- rule: bucket-order.added-alone
 pub added_alone : IsAddedAlone
 added_alone b [] = IsPermutation-refl (b ∷ [])
 added_alone b (x ∷ xs) = at (nat_lt b.until x.until) (added_alone b xs)
@@ -22,5 +23,6 @@ added_alone b (x ∷ xs) = at (nat_lt b.until x.until) (added_alone b xs)
         (IsPermutation-to_front (b ∷ []) x))
         (IsPermutation-cons x (b ∷ xs) (inserted b xs) rest)
 
+-- rule: bucket-order.added-alone
 pub added_in_order : IsAddedInOrder
 added_in_order b rows below order = IsInOrder-inserted b rows below order

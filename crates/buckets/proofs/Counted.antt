@@ -86,6 +86,7 @@ each_most kind group at (b ∷ bs) h =
     omega (arith, sum_in-cons kind (eligible_amount group at) b bs, here, rest, more)
 
 -- what the eligible buckets of a kind have together
+-- rule: eligible
 pub sum_in-most : (kind : BucketKind) (group at : ℕ) (rows : List BucketRow) → IsSound rows →
     sum_in kind (eligible_amount group at) rows ≤ 4_294_967_296 * most_of kind
 sum_in-most kind group at rows h = by_kind kind

@@ -40,6 +40,7 @@ no_share : (group at : ℕ) (due : Due) (rows : List BucketRow) (b : BucketRow) 
     share (eligible_amount group at) rows due b ≡ 0
 no_share group at due rows b h = omega (arith, nothing group at b h)
 
+-- rule: eligible.used-in-its-time
 pub used_in_its_time : IsUsedInItsTime
 used_in_its_time holds group at due rows b h =
     record {

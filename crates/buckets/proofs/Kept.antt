@@ -93,6 +93,7 @@ balanced_hold : (b : BucketRow) (n : ℕ) → n ≤ b.available → IsBalanced b
 balanced_hold b n le h = record
     { sum = omega arith; most = h.most; scope = h.scope; number = h.number }
 
+-- rule: bucket-columns
 balanced_charge : (b : BucketRow) (n : ℕ) → n ≤ b.available → IsBalanced b →
     IsBalanced (with_charge b n)
 balanced_charge b n le h = record
@@ -103,6 +104,7 @@ balanced_charge_of_hold : (b : BucketRow) (n : ℕ) → n ≤ b.reserved → IsB
 balanced_charge_of_hold b n le h = record
     { sum = omega arith; most = h.most; scope = h.scope; number = h.number }
 
+-- rule: bucket-columns
 pub balanced_release : (t : ℕ) (b : BucketRow) (n : ℕ) → n ≤ b.reserved → IsBalanced b →
     IsBalanced (with_release t b n)
 balanced_release t b n le h =
@@ -113,6 +115,7 @@ balanced_release t b n le h =
       | false ↦ record { sum = omega arith; most = h.most; scope = h.scope; number = h.number }
     ]
 
+-- rule: bucket-columns
 pub balanced_end : (t : ℕ) (b : BucketRow) → IsBalanced b → IsBalanced (with_end t b)
 balanced_end t b h =
     elim (nat_lt t b.until) as
@@ -203,6 +206,7 @@ IsSound-charge_of_hold holds left rows w h = record {
   balanced = balanced_along-charge_of_hold holds left rows w h.balanced;
 }
 
+-- rule: bucket-end
 pub IsSound-release : (holds : List HeldAmount) (t : ℕ) (rows : List BucketRow) →
     IsWithin holds rows →
     IsSound rows → IsSound (map (λ b. with_release t b (held_in holds b)) rows)
@@ -215,6 +219,7 @@ IsSound-release holds t rows w h = record {
   balanced = balanced_released holds t rows w h.balanced;
 }
 
+-- rule: bucket-end
 pub IsSound-end : (t : ℕ) (rows : List BucketRow) → IsSound rows → IsSound (map (with_end t) rows)
 IsSound-end t rows h = record {
   order = IsInOrder-map (with_end t) rows (with_end_keeps t) h.order;

@@ -73,6 +73,7 @@ sum_in-share k f (b ∷ bs) due order =
     )
 
 -- what the buckets pay of what is due and what is unpaid are what is due
+-- rule: shares.pays-all
 pub sum_in-paid : PaysAll
 sum_in-paid k holds group t due rows order =
     let both : sum_in k (paid holds group t due rows) rows

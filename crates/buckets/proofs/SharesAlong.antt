@@ -84,6 +84,7 @@ map_next does f b bs [] c h = refl
 map_next does f b bs (y ∷ ys) c h =
     rw (share_next f b y bs c h.0, map_next does f b bs ys c h.1) refl
 
+-- rule: shares
 pub by_shares-along : (does : BucketRow → ℕ → BucketRow) (f : BucketRow → ℕ) (rows : List BucketRow)
     (c : Due) →
     IsInOrder rows → by_shares does f rows c ≡ along does f c rows
@@ -190,6 +191,7 @@ parts_next of f b bs [] c h = refl
 parts_next of f b bs (y ∷ ys) c h =
     rw (share_next f b y bs c h.0, parts_next of f b bs ys c h.1) refl
 
+-- rule: holds
 pub parts-along : (of : BucketRow → ℕ → ℕ) (f : BucketRow → ℕ) (rows : List BucketRow) (c : Due) →
     IsInOrder rows →
     parts (λ b. of b (share f rows c b)) rows ≡ parts_along of f c rows
@@ -239,6 +241,7 @@ inserted_at false b x xs e new h rest =
     let behind : precedes x b ≡ true = grind (arith, nat_tests) in
     (PrecedesAll-inserted x b xs behind h.0, rest)
 
+-- rule: bucket-order
 pub IsInOrder-inserted : (b : BucketRow) (rows : List BucketRow) → IsBelow b.number rows →
     IsInOrder rows →
     IsInOrder (inserted b rows)

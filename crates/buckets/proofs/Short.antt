@@ -120,6 +120,7 @@ all_taken true n part e k = omega (arith, e)
 all_taken false n part e k = absurd (let no_bucket : false ≡ true = k in cc)
 
 -- what is due reaches all that is held in a bucket's unit, and all that is eligible
+-- rule: uncollected
 pub spent_all : (holds : List HeldAmount) (group at : ℕ) (due : Due) (rows : List BucketRow)
     (b : BucketRow) →
     IsAmong b rows →
@@ -143,6 +144,7 @@ spent_all holds group at due rows b h reaches =
           (omega (arith, held)),
     )
 
+-- rule: uncollected
 pub spent : IsSpentWhereShort
 spent holds group at due rows b h short =
     let left = due_left (held_in holds) rows due b.kind in
@@ -253,6 +255,7 @@ share_first f a b rows due h k some =
     (first_of (is_alike a.kind b.kind) (precedes a b) k) in
     omega (arith, within, some, same)
 
+-- rule: settle-order.holds-pay-first
 pub holds_first : HoldsPayFirst
 holds_first holds group at due rows a b h alike some =
     let left = due_left (held_in holds) rows due b.kind in
@@ -260,10 +263,12 @@ holds_first holds group at due rows a b h alike some =
     let sums = alike_sum a.kind b.kind (held_in holds) rows alike in
     share_all (held_in holds) a rows due h (omega (arith, some, left, same, sums))
 
+-- rule: settle-order.holds-pay-first
 pub earlier_holds_first : EarlierHoldsPayFirst
 earlier_holds_first holds due rows a b h k some =
     share_first (held_in holds) a b rows due h k some
 
+-- rule: settle-order.holds-pay-first
 pub earlier_first : EarlierPayFirst
 earlier_first holds group at due rows a b h k some =
     let alike = first_of (is_alike a.kind b.kind) (precedes a b) k in

@@ -15,6 +15,7 @@ is_alike Blocks Money = false
 is_alike Blocks Blocks = true
 
 -- the most that is credited at once: 10^15 micro-units, 10^9 blocks
+-- rule: bucket-kinds: what buckets count
 abbrev pub most_of : BucketKind → BucketAmount
 most_of Money = most_money
 most_of Blocks = most_blocks
@@ -28,6 +29,7 @@ abbrev pub most_blocks_in_all : BlockCount
 most_blocks_in_all = 4_294_967_296_000_000_000
 
 -- blocks are of one rating group
+-- rule: bucket-kinds
 abbrev pub IsScopeOf : BucketKind → Option GroupId → Type 0
 IsScopeOf Money scope = Unit {0}
 IsScopeOf Blocks scope = is_some scope ≡ true
@@ -37,6 +39,7 @@ IsScopeOf Blocks scope = is_some scope ≡ true
 abbrev pub due : Micros → BlockCount → Due
 due amount blocks = record { money = amount; blocks = blocks }
 
+-- rule: bucket-kinds
 abbrev pub due_in : BucketKind → Due → BucketAmount
 due_in Money d = d.money
 due_in Blocks d = d.blocks

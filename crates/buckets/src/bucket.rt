@@ -21,6 +21,7 @@ use units::Moment;
 /// The credited amount is the sum of four columns, which the type keeps: what is available, what is
 /// reserved for live sessions, what was charged, and what expired at the bucket's end. All are in
 /// the unit of its kind.
+// rule: bucket-columns
 #[derive(Clone)]
 pub struct Bucket {
     number: u32,
@@ -181,6 +182,7 @@ impl Bucket {
 
     /// Whether it may be used for the rating group at the moment: between its beginning and its
     /// end, and where its scope is none or the group.
+    // rule: eligible
     pub fn is_eligible(&self, group: u32, at: Moment) -> bool
         ensures { result ≡ is_eligible group at self.now }
     {

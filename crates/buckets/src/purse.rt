@@ -180,6 +180,7 @@ impl Purse {
 
     /// The money that the buckets which are eligible for the rating group at the moment have
     /// available.
+    // rule: eligible
     pub fn funds(&self, group: u32, at: Moment) -> Amount
         ensures sum { result.0 ≡ funds group at self.now }
         ensures sound { IsSound self.now }
@@ -188,6 +189,7 @@ impl Purse {
     }
 
     /// The blocks that the allowances of the rating group have available at the moment.
+    // rule: eligible
     pub fn allowance(&self, group: u32, at: Moment) -> Blocks
         ensures sum { result.0 ≡ allowance group at self.now }
         ensures sound { IsSound self.now }
@@ -210,6 +212,7 @@ impl Purse {
     /// # Errors
     /// `NotCovered` exactly where the amount exceeds the funds, else `Memory`: a growth was
     /// refused. Then the purse is unchanged.
+    // rule: holds
     pub fn hold(&mut self, group: u32, at: Moment, amount: Amount) -> Result<Holds, PurseFault>
         ensures { HoldsDue group at (due amount.0 0) (funds group at self.old < amount.0) self.old
             self.new result }
@@ -254,6 +257,7 @@ impl Purse {
     }
 
     /// Holds an amount and blocks that are covered, in memory that was taken before.
+    // rule: holds
     pub fn hold_in(
         &mut self,
         room: HoldRoom,
@@ -279,6 +283,7 @@ impl Purse {
     ///
     /// # Errors
     /// `Memory` and no other: a growth was refused. Then purse and holds are unchanged.
+    // rule: released
     pub fn charge(
         &mut self,
         holds: &mut Holds,
@@ -340,6 +345,7 @@ impl Purse {
 
     /// Charges an amount and blocks as `charge` and `charge_blocks` do and then gives up what is
     /// left of the holds: what a report's settlement does to the purse. It takes no memory.
+    // rule: holds.held, settle-order, uncollected
     pub fn settle(
         &mut self,
         holds: Holds,
@@ -376,6 +382,7 @@ impl Purse {
     }
 
     /// Gives up what is held: it is available again, or expired from the bucket's end on.
+    // rule: bucket-end, released
     pub fn release(&mut self, holds: Holds, at: Moment)
         requires { IsWithin holds self.old }
         ensures { self.new ≡ released_rows holds at self.old }
@@ -384,6 +391,7 @@ impl Purse {
     }
 
     /// Moves what is available to expired in the buckets that have ended.
+    // rule: bucket-end
     pub fn expire(&mut self, at: Moment)
         ensures { self.new ≡ map (with_end at) self.old }
     {

@@ -94,6 +94,7 @@ other_here c here at stop r w whole later before differs =
     }
 
 -- what is found there is a change
+-- rule: switch
 pub found_change : (c : Timetable) (start seconds base : ℕ) (here : Period) (at steps stop s : ℕ) →
     Crossing c start seconds base here at steps → Within c here at stop →
     stop ≤ start + seconds → IsOther (steady_at c at) here at stop s →
@@ -197,6 +198,7 @@ crossing_goes_on c start seconds base here at steps stop more w within inside na
     )
 
 -- past the end there was no change
+-- rule: switch
 pub crossing_ends : (c : Timetable) (start seconds base : ℕ) (here : Period) (at steps : ℕ) →
     Crossing c start seconds base here at steps → start + seconds ≤ at → (r : ℕ) →
     IsChange c start (start + seconds) r → ⊥
@@ -210,6 +212,7 @@ few_are zone first end base at steps (inl (here, few)) = omega (arith, few)
 few_are zone first end base at steps (inr (inl (here, few))) = omega (arith, few)
 few_are zone first end base at steps (inr (inr (past, few))) = few
 
+-- rule: switch-steps
 pub steps_few : (c : Timetable) (start seconds base : ℕ) (here : Period) (at steps : ℕ) →
     Crossing c start seconds base here at steps → seconds ≤ 43_200 → steps ≤ base + 258
 steps_few c start seconds base here at steps w short =
@@ -231,6 +234,7 @@ found_few zone start seconds base at steps more stop (inr (inl (here, few))) sho
 found_few zone start seconds base at steps more stop (inr (inr (past, few))) short before from
     inside adds = absurd (omega (arith, past, before))
 
+-- rule: switch-steps
 pub steps_found : (c : Timetable) (start seconds base : ℕ) (here : Period)
     (at steps stop more : ℕ) → Crossing c start seconds base here at steps → seconds ≤ 43_200 →
     at < start + seconds → stop ≤ start + seconds →

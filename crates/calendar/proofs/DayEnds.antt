@@ -109,6 +109,7 @@ not_before zone shown start r is at small below early =
     ]
 
 -- it comes so far before the next change
+-- rule: day-end
 pub read_before : (zone : ZoneRule) (shown start : ℕ) → IsZone zone → start ≡ shown - 136_800 →
     shown < 2 ^ 33 → start + (shown - clock zone start) < next_change zone start →
     in_time (start + (shown - clock zone start)) ≡ moment_shown zone shown
@@ -139,6 +140,7 @@ read_before zone shown start is at small below =
     (omega arith)
 
 -- or after it
+-- rule: day-end
 pub read_after : (zone : ZoneRule) (shown start next : ℕ) → IsZone zone →
     start ≡ shown - 136_800 → shown < 2 ^ 33 → next ≡ next_change zone start →
     next ≤ start + (shown - clock zone start) → clock zone next ≤ shown →
@@ -174,6 +176,7 @@ read_after zone shown start next is at small change past come =
     (omega arith)
 
 -- or the change skips it
+-- rule: day-end
 pub read_gap : (zone : ZoneRule) (shown start next : ℕ) → IsZone zone →
     start ≡ shown - 136_800 → shown < 2 ^ 33 → next ≡ next_change zone start →
     next ≤ start + (shown - clock zone start) → shown < clock zone next →

@@ -121,6 +121,7 @@ first_change c t d (Some s) h = record {
   none = tt;
 }
 
+-- rule: switch.switch-first
 pub switch_is_first : IsSwitchFirst
 unfolding switch_within
 switch_is_first c t d = first_change c t d _ (first_minute (is_other c t) _ _)

@@ -52,6 +52,7 @@ last_at now (x ∷ cs) t (suc i) c apart within is come last =
     rw test (last_at x.lead cs t i c (tail_apart x cs apart) (omega (arith, within)) is come
     (λ d in_rest. last d (there_is x d cs in_rest)))
 
+-- rule: zone-changes.lead
 pub lead_is_last : (zone : ZoneRule) (t : ℕ) (last : ZoneChange) → IsZone zone →
     Contains zone.changes last → last.at ≤ t + 31_622_400 →
     ((c : ZoneChange) → Contains zone.changes c → c.at ≤ t + 31_622_400 → c.at ≤ last.at) →
@@ -206,6 +207,7 @@ ends_read zone t days s n is late first small reads =
           }))
     ]
 
+-- rule: day-end
 pub day_end_is_read : (zone : ZoneRule) (t days s : ℕ) → IsZone zone →
     clock zone 0 < midnight zone t days → day_end zone t days ≡ Some s →
     IsShownFirst zone t days s ⊎ IsSkipped zone t days s

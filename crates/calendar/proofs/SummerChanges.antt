@@ -186,6 +186,7 @@ first_lead : (test : Bool) (rule : SummerTime) → IsSummerTime rule →
 first_lead true rule is = is.standard
 first_lead false rule is = is.summer
 
+-- rule: zone-changes.zone-of-rule
 pub is_zone : (rule : SummerTime) → IsSummerTime rule → IsZone (zone_of_rule rule)
 is_zone rule is =
     elim (cases_lt rule.begins.month rule.ends.month) [
@@ -215,6 +216,7 @@ is_zone rule is =
 
 -- ---- as the code puts them in
 
+-- rule: zone-changes
 pub one_year : (rule : SummerTime) (year : ℕ) (items new all : List ZoneChange) → year < 2101 →
     items ++ changes_from rule year (2101 - year) ≡ all → new ≡ items ++ changes_in rule year →
     new ++ changes_from rule (year + 1) (2101 - (year + 1)) ≡ all
@@ -226,6 +228,7 @@ one_year rule year items new all below made is =
     (changes_from rule (year + 1) (2101 - (year + 1)))
     ∙ ap (λ n. items ++ changes_from rule year n) (sym step) ∙ made
 
+-- rule: zone-changes
 pub all_years : (rule : SummerTime) (year : ℕ) (items all : List ZoneChange) → 2101 ≤ year →
     items ++ changes_from rule year (2101 - year) ≡ all → items ≡ all
 unfolding changes_from

@@ -208,6 +208,7 @@ day_late year month day e late some one is =
     let at = days_from_civil-day_count (pos year) month day in
     omega (arith, signed_arith, is, on, at, start, one)
 
+-- rule: zone-changes
 pub from_last : (c : YearlyChange) (year : ℕ) (e : ℤ) (a r : ℕ) → IsYearly c → 1969 ≤ year →
     c.week ≡ 5 → e ≡ days_from_civil (pos year) c.month (days_in_month (pos year) c.month) →
     pos a ≡ e +ℤ pos 366 → r ≡ (sunday_number e + 7 - c.weekday) % 7 →
@@ -224,6 +225,7 @@ from_last c year e a r is late five e_is a_is r_is =
       omega (arith, signed_arith, day, size, a_is, low, start),
     )
 
+-- rule: zone-changes
 pub from_first : (c : YearlyChange) (year : ℕ) (e : ℤ) (a r : ℕ) → IsYearly c → 1969 ≤ year →
     (c.week ≡ 5 → ⊥) → e ≡ days_from_civil (pos year) c.month 1 →
     pos a ≡ e +ℤ pos 366 → r ≡ (c.weekday + 7 - sunday_number e) % 7 →

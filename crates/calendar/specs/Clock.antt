@@ -40,6 +40,7 @@ next_after [] t = 60_000_000_000
 next_after (c ∷ cs) t = if nat_le c.at t then next_after cs t else c.at
 
 -- the lead of the zone's clock at a moment: all else asks this
+-- rule: zone-changes.lead: the offset after the last change at or before a moment
 abbrev pub lead : ZoneRule → Moment → ℕ
 lead zone t = lead_after zone.before zone.changes (since_1968 t)
 
@@ -65,12 +66,14 @@ AreApart (c ∷ []) = Unit {0}
 AreApart (c ∷ next ∷ cs) = (c.at + 604_800 ≤ next.at) × AreApart (next ∷ cs)
 
 -- what the type of a zone keeps
+-- rule: zone-changes.zone-of-rule
 pub record IsZone (zone : ZoneRule) : Type 0 where
   pub before : IsLead zone.before
   pub changes : AreChanges zone.changes
   pub apart : AreApart zone.changes
 
 -- the seconds from 1969-12-31 00:00 to what the zone's clock shows at a moment
+-- rule: zone-changes.lead
 abbrev pub clock : ZoneRule → Moment → ℕ
 clock zone t = t + lead zone t
 

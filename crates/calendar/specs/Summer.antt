@@ -9,11 +9,13 @@ use Rattle.calendar.specs.declared.summer.SummerTime.{SummerTime}
 use Rattle.calendar.specs.Clock.{ZoneRule, IsLead}
 
 -- the number of a change's day in a year, in days since 1968-12-31
+-- rule: zone-changes: the changes of a civil year
 abbrev pub day_in : YearlyChange → ℕ → ℕ
 day_in c year = unsigned_abs (weekday_of_month (pos year) c.month c.week c.weekday +ℤ pos 366)
 
 -- the moment of a change in a year, in seconds since 1968-12-31 00:00 UTC: so many seconds after
 -- 00:00 of its day, on the clock that holds before the change, whose lead is this
+-- rule: zone-changes
 abbrev pub moment_in : YearlyChange → ℕ → ℕ → ℕ
 moment_in c before year = day_in c year * 86400 + c.seconds + 86400 - before
 
@@ -30,6 +32,7 @@ abbrev pub is_northern : SummerTime → Bool
 is_northern rule = nat_lt rule.begins.month rule.ends.month
 
 -- both changes of a year, in the order of their months
+-- rule: zone-changes
 abbrev pub changes_in : SummerTime → ℕ → List ZoneChange
 changes_in rule year =
     if is_northern rule then beginning_in rule year ∷ end_in rule year ∷ []
@@ -42,6 +45,7 @@ changes_from rule year (suc n) = changes_in rule year ++ changes_from rule (year
 
 -- the zone: its changes from 1969 on, whose second one may fall into 1970 on UTC's clock, to 2100,
 -- whose first one may fall into 2099. Before the first the lead is that which the first one ends
+-- rule: zone-changes
 abbrev pub zone_of_rule : SummerTime → ZoneRule
 zone_of_rule rule = record {
   before = if is_northern rule then rule.standard else rule.summer;

@@ -62,6 +62,7 @@ impl Calendar {
     /// The tariff period at a moment: that of the civil weekday and minute of the beginning of its
     /// UTC minute (Tariff-Time-Change and rating by time, TS 32.296; the rule of the minute is
     /// profile).
+    // rule: period
     pub fn period_at(&self, moment: Moment) -> Period
         ensures value { result ≡ period_at self.now moment }
         ensures entry { (e : Entry) → IsEntryAt self.now moment e → result ≡ e.period }
@@ -75,6 +76,7 @@ impl Calendar {
     /// the moment, and less than so many seconds later, whose period is another than that at the
     /// moment. At most 43,200 seconds are asked for, up to the last moment that the type has: each
     /// moment of a command has that many after it.
+    // rule: switch
     pub fn next_switch(&self, moment: Moment, seconds: u32) -> Option<Moment>
         requires seconds { seconds ≤ longest_validity }
         requires in_range { moment + seconds ≤ latest_moment }
@@ -85,6 +87,7 @@ impl Calendar {
 
     /// `next_switch`, going from one entry's end to the next: a step an entry, and an
     /// entry in which the zone's offset changes counts twice, at most 260.
+    // rule: switch-steps
     pub fn next_switch_steps(
         &self,
         moment: Moment,
@@ -105,6 +108,7 @@ impl Calendar {
 
     /// The first whole minute after a moment, and less than so many seconds later, of another
     /// period.
+    // rule: switch-steps
     fn change_after(&self, start: u64, seconds: u32, steps: &mut Steps) -> Option<u64>
         requires start { start < 2 ^ 33 }
         requires steps { steps.old ≤ 1_000_000_000 }
@@ -129,6 +133,7 @@ impl Calendar {
 
     /// The tariff switch within a validity from a moment on, and the validity that is granted with
     /// it, as `next_switch` and `validity_from` give them, by one walk over the week.
+    // rule: validity
     pub fn window_from(&self, moment: Moment, validity: u32) -> Window
         ensures { IsWindow self.now moment validity result }
     {
@@ -162,6 +167,7 @@ impl Calendar {
 
     /// The granted Validity-Time (RFC 8506 section 8.33), in seconds: the book's validity, cut at
     /// the next later change of period after the switch that lies within it.
+    // rule: validity
     pub fn validity_from(&self, moment: Moment, validity: u32) -> u32
         ensures { result ≡ validity_from self.now moment validity }
     {
@@ -170,6 +176,7 @@ impl Calendar {
 
     /// The number of a counter's cycle at a moment, in the book's zone: 0 for none; days since
     /// 1969-12-31; months since January 1969.
+    // rule: counters.cycle-at
     pub fn cycle_of(&self, cycle: Cycle, moment: Moment) -> u32
         ensures { IsCycleOf self.now.zone cycle moment result }
     {

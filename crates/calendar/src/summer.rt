@@ -71,6 +71,7 @@ fn sunday_zero(date: Date) -> u8
 }
 
 /// The number of a change's day in a year, in days since 1968-12-31.
+// rule: zone-changes
 fn day_in(change: YearlyChange, year: u16) -> u32
     requires change { IsYearly change }
     requires year { (1969 ≤ year) × (year ≤ 2100) }
@@ -157,6 +158,7 @@ fn add_year(rule: &SummerTime, year: u16, changes: &mut Vec<ZoneChange>) -> Resu
 }
 
 /// The changes of all years of moments.
+// rule: zone-changes
 pub(crate) fn changes(alloc: Global, rule: &SummerTime) -> Result<Vec<ZoneChange>, AllocError>
     requires { IsSummerTime rule.now }
     ensures { IfOk result (λ v. v.items ≡ changes_from rule.now 1969 132) }

@@ -151,6 +151,7 @@ impl Zone {
     ///
     /// # Errors
     /// Out of memory.
+    // rule: zone-changes.zone-of-rule
     pub fn with_summer(alloc: Global, rule: &SummerTime) -> Result<Zone, AllocError>
         requires { IsSummerTime rule.now }
         ensures { IfOk result (λ z. z ≡ zone_of_rule rule.now) }
@@ -163,6 +164,7 @@ impl Zone {
     }
 
     /// The stretch of time around a moment in which the lead stays.
+    // rule: zone-changes.lead
     pub(crate) fn stretch_at(&self, moment: u64) -> Stretch
         requires { moment < 2 ^ 34 }
         ensures lead { result.lead ≡ lead self.now moment }
@@ -179,6 +181,7 @@ impl Zone {
     }
 
     /// What its clock shows at a moment, in seconds since 1969-12-31 00:00 on that clock.
+    // rule: zone-changes.lead
     pub(crate) fn clock_at(&self, moment: u64) -> u64
         requires { moment < 2 ^ 34 }
         ensures value { result ≡ clock self.now moment }
@@ -225,6 +228,7 @@ impl Zone {
     }
 
     /// What a clock shows, in seconds since 1969-12-31 00:00, read as a moment.
+    // rule: day-end
     fn read_clock(&self, shown: u64) -> u64
         requires { shown < 2 ^ 33 }
         ensures { in_time result ≡ moment_shown self.now shown }
@@ -244,6 +248,7 @@ impl Zone {
     }
 
     /// Where the day so many days after that of a moment ends.
+    // rule: day-end
     pub(crate) fn day_end(&self, moment: u64, days: u32) -> Option<Moment>
         requires { moment ≤ latest_moment }
         ensures { result ≡ day_end self.now moment days }

@@ -75,6 +75,7 @@ module _ (ends : DayEnds) (outcome : Option Voucher → History → Command → 
   abbrev after : List Accepted → Accepted → History → History
   after list d h = (outcome (standing_for ends d.command list) h d.command d.moment).after
 
+  -- rule: runs, runs.tables
   pub tables_none : (shelf : Shelf) → AreTablesOf ends outcome shelf [] no_tables
   tables_none shelf = record {
     last = refl;
@@ -86,6 +87,7 @@ module _ (ends : DayEnds) (outcome : Option Voucher → History → Command → 
   }
 
   -- a sweep
+  -- rule: sweep
   pub tables_swept : (shelf : Shelf) (d : Accepted) (list : List Accepted) (old new : Tables) →
       IsInTime list → last_moment list ≤ d.moment → concerned_by d.command ≡ each →
       is_opening d.command ≡ false → ((code : List ℕ) → names_code code d.command ≡ false) →
@@ -169,6 +171,7 @@ module _ (ends : DayEnds) (outcome : Option Voucher → History → Command → 
     pub count : (if is_some (tables.rows change.number).head then tables.count
         else tables.count + 1) ≡ (if is_opening d.command then tables.count + 1 else tables.count)
 
+  -- rule: runs
   pub tables_changed : (shelf : Shelf) (d : Accepted) (list : List Accepted) (change : Change)
       (tables : Tables) → Adds shelf d list change tables →
       AreTablesOf ends outcome shelf list tables →

@@ -47,12 +47,14 @@ accounted_from b list commands new given ranges run a head found =
           (guaranteed_none b) a after).quotas;
     }
 
+-- rule: ledger.runs-over
 pub accounted : (b : Shelf) (commands : List DatedCommand) (old new : Tables)
     (given : List Answer) →
     IsShelf b → Runs b commands old new given → AreAccounted b commands old new given
 accounted b commands old new given ranges runs list time tables =
     accounted_from b list commands new given ranges (runs list time tables)
 
+-- rule: repeat.answers-once
 pub answered_again : (b : Shelf) (c : Command) (t : ℕ) (old new : Tables) (given : Answer) →
     ((list : List Accepted) → IsInTime list → AreTables b list old →
     IsServed b list c (moment_of list t) old new given) →

@@ -161,6 +161,7 @@ module _ (b : Shelf) (list : List Accepted) (a : Allowance) (t : ℕ) (old new :
   fresh-is = outcome-opened b list (command.Allow a) t a.account refl account.opened
       ∙ allowance-fresh b a t h (sym (tables.answers a.account (key_of (content.Allow a))) ∙ fresh)
 
+  -- rule: allowance
   pub allow-told : (refusal : Refusal) → o ≡ Err refusal → new ≡ old →
       IsServed b list (command.Allow a) t old new (answer.Refused refusal)
   allow-told refusal is same =
@@ -172,6 +173,7 @@ module _ (b : Shelf) (list : List Accepted) (a : Allowance) (t : ℕ) (old new :
       (fresh-is ∙ ap (λ r. allowed_unless r a t h) refused)
       refl refl same tables
 
+  -- rule: allowance
   pub allow-done : (number : ℕ) (change : Change) → o ≡ Ok number →
       x.shelf ≡ found.account.shelf →
       IfOk o (λ n. x.as_of ≡ m) →

@@ -456,6 +456,7 @@ show_alike b t a all run alone x y shelf alike p q le =
       vouchers = λ code e. p.vouchers code ∙ alike.vouchers code e ∙ sym (q.vouchers code);
     }
 
+-- rule: isolation
 pub isolated : (b : Shelf) → IsShelf b → (a : List ℕ) (ds : List DatedCommand) → HasOwnCodes a ds →
     IsIsolated b a ds
 isolated b shelf a ds codes =

@@ -14,6 +14,7 @@ use Rattle.charging.proofs.Credited.{distinct}
 use Rattle.charging.proofs.KeptHistories.{kept_history}
 use Rattle.charging.proofs.Sound.{IsSoundHistory, sound_none, keeps_sound}
 
+-- rule: balance.told-by-number
 pub balances_are_by_number : BalancesAreByNumber
 balances_are_by_number b a list t =
     let ledger : Ledger = (history b a list).ledger in

@@ -140,6 +140,7 @@ settled_fair b is t s g (p ∷ ps) ledger h =
       ),
     )
 
+-- rule: stored-limits.bounded
 keeps_fair : (b : Shelf) → IsShelf b → Keeps b (λ reports ledger. AreFair ledger)
 keeps_fair b is = record {
   quiet = λ t f reports ledger q n fits h. quiet_fair t f ledger q h;
@@ -334,6 +335,7 @@ row_bounded b t h r fair empty (Some head) is =
     (charges_bounded b h.ledger (counts_within b h.ledger t r are) fair)
     (omega (arith, next, most, count))
 
+-- rule: stored-limits.bounded
 pub charges_are_bounded : ChargesAreBounded
 charges_are_bounded b is list tables are a =
     row_bounded b (as_of a list) (history b a list) (tables.rows a) (fair_history b is a list)

@@ -342,6 +342,7 @@ either None p = refl
 either (Some x) p = refl
 
 -- what was loaded with what was left of it, in any order, are the buckets of both by number
+-- rule: balance
 pub joined_by_number : (left rows dead ys : List BucketRow) → AreDistinct (merged left rows) →
     AreApart same_bucket dead → ((n : ℕ) → bucket_in n dead ≡ bucket_in n left) →
     AreByNumber (rows ++ dead) ys → ys ≡ by_number (merged left rows)

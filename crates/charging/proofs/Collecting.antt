@@ -289,6 +289,7 @@ keeps_collecting b = record {
     kept = keeps_sound b
 
 -- at any moment
+-- rule: collected
 pub collected_is_charged : (b : Shelf) (reports : List Report) (ledger : Ledger) →
     IsCollecting b reports ledger → (k : BucketKind) (t : ℕ) →
     taken_to_date k ledger ≡ charged_to_date k (validity_of b) t ledger

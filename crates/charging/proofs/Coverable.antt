@@ -95,6 +95,7 @@ covers_all (Some x) p used place covered parts less =
           ))
     ]
 
+-- rule: uncollected
 pub report_covers_all : (b : Shelf) (t : ℕ) (s : List ℕ) (g : ℕ) (parts : List UsedPart)
     (ledger : Ledger) → 0 < (report_price b t s g parts ledger).amount.0 →
     held_sum Blocks (holds_at (validity_of b) t s g ledger) (buckets_at (validity_of b) t ledger)
@@ -116,6 +117,7 @@ event_covers b t g units ledger =
 
 -- ---- allowances come first
 
+-- rule: paid.covers-first
 covers_first : (o : Option GroupTariff) (p : Periods) (used place free : ℕ)
     (parts : List UsedPart) → CoversFirst (rated_with o p used place free parts) free
 covers_first o p used place free parts = record {

@@ -488,6 +488,7 @@ module _ (v : ℕ → ℕ) (from : ℕ) (old : Ledger) where
 
 -- ---- each step
 
+-- rule: dead-rows.dead-for-good
 pub keeps_stays : (b : Shelf) (from : ℕ) (old : Ledger) (t : ℕ) → from ≤ t →
     KeepsAt b t (May (validity_of b) from old) (Stays (validity_of b) from old)
 keeps_stays b from old t le = record {

@@ -410,6 +410,7 @@ grows b list (d ∷ ds) =
     at true = omega arith
     at false = omega arith
 
+-- rule: dead-rows.dead-for-good
 pub dead_rows_stay : DeadRowsStay
 dead_rows_stay b a list between u le =
     let old : Ledger = (history b a list).ledger in

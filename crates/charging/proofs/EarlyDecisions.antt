@@ -481,6 +481,7 @@ module _ (from : ℕ) (b u : Shelf) (on : GoesOnFrom from b u) (t : ℕ) (early 
   decided_early s n (Debit e) ledger h = action_early e.action s n e ledger h
   decided_early s n (Refund r) ledger h = refund_early s n r ledger h
 
+  -- rule: later-books.goes-on-after
   pub decision_same : (r : Request) (ledger : Ledger) → IsEarly from (count b) ledger →
       decision b t r ledger ≡ decision u t r ledger
   decision_same r ledger h = decided_same r.session r.number r.ask ledger h

@@ -258,6 +258,7 @@ module _ (from : ℕ) (b u : Shelf) (on : GoesOnFrom from b u) where
 
   -- ---- all of it
 
+  -- rule: later-books.goes-on-after
   pub leave_the_same : (list : List Accepted) → AreAccepted from list → LeaveTheSame from b u list
   leave_the_same list all = record {
     histories = λ a. history_same a list all;

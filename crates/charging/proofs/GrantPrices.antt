@@ -69,6 +69,7 @@ dearer_by (Some x) p place n = dearer_at x p place n
 
 -- so many blocks and so much money pay for units: the blocks for the first that these start, and
 -- the money for the others at the dearer prices
+-- rule: quota.quotas-paid
 pub record PaysFor (o : Option GroupTariff) (p : Periods) (used place units blocks money : ℕ) :
     Type 0 where
   pub first : ℕ
@@ -93,6 +94,7 @@ pays_more o p used place units blocks money more_blocks more_money le1 le2 h =
 
 -- a report of no more units than are paid for costs no more than the money, where at least the
 -- blocks may cover it
+-- rule: quota.quotas-paid
 pub report_within : (o : Option GroupTariff) (p : Periods)
     (used place units blocks money covered : ℕ) (parts : List UsedPart) → HasBlocks o →
     reported parts ≤ units → PaysFor o p used place units blocks money → blocks ≤ covered →

@@ -48,6 +48,7 @@ pub one_credit : (t : ℕ) (kind : BucketKind) (from until : ℕ) (scope : Optio
 one_credit t kind from until scope amount ledger = one_more _ ledger
 
 -- by a request
+-- rule: ledger.extends
 pub grown : (b : Shelf) (t : ℕ) (r : Request) (ledger : Ledger) →
     Extends ledger (decision b t r ledger).after
 grown b t r ledger = kept_decided b (λ reports after. Extends ledger after)

@@ -128,6 +128,7 @@ granted_quotas b t s g asked ledger h =
 pub guaranteed_none : (b : Shelf) → IsGuaranteed b [] []
 guaranteed_none b = record { paying = paying_none b; covered = covered_none b; quotas = tt }
 
+-- rule: quota.quotas-paid
 pub keeps_guaranteed : (b : Shelf) → IsShelf b → Keeps b (IsGuaranteed b)
 keeps_guaranteed b is = record {
   quiet = λ t f reports ledger q n fits h. record {

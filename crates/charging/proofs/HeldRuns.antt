@@ -76,6 +76,7 @@ module _ {K : Type 0} (seen : K → Seen) (is_honest : (k : K) → (seen k).clea
   module _ (old mid new : K) (ds : List DatedCommand) (d : DatedCommand) (given : List Answer)
       (had : Has old mid ds given) (cleanness : (seen new).clean → (seen mid).clean)
       (honesty : (seen new).honest → (seen mid).honest) where
+    -- rule: stop-run
     pub has-run_more : (all : List Answer) (x : Answer) →
         ((seen new).clean →
         Serves b d.command d.moment (seen mid).tables (seen new).tables (Ok x)) →
@@ -232,6 +233,7 @@ module _ {K : Type 0} (seen : K → Seen) (is_honest : (k : K) → (seen k).clea
         held-now commands ds (d ∷ more) old mid answers.items t had all count (honesty h) l
     held-failed t h (inr writes) = inr (held-next t h writes.1)
 
+    -- rule: stop-run
     pub run-failed : (fault : StoreFault) →
         HasCause {T = Answer} (seen mid).failed (seen new).failed (Err fault) →
         RunsOver b commands (seen old) (seen new) (record { answers = answers; fault = Some fault })

@@ -124,6 +124,7 @@ both_so_far list x y h =
     }
 
 -- the commands of both that were answered are a beginning of all
+-- rule: joined-runs
 both_runs : (list : List Accepted) (x y : AnsweredRun) → AreInTurn list x y →
     IsRun y.shelf list (answered_of x ++ y.commands) y.new (x.given ++ y.given)
 both_runs list x y h =
@@ -136,6 +137,7 @@ both_runs list x y h =
     run-of y.shelf list (ds ++ y.commands) (ds ++ es) rest y.new (x.given ++ y.given) all
     (ap length so.answers ∙ answers_count y.shelf list (ds ++ es)) so
 
+-- rule: joined-runs
 pub one_run : (list : List Accepted) (x y : AnsweredRun) → AreOneRun list x y
 one_run list x y h =
     let same : LeaveTheSame h.books.from x.shelf y.shelf list =

@@ -182,6 +182,7 @@ module _ (b : Shelf) (P : List Report → Ledger → Type 0) (k : Keeps b P) whe
   either_history true more reports x y p q = p
   either_history false more reports x y p q = q
 
+  -- rule: ledger.sound-ledger, paid
   pub kept_history : P [] [] → (a : List ℕ) (list : List Accepted) →
       P (reports_of b a list) (history b a list).ledger
   kept_history none a [] = none

@@ -168,6 +168,7 @@ decided-told b r t h e = ap
     (decision b t r h.ledger).after h
     else only_told (answer.Request (answer_of r (decision b t r h.ledger).outcome)) h) e
 
+-- rule: repeat, changed-repeat
 pub decided-kept : (b : Shelf) (r : Request) (t : ℕ) (h : History) →
     (decision b t r h.ledger).accepted ≡ true →
     decided_by r (decision b t r h.ledger) h ≡
@@ -225,6 +226,7 @@ credit-repeated c t h kept e =
     ap (λ o. unless_kept o (content.Credit c) (answer.Refused ContentDiffers) h (new_credit c t h))
     e
 
+-- rule: credit
 pub credit-fresh : (c : Credit) (t : ℕ) (h : History) →
     kept_under (key_of (content.Credit c)) h ≡ None → credit_outcome c t h ≡ new_credit c t h
 credit-fresh c t h e = ap
@@ -240,6 +242,7 @@ allowance-repeated b a t h kept e =
     ap (λ o. unless_kept o (content.Allow a) (answer.Refused ContentDiffers) h
     (new_allowance b a t h)) e
 
+-- rule: allowance
 pub allowance-fresh : (b : Shelf) (a : Allowance) (t : ℕ) (h : History) →
     kept_under (key_of (content.Allow a)) h ≡ None →
     allowance_outcome b a t h ≡ new_allowance b a t h

@@ -39,6 +39,7 @@ read_alike read more s g (d ∷ older) =
 abbrev quota_of : PlacedGrant → OpenGrant
 quota_of x = record { units = x.units; counter = x.counter }
 
+-- rule: grant-terms.granted
 pub grants_are_one : GrantsAreOne
 grants_are_one s g ledger = record {
   priced = read_alike granted_by (λ (x : PlacedGrant). x.terms) s g ledger;

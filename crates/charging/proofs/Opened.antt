@@ -232,6 +232,7 @@ module _ (b : Shelf) (t : ℕ) (s : List ℕ) (n : ℕ) (ledger : Ledger) (sound
       one.failed (one.told
       ∙ (or_parts (grants_new b t ledger x) (any_grants b t ledger xs) e).0)
 
+-- rule: initial.opened-by-grants
 pub opened_by_grants : SessionsOpenByGrants
 opened_by_grants b a list t s n services first fresh unbarred =
     let ledger : Ledger = (history b a list).ledger in

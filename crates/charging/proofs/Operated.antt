@@ -57,6 +57,7 @@ use Rattle.charging.proofs.Serving.{outcome-unopened, outcome-opened, outcome-ke
 
 -- ---- a sweep
 
+-- rule: sweep
 pub sweep-served : (b : Shelf) (list : List Accepted) (t n : ℕ) (old new : Tables) → IsInTime list →
     AreTables b list old → last_moment list ≤ t → n ≡ old.count → IsSwept b t old new →
     IsServed b list command.Sweep t old new (answer.Swept n)
@@ -155,6 +156,7 @@ pub record IsNew (b : Shelf) (n : List ℕ) (t : ℕ) (x fresh : AccountRows) (c
   pub sessions : fresh.sessions ≡ []
   pub groups : fresh.groups ≡ []
 
+-- rule: open
 pub open-done : (b : Shelf) (list : List Accepted) (n : List ℕ) (t : ℕ) (x fresh : AccountRows)
     (change : Change) (old new : Tables) → IsInTime list → last_moment list ≤ t →
     AreTables b list old → (old.rows n).head ≡ None →
@@ -283,6 +285,7 @@ made_tells found x charges kept told redeemed spent none kept_is redeemed_is = r
   redeemed_is = redeemed_is;
 }
 
+-- rule: open, bar
 pub bar-done : (b : Shelf) (list : List Accepted) (n : List ℕ) (barred : Bool) (t m : ℕ)
     (found : Loaded) (x : AccountRows) (change : Change) (old new : Tables) → IsInTime list →
     last_moment list ≤ t → AreTables b list old → IsTaken b t n old found →

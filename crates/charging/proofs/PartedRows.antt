@@ -132,6 +132,7 @@ none_merged n (x ∷ xs) rows h b e =
 
 -- ---- an account's rows
 
+-- rule: database-loads.in-one
 pub rows_are_parted : RowsAreParted
 rows_are_parted left a h = record {
   buckets = λ n. record {
@@ -154,6 +155,7 @@ none_first : {A : Type 0} (x y : Option A) → first_of x y ≡ None → x ≡ N
 none_first None y e = refl
 none_first (Some r) y e = absurd (cc)
 
+-- rule: database-loads.in-one
 pub new_sessions_are_not_left : NewSessionsAreNotLeft
 new_sessions_are_not_left b account list left a s h new =
     let v = validity_of a.shelf in

@@ -370,6 +370,7 @@ paying_none b = record {
   paid = refl;
 }
 
+-- rule: paid
 pub keeps_paying : (b : Shelf) → Keeps b (IsPaying b)
 keeps_paying b = record {
   quiet = λ t f reports ledger q n fits h. paying_quiet b t f reports ledger q n h;

@@ -172,6 +172,7 @@ reserved_priced b ranges t s g units due ledger some h =
     (λ x y. each_hold (λ d. grant_in x y d ≡ None) t s g hs (λ z. refl))
     (granted_on b ranges t s g units ledger some h)
 
+-- rule: grant-terms.reservations-are-priced
 keeps_priced : (b : Shelf) → IsShelf b → Keeps b (λ reports ledger. IsPricedLedger b ledger)
 keeps_priced b ranges = record {
   quiet = λ t f reports ledger q n fits h. quiet_priced b t f ledger q h;
@@ -238,6 +239,7 @@ reservations_are_priced b ranges list tables are a =
     row_priced b ranges (as_of a list) (history b a list) (tables.rows a)
     (priced_history b ranges a list) (tables.rows a).head (are.accounts a)
 
+-- rule: grant-terms.reservations-are-priced
 pub no_book_is_missing : NoBookIsMissing
 no_book_is_missing b ranges list tables are a w listed stored =
     EachIn-weaker (λ r. group_in r.session r.group w.groups ≡ Some r)

@@ -36,6 +36,7 @@ found shelf commands old left run h list time lists e =
       lists = lists_of shelf _ left held.tables;
     }
 
+-- rule: ledger.runs-over
 pub promised : (shelf : Shelf) (commands : List DatedCommand) (old new : Seen) (run : Run) →
     relation.RunsOver shelf commands old new run →
     (new.clean → AreAccounted shelf commands old.tables new.tables run.answers.items) →
@@ -95,6 +96,7 @@ no_more : {F : Type 0} (fault : Option F) (n m : ℕ) → IfNone fault (n ≡ m)
 no_more None n m all few = omega (arith, all)
 no_more (Some f) n m all few = omega (arith, few)
 
+-- rule: ledger.runs-over
 pub related : (shelf : Shelf) (commands : List DatedCommand) (old new : Seen) (run : Run) →
     (new.clean → new.honest) → RunsOver shelf commands old new run →
     relation.RunsOver shelf commands old new run

@@ -217,6 +217,7 @@ recorded_history b a list =
     kept_history b (λ reports ledger. AreRecorded ledger) (keeps_recorded b) none_recorded a list
 
 -- a session without a record has no group
+-- rule: session-names.known
 pub new_has_no_groups : (b : Shelf) (a : List ℕ) (list : List Accepted) (s : List ℕ) →
     last_recording s (history b a list).ledger ≡ None → (g : ℕ) →
     has_group s g (history b a list).ledger ≡ false

@@ -61,6 +61,7 @@ commands_both ends [] ys vouchers = refl
 commands_both ends (x ∷ xs) ys vouchers =
     commands_both ends xs ys (with_command ends x vouchers)
 
+-- rule: redeemed-once.voucher-commands
 pub left_by_these : IsLeftByThese
 left_by_these b [] code = refl
 left_by_these b (d ∷ before) code =
@@ -242,6 +243,7 @@ count_grows b code list (d ∷ ds) =
     at true = omega arith
     at false = omega arith
 
+-- rule: redeemed-once.redemption-count
 pub redeemed_once : (b : Shelf) (code : List ℕ) (list : List Accepted) (ds : List DatedCommand) →
     AreRedeemedOnce b code list ds
 redeemed_once b code list ds = record {
@@ -258,5 +260,6 @@ redeemed_once b code list ds = record {
     most true = omega arith
     most false = omega arith
 
+-- rule: redeemed-once.redemption-count
 pub redeemed_at_most_once : IsRedeemedAtMostOnce
 redeemed_at_most_once b code ds = omega (arith, (redeemed_once b code [] ds).once)

@@ -6,6 +6,7 @@ use Rattle.keepers.specs.declared.fault.StoreFault.{StoreFault}
 use Rattle.charging.specs.Stepping.{is_unaccepted}
 
 -- an answer that isn't one of those that leave the tables
+-- rule: refused
 pub accepted_given : (r : Result Answer StoreFault) (told : Answer) (W P : Type 0) →
     is_unaccepted told ≡ false → IfOk r (λ given. (given ≡ told) × W) →
     IfOk r (λ given. is_unaccepted given ≡ true → P)

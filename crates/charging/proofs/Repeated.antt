@@ -370,6 +370,7 @@ kept_between b kept a list c t between named keeps =
     keeps_through b kept a (first ∷ list) between
     (subst (Keeps kept) (sym (own_after b a list first named)) keeps)
 
+-- rule: repeat, repeat.answers-once
 pub answers-once : AnswersOnce
 answers-once b list (command.Ccr r) t between u key taken =
     let given : Answer = answer_to b list (command.Ccr r) t in

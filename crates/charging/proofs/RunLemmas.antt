@@ -15,6 +15,7 @@ use Rattle.charging.specs.Runs.{after_command, answers_to, after_commands, IsRun
 
 -- ---- one command more
 
+-- rule: command-moment
 pub time-more : (b : Shelf) (list : List Accepted) (d : DatedCommand) → IsInTime list →
     IsInTime (after_command b list d)
 time-more b list d time = at (accepts b list d.command (moment_of list d.moment))
@@ -56,6 +57,7 @@ abbrev pub RunsSoFar : Shelf → List DatedCommand → Tables → Tables → Lis
 RunsSoFar b ds old new given = (list : List Accepted) → IsInTime list → AreTables b list old →
     IsSoFar b list ds new given
 
+-- rule: store-faults
 pub so-far-more : (b : Shelf) (list : List Accepted) (ds : List DatedCommand) (d : DatedCommand)
     (mid new : Tables) (given all : List Answer) (x : Answer) → IsSoFar b list ds mid given →
     IsServed b (after_commands b list ds) d.command (moment_of (after_commands b list ds) d.moment)
@@ -69,6 +71,7 @@ so-far-more b list ds d mid new given all x so served grown = record {
 }
 
 -- the commands that were answered are a beginning of all
+-- rule: store-faults
 pub run-of : (b : Shelf) (list : List Accepted) (commands ds rest : List DatedCommand)
     (new : Tables)
     (given : List Answer) → ds ++ rest ≡ commands → length given ≡ length ds →
@@ -117,6 +120,7 @@ both_so_far b list xs ys new given more first second = record {
   time = subst IsInTime (sym (commands_after b list xs ys)) second.time;
 }
 
+-- rule: runs.run-of-both
 pub run_of_both : IsRunOfBoth
 run_of_both b list first second between new given more h runs =
     let xs : List DatedCommand = take (length given) first in

@@ -96,6 +96,7 @@ pub record IsOpened (b : Shelf) (list : List Accepted) (t : ℕ) (a : List ℕ) 
   -- and the moment isn't before its own
   pub moment : max t x.as_of ≡ t
 
+-- rule: unknown-account, runs.serves
 pub is_opened : (b : Shelf) (list : List Accepted) (t : ℕ) (a : List ℕ) (old : Tables)
     (x : AccountRows) →
     IsInTime list → last_moment list ≤ t → AreTables b list old → IsLoadedFrom b t (old.rows a) x →
@@ -310,6 +311,7 @@ module _ (b : Shelf) (list : List Accepted) (c : Command) (t : ℕ) (a : List �
         (old.rows a) found.account x account.are loads.account loads.load.1
         (is.shelf ∙ account.of_book) is.grows is.rows
 
+    -- rule: runs.serves
     pub served-loaded : (o : CommandOutcome) (given : Answer) (x : AccountRows) (change : Change) →
         is_opening c ≡ false → comes ≡ o → o.accepted ≡ true →
         given ≡ o.answer → IsCalled o x change → new ≡ changed change old →
@@ -338,6 +340,7 @@ module _ (b : Shelf) (list : List Accepted) (c : Command) (t : ℕ) (a : List �
         grown tables
 
 -- what a stop leaves, by what is left before a call and by what was written
+-- rule: stop-run.writes
 pub left_as : {A B P Q : Type 0} → A ⊎ B → (A → P) → (B → Q) → P ⊎ Q
 left_as (inl a) f g = inl (f a)
 left_as (inr b) f g = inr (g b)
@@ -362,6 +365,7 @@ writes-at b c t last old mid new is same writes = λ list time are.
     (subst (λ (u : ℕ). u ≤ max t last) now (le-max_right t last)))
 
 -- a commit that answered, or left all as it was
+-- rule: stop-run.writes
 pub served-by : (b : Shelf) (list : List Accepted) (c : Command) (t : ℕ) (old mid new : Tables)
     (a : Answer) {P : Type 0} (r : Result Answer StoreFault) → mid ≡ old →
     IfOk r (λ given. (given ≡ a) × P) → OnErr r (new ≡ mid) → (P → IsServed b list c t old new a) →

@@ -37,6 +37,7 @@ holds_are t s g [] = refl
 holds_are t s g (h ∷ hs) =
     ap (λ l. record { at = t; fact = Hold (hold_for s g h) } ∷ l) (holds_are t s g hs)
 
+-- rule: shares.taken-of
 pub charges_are_shares : ChargesAreShares
 charges_are_shares t shares ledger = record {
   facts = charges_are t shares;
@@ -46,6 +47,7 @@ charges_are_shares t shares ledger = record {
   credits_same = credits-charge_facts t shares ledger;
 }
 
+-- rule: shares.taken-of
 pub holds_are_shares : HoldsAreShares
 holds_are_shares t s g shares ledger = record {
   facts = holds_are t s g shares;

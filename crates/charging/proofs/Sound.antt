@@ -54,6 +54,7 @@ new_debited b t s g units ledger new =
 pub sound_none : (b : Shelf) → IsSoundHistory b [] []
 sound_none b = record { paying = paying_none b; sound = IsSoundLedger-none }
 
+-- rule: ledger.sound-ledger
 pub keeps_sound : (b : Shelf) → Keeps b (IsSoundHistory b)
 keeps_sound b = record {
   quiet = λ t f reports ledger q n fits h. record {

@@ -39,6 +39,7 @@ pub none-stated : (b : Shelf) (a : List ℕ) (list : List Accepted) (old : Table
 none-stated b a list old tables none =
     (row_none b (as_of a list) (history b a list) (old.rows a) none (tables.accounts a)).0
 
+-- rule: balance
 pub some-stated : (b : Shelf) (a : List ℕ) (t : ℕ) (list : List Accepted) (old : Tables)
     (x : AccountRows) (dead : List BucketRow) (s : AccountState) → IsInTime list →
     AreTables b list old → last_moment list ≤ t → IsLoadedFrom b t (old.rows a) x →
@@ -83,6 +84,7 @@ balance-unknown b list n t old new time le tables none same =
     else unopened_outcome None h (command.Balance n)) none)
     refl refl same tables
 
+-- rule: balance
 pub balance-told : (b : Shelf) (list : List Accepted) (n : List ℕ) (t : ℕ) (old new : Tables)
     (s : AccountState) (given : AccountBalance) → IsInTime list → last_moment list ≤ t →
     AreTables b list old → IsState b t (history b n list) (Some s) →

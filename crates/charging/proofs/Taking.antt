@@ -101,6 +101,7 @@ taken-charges k t (h ∷ hs) ledger =
     omega (arith, same, taken-charges k t hs ledger)
 
 -- charges of parts of an account's buckets take of a kind what the parts are of it
+-- rule: paid.taken
 pub taken_parts : (k : BucketKind) (f : BucketRow → ℕ) (v : ℕ → ℕ) (t : ℕ) (ledger : Ledger) →
     AreCredited (credits ledger) (next_bucket ledger) →
     taken k (charge_facts t (parts f (buckets_at v t ledger)) ++ ledger)

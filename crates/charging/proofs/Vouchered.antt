@@ -86,6 +86,7 @@ module _ (b : Shelf) (list : List Accepted) (v : VoucherAddition) (t : ℕ) (old
       ((λ i. (comes-to i).accepted) ∙ e)
 
   -- it is there
+  -- rule: voucher-add.addition-outcome
   pub add-told : (given : Answer) → (addition_outcome x no_history).accepted ≡ false →
       given ≡ (addition_outcome x no_history).answer → new ≡ old →
       IsServed b list (command.AddVoucher v) t old new given
@@ -98,6 +99,7 @@ module _ (b : Shelf) (list : List Accepted) (v : VoucherAddition) (t : ℕ) (old
   }
 
   -- it isn't
+  -- rule: voucher-add.with-voucher
   pub add-done : (w : Voucher) → x ≡ New w → new ≡ with_voucher v.code v.terms t old →
       IsServed b list (command.AddVoucher v) t old new answer.Done
   add-done w is grown =
@@ -164,6 +166,7 @@ module _ (b : Shelf) (list : List Accepted) (r : VoucherRedemption) (t : ℕ) (o
       (sym (tables.answers r.account (key_of (content.Redeem r))) ∙ fresh)
       ∙ ap (λ q. redemption_outcome q r t (history b r.account list)) redeems-is
 
+-- rule: redeem.redeem-outcome
 pub redeem-refused : (b : Shelf) (list : List Accepted) (r : VoucherRedemption) (t : ℕ)
     (old new : Tables) (found : Loaded) (refusal : RedeemRefusal) → IsInTime list →
     last_moment list ≤ t → AreTables b list old →
@@ -242,6 +245,7 @@ module _ (b : Shelf) (list : List Accepted) (r : VoucherRedemption) (t : ℕ) (o
           sym (ap (λ q. after_redemption q (voucher b code list)) here)
       at false e = refl
 
+  -- rule: redeem.redeem-outcome
   pub redeem-done : (number : ℕ) (change : Change) → o ≡ Some number →
       x.shelf ≡ found.account.shelf → IfSome o (λ n. x.as_of ≡ m) →
       Tells change found x (Some

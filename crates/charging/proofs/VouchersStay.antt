@@ -127,6 +127,7 @@ pub record IsAddedOnce (b : Shelf) (list after : List Accepted) (v : VoucherAddi
       answer_to b list (command.AddVoucher v) t
   pub accepted : accepts b after (command.AddVoucher v) u ≡ false
 
+-- rule: voucher-add.addition-outcome
 pub added-once : (b : Shelf) (list : List Accepted) (v : VoucherAddition) (t : ℕ)
     (between : List DatedCommand) (u : ℕ) → accepts b list (command.AddVoucher v) t ≡ true →
     IsAddedOnce b list

@@ -127,6 +127,7 @@ account_count (d ∷ before) = if (about d.command).opens then account_count bef
     else account_count before
 
 -- moments don't fall
+-- rule: runs
 abbrev pub IsInTime : List Accepted → Type 0
 IsInTime [] = Unit {0}
 IsInTime (d ∷ before) = (last_moment before ≤ d.moment) × IsInTime before
@@ -134,6 +135,7 @@ IsInTime (d ∷ before) = (last_moment before ≤ d.moment) × IsInTime before
 -- ---- vouchers
 
 -- what is under a code after accepted commands: each that names it adds or redeems its voucher
+-- rule: voucher-add.addition-outcome
 abbrev pub voucher_under : DayEnds → VoucherCode → List Accepted → Option Voucher
 voucher_under ends code [] = None
 voucher_under ends code (d ∷ before) =
@@ -188,6 +190,7 @@ module _ (ends : DayEnds) (outcome : Option Voucher → History → Command → 
   -- ---- tables
 
   -- the tables of the accepted commands
+  -- rule: runs: a keeper holds the tables of a list of commands
   pub record AreTablesOf (shelf : Shelf) (list : List Accepted) (tables : Tables) : Type 0 where
     pub last : tables.last ≡ last_moment list
     pub accounts : (a : AccountName) →

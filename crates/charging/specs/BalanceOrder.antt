@@ -20,11 +20,13 @@ AreRising [] = Unit {0}
 AreRising (b ∷ bs) = AllByRecursion (λ (x : BucketRow). b.number < x.number) bs × AreRising bs
 
 -- under each number the bucket is listed that has it, and numbers rise
+-- rule: balance.told-by-number: a balance shows each bucket once, in the order of their numbers
 pub record AreToldByNumber (buckets told : List BucketRow) : Type 0 where
   pub each : (n : BucketNumber) → bucket_in n told ≡ bucket_in n buckets
   pub order : AreRising told
 
 -- so are the buckets of an account at any moment
+-- rule: balance.told-by-number
 abbrev pub BalancesAreByNumber : Type 0
 BalancesAreByNumber =
     (b : Shelf) (a : AccountName) (list : List Accepted) (t : Moment) →

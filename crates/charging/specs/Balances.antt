@@ -21,11 +21,13 @@ abbrev pub numbered : BucketRow → List BucketRow → List BucketRow
 numbered b [] = b ∷ []
 numbered b (x ∷ xs) = if nat_lt b.number x.number then b ∷ x ∷ xs else x ∷ numbered b xs
 
+-- rule: balance: balance
 abbrev pub by_number : List BucketRow → List BucketRow
 by_number [] = []
 by_number (b ∷ bs) = numbered b (by_number bs)
 
 -- what the amounts of a bucket of a kind count
+-- rule: balance
 abbrev pub unit_of : BucketKind → BucketUnit
 unit_of kind.Money = MicroUnits
 unit_of kind.Blocks = Blocks
@@ -46,6 +48,7 @@ bucket_balance b = record {
 }
 
 -- the balance at a moment of the account of this number, by its ledger
+-- rule: balance
 abbrev pub account_balance : Shelf → AccountName → Moment → Ledger → AccountBalance
 account_balance b n t ledger = record {
   account = n;

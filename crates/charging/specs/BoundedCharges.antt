@@ -14,12 +14,14 @@ use Rattle.charging.specs.Served.{AreTables, history}
 
 -- no more blocks than a counter counts, none dearer than 10^9 micro-units; what is collected and
 -- what isn't are parts of the price
+-- rule: stored-limits.bounded: each charge is within its bounds, and so are sums of charges
 pub record IsBounded (c : ChargeRow) : Type 0 where
   pub blocks : c.blocks.0 ≤ most_counted
   pub rated : c.rated.0 ≤ c.blocks.0 * greatest_price
   pub collected : c.collected.0 ≤ c.rated.0
   pub uncollected : c.uncollected.0 ≤ c.rated.0
 
+-- rule: stored-limits.bounded
 pub record FitTogether (charges : List ChargeRow) : Type 0 where
   pub blocks : sum_by (λ c. c.blocks.0) charges < 2 ^ 128
   pub rated : sum_by (λ c. c.rated.0) charges < 2 ^ 128
@@ -27,6 +29,7 @@ pub record FitTogether (charges : List ChargeRow) : Type 0 where
   pub uncollected : sum_by (λ c. c.uncollected.0) charges < 2 ^ 128
 
 -- so of those of each month, or of any others among them
+-- rule: stored-limits.bounded
 pub record AreBounded (charges : List ChargeRow) : Type 0 where
   pub each : EachIn IsBounded charges
   pub few : length charges ≤ greatest_number

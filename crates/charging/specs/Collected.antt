@@ -17,9 +17,14 @@ taken_of Money c = c.collected.0
 taken_of Blocks c = c.covered.0
 
 -- by the charges of all reports and debits
+-- rule: collected: what all charges collected is what all buckets of money show as charged, and
+--   what they covered is what all allowances show
+-- rule: statement-sums: what a statement shows as collected is what all charges collected, and as
+--   covered what they covered
 abbrev pub taken_to_date : BucketKind → Ledger → BucketAmount
 taken_to_date kind ledger = sum_by (taken_of kind) (charge_rows ledger)
 
 -- from all buckets of a kind, as they are at a moment
+-- rule: collected
 abbrev pub charged_to_date : BucketKind → (Moment → Seconds) → Moment → Ledger → BucketAmount
 charged_to_date kind v t ledger = sum_in kind (λ x. x.charged) (buckets_at v t ledger)

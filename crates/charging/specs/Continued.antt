@@ -17,6 +17,7 @@ ForEachList b tables says = (list : List Accepted) → IsInTime list →
     AreTables b list tables → says list
 
 -- some dated commands came to the list, in time, and these are its tables then
+-- rule: http-end, request-lines, port
 pub record IsContinued (b : Shelf) (content : Tables) (list : List Accepted) : Type 0 where
   pub commands : List DatedCommand
   pub tables : AreTables b (after_commands b list commands) content
@@ -33,6 +34,7 @@ abbrev pub LeavesOn : Shelf → Seen → Seen → Type 0
 LeavesOn b old new = Leaves old new (λ t. old.clean × Continues b old.tables t)
 
 -- requests leave a keeper so, also where its store fails
+-- rule: http-end
 pub record GoesOn (b : Shelf) (old new : Seen) : Type 0 where
   pub continued : new.clean → Continues b old.tables new.tables
   pub cleanness : new.clean → old.clean

@@ -19,6 +19,8 @@ use Rattle.charging.specs.Served.{history}
 use Rattle.charging.specs.Runs.{after_commands}
 
 -- the rows of a ledger at a moment that are dead are those of a later ledger at a later moment
+-- rule: dead-rows.dead-for-good: dead rows are dead for good: buckets, sessions and their groups,
+--   whatever commands come
 pub record AreDeadForGood (v : Moment → Seconds) (t u : Moment) (old new : Ledger) : Type 0 where
   -- a bucket that has nothing available and nothing reserved
   pub buckets : (n : BucketNumber) (x : BucketRow) → bucket_in n (buckets_at v t old) ≡ Some x →
@@ -32,6 +34,7 @@ pub record AreDeadForGood (v : Moment → Seconds) (t u : Moment) (old new : Led
       is_open x.state ≡ false → group_at v u new s g ≡ group_at v t old s g
 
 -- so each account's, from the last of some accepted commands on, whatever commands come
+-- rule: dead-rows.dead-for-good
 abbrev pub DeadRowsStay : Type 0
 DeadRowsStay =
     (b : Shelf) (a : AccountName) (list : List Accepted) (between : List DatedCommand)

@@ -23,6 +23,7 @@ use Rattle.charging.specs.Served.{AreTables, history}
 use Rattle.charging.specs.Runs.{after_commands}
 use Rattle.charging.specs.Paid.{Report, reports_of, ArePaid, AreQuotasPaid}
 
+-- rule: ledger.runs-over
 pub record IsAccounted (b : Shelf) (reports : List Report) (ledger : Ledger) (t : Moment)
     (rows : Rows) (told : ChargeNumber → Option ChargeRow) : Type 0 where
   -- each bucket is what the ledger sums to, as of the account's last command
@@ -41,6 +42,7 @@ pub record IsAccounted (b : Shelf) (reports : List Report) (ledger : Ledger) (t 
 
 -- so each account after a run, for every list of accepted commands whose tables the keeper held
 -- before it
+-- rule: ledger.runs-over
 abbrev pub AreAccounted : Shelf → List DatedCommand → Tables → Tables → List Answer → Type 0
 AreAccounted b commands old new given =
     (list : List Accepted) → IsInTime list → AreTables b list old →

@@ -22,5 +22,6 @@ abbrev pub is_kept_under : Key → KeptAnswer → Bool
 is_kept_under k kept = same_key (key_of kept.content) k
 
 -- what is kept under a key
+-- rule: repeat
 abbrev pub kept_under : Key → History → Option KeptAnswer
 kept_under k h = find (is_kept_under k) h.kept

@@ -52,6 +52,7 @@ abbrev pub is_own : AccountName → List DatedCommand → Command → Bool
 is_own a ds c = names a (concerned_by c) || adds_for a ds c
 
 -- no code that a redemption for the account names is named by one for another account
+-- rule: isolation
 pub record HasOwnCodes (a : AccountName) (ds : List DatedCommand) : Type 0 where
   pub codes : (code : VoucherCode) → redeems a code ds ≡ true → (other : AccountName) →
       same_name other a ≡ false → redeems other code ds ≡ false
@@ -80,6 +81,7 @@ DontFall t (d ∷ ds) = (t ≤ d.moment) × DontFall d.moment ds
 
 -- rows that say the same: the same head, and the same bucket, counter, session, group and hold
 -- under each key
+-- rule: isolation
 pub record TellTheSame (x y : Rows) : Type 0 where
   pub head : x.head ≡ y.head
   pub buckets : (n : BucketNumber) → x.buckets n ≡ y.buckets n
@@ -97,6 +99,7 @@ pub record AreRowsBroughtTo (b : Shelf) (t : Moment) (rows brought : Rows) : Typ
 
 -- the tables of two runs show an account alike, at a moment that isn't before the last accepted
 -- command, and so the vouchers whose codes redemptions for it name among these commands
+-- rule: isolation
 pub record ShowAlike (b : Shelf) (t : Moment) (a : AccountName) (ds : List DatedCommand)
     (x y : Tables) : Type 0 where
   pub opened : is_some (x.rows a).head ≡ is_some (y.rows a).head
@@ -108,6 +111,7 @@ pub record ShowAlike (b : Shelf) (t : Moment) (a : AccountName) (ds : List Dated
 
 -- in a run from nothing an account's answers are those of its own commands alone, and so are its
 -- rows
+-- rule: isolation: no other account's commands change an account
 pub record IsIsolated (b : Shelf) (a : AccountName) (ds : List DatedCommand) : Type 0 where
   pub answers : own_answers (is_own a ds) ds (answers_to b [] ds) ≡
       answers_to b [] (own_commands b (is_own a ds) [] ds)

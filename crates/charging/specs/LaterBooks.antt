@@ -22,6 +22,7 @@ use Rattle.charging.specs.Headline.{IsAccounted}
 
 -- one shelf finds what the other one finds of moments before some moment after this one, and by the
 -- other's numbers
+-- rule: later-books.goes-on-after: a book that is added later changes no history before it
 pub record GoesOnAfter (last : Moment) (s u : Shelf) : Type 0 where
   pub from : Moment
   pub later : last < from
@@ -29,6 +30,7 @@ pub record GoesOnAfter (last : Moment) (s u : Shelf) : Type 0 where
 
 -- a book was added to a shelf, where the last accepted command had this moment: there was no fault
 -- of `TariffShelf::add`
+-- rule: later-books.goes-on-after
 pub record IsAddition (last : Moment) (s u : Shelf) : Type 0 where
   pub from : Moment
   pub book : Book
@@ -40,6 +42,8 @@ pub record IsAddition (last : Moment) (s u : Shelf) : Type 0 where
 -- accepted commands have left the same over both shelves: each account's history and reports, what
 -- is under each code, and the tables; and a command of a moment before the new books begin is
 -- answered alike
+-- rule: later-books.leave-the-same: a later book changes no price, settlement or grant before it
+-- rule: later-books.goes-on-after
 pub record LeaveTheSame (from : Moment) (s u : Shelf) (list : List Accepted) : Type 0 where
   pub histories : (a : AccountName) → history s a list ≡ history u a list
   pub reports : (a : AccountName) → reports_of s a list ≡ reports_of u a list
@@ -75,6 +79,7 @@ AreBefore from (d ∷ ds) = (d.moment < from) × AreBefore from ds
 
 -- from a list of accepted commands on there was one run; then the shelf got books that all begin
 -- after the commands of this run, and there was another run over what the first one left
+-- rule: joined-runs: a run before an addition and one after it are one
 pub record AreInTurn (list : List Accepted) (x y : AnsweredRun) : Type 0 where
   pub time : IsInTime list
   pub tables : AreTables x.shelf list x.old
@@ -86,6 +91,7 @@ pub record AreInTurn (list : List Accepted) (x y : AnsweredRun) : Type 0 where
   pub second : Runs y.shelf y.commands y.old y.new y.given
 
 -- both as one over the second one's shelf
+-- rule: joined-runs
 abbrev pub joined_run : AnsweredRun → AnsweredRun → AnsweredRun
 joined_run x y = record {
   shelf = y.shelf;
@@ -96,6 +102,7 @@ joined_run x y = record {
 }
 
 -- a run from a list of accepted commands on, and each account is accounted for after it
+-- rule: joined-runs
 pub record IsAccountedRun (list : List Accepted) (x : AnsweredRun) : Type 0 where
   pub tables : AreTables x.shelf list x.old
   pub run : IsRun x.shelf list x.commands x.new x.given

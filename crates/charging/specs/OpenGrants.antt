@@ -20,11 +20,13 @@ abbrev pub granting : SessionName → GroupId → Dated → Option (Option Place
 granting s g d = tells granted_by s g d
 
 -- the grant of a session's group that no later fact ended
+-- rule: grant-terms.granted: the terms and the quota of a reservation are those of one grant
 abbrev pub granted : SessionName → GroupId → Ledger → Option PlacedGrant
 granted s g ledger = inner (newest (granting s g) ledger)
 
 -- by its terms a report is priced, and by its units and its counter a quota is known: both are of
 -- this one grant
+-- rule: grant-terms.granted
 pub record IsOneGrant (s : SessionName) (g : GroupId) (ledger : Ledger) : Type 0 where
   pub priced : open_grant s g ledger ≡ option_map (λ x. x.terms) (granted s g ledger)
   pub paid : grant_open s g ledger

@@ -32,6 +32,8 @@ IsFirstDenial failure (x ∷ xs) = x.outcome ≡ service.Failed failure
 -- the session opens exactly where some service is granted units, asked in the order of the request,
 -- each on the ledger that the one before left; else the request is denied for the first one's
 -- reason
+-- rule: initial.opened-by-grants: an initial request opens a session exactly where one of its
+--   grants is made, in order, each on what the one before left
 pub record IsOpenedByGrants (b : Shelf) (t : Moment) (s : SessionName) (n : CcRequestNumber)
     (services : List Service) (ledger : Ledger) : Type 0 where
   pub opens : any_grants b t ledger services ≡
@@ -42,6 +44,7 @@ pub record IsOpenedByGrants (b : Shelf) (t : Moment) (s : SessionName) (n : CcRe
       (grant_answers b t s services (touched t s n ledger))
 
 -- so each initial request of a new name, of an account that isn't barred
+-- rule: initial.opened-by-grants
 abbrev pub SessionsOpenByGrants : Type 0
 SessionsOpenByGrants =
     (b : Shelf) (a : AccountName) (list : List Accepted) (t : Moment) (s : SessionName)

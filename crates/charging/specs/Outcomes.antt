@@ -70,6 +70,8 @@ unless_repeated new conflict h fresh = unless_kept (kept_under (key_of new) h)
     same_content (content.Redeem r) (content.Redeem q) = same_redemption r q
     same_content x y = false
 
+    -- rule: repeat: the first answer for a repeat
+    -- rule: changed-repeat: a repeat with other content
     unless_kept : Option KeptAnswer → CommandOutcome
     unless_kept None = fresh
     unless_kept (Some kept) =
@@ -103,6 +105,7 @@ is_never_usable from until t =
     nat_le (unwrap_or until no_end) (unwrap_or from t) || nat_le (unwrap_or until no_end) t
 
 -- a credit of something
+-- rule: credit: credit
 abbrev pub credit_outcome : Credit → Moment → History → CommandOutcome
 credit_outcome c t h =
     unless_repeated (content.Credit c) (answer.Refused ContentDiffers) h
@@ -112,6 +115,7 @@ credit_outcome c t h =
     (credited t Money (unwrap_or c.from t) (unwrap_or c.until no_end) c.scope c.amount h.ledger) h)
 
 -- an allowance is a credit in blocks of a rating group that the book at the moment has
+-- rule: allowance: allowance
 abbrev pub allowance_outcome : Shelf → Allowance → Moment → History → CommandOutcome
 allowance_outcome b a t h =
     unless_repeated (content.Allow a) (answer.Refused ContentDiffers) h
@@ -128,6 +132,7 @@ allowance_outcome b a t h =
 -- ---- vouchers
 
 -- a voucher that is new is accepted; one that is there with the same terms changes nothing
+-- rule: voucher-add.addition-outcome: a voucher is added by a command, and moves no account
 abbrev pub addition_outcome : Addition → History → CommandOutcome
 addition_outcome (New voucher) h = done answer.Done h
 addition_outcome Present h = only_told answer.Done h
@@ -138,6 +143,8 @@ abbrev pub book_days : Shelf → DayEnds
 book_days b t days = day_end (book_at b t).calendar.zone t days
 
 -- the bucket of a voucher that is redeemed is a credit's
+-- rule: redeem.redeem-outcome: a voucher is redeemed by a command, and is spent once the bucket is
+--   there
 abbrev pub redeem_outcome : Shelf → Option Voucher → VoucherRedemption → Moment → History →
     CommandOutcome
 redeem_outcome b standing r t h =
@@ -160,6 +167,9 @@ redeem_outcome b standing r t h =
 -- ---- a command
 
 -- on the history of an account that is there, and of one that isn't, which can be opened
+-- rule: unknown-account: a request of an account that isn't there
+-- rule: open: an account is opened
+-- rule: bar: bar and unbar
 abbrev pub outcome : Shelf → Option Voucher → History → Command → Moment → CommandOutcome
 outcome b standing h c t = if h.opened then opened c else unopened c
   where

@@ -69,6 +69,7 @@ with_reports b t c reports = with_request (about c).request
     with_request None = reports
 
 -- the reports of an account's sessions, the newest first
+-- rule: paid
 abbrev pub reports_of : Shelf → AccountName → List Accepted → List Report
 reports_of b a [] = []
 reports_of b a (d ∷ before) =
@@ -90,6 +91,7 @@ before_charges [] = []
 before_charges (d ∷ older) = if is_charge d.fact then before_charges older else d ∷ older
 
 -- what they take of the buckets of a kind, in its unit
+-- rule: paid.taken
 abbrev pub taken : BucketKind → Ledger → BucketAmount
 taken kind [] = 0
 taken kind (d ∷ older) =
@@ -105,6 +107,7 @@ taken kind (d ∷ older) =
 
 -- something is uncollected only where all that the report's reservation held is paid, and no
 -- eligible bucket has anything left: neither money nor blocks
+-- rule: uncollected
 abbrev pub IsSpent : Shelf → Moment → SessionName → GroupId → Due → Ledger → Type 0
 IsSpent b t s g due before =
     (x : BucketRow) → IsAmong x (buckets_at (validity_of b) t before) →
@@ -116,6 +119,7 @@ IsSpent b t s g due before =
 
 -- the use that a report made: it has the price of the blocks that the report's parts started and no
 -- allowance covered, each part in its period
+-- rule: paid
 pub record IsReport (b : Shelf) (r : Report) (t : Moment) (u : UseOf) (before : Ledger) : Type 0
   where
     pub moment : t ≡ r.at
@@ -156,6 +160,9 @@ pub record IsPaidUse (b : Shelf) (reports : List Report) (t : Moment) (u : UseOf
       IsEvent b t u (before_charges older)
 
 -- each use of a ledger is paid, and each of the reports made one of them, in their order
+-- rule: paid: each use is that of a report or a debit, and was paid at its price
+-- rule: paid.taken: allowances gave the covered blocks of a use, and money what was collected of
+--   it
 abbrev pub ArePaid : Shelf → List Report → Ledger → Type 0
 ArePaid b reports [] = reports ≡ []
 ArePaid b reports (d ∷ older) =
@@ -180,6 +187,7 @@ pub record OpenGrant : Type 0 where
   pub counter : Place
 
 -- the grant of a session's group that no later fact ended
+-- rule: grant-terms.granted
 abbrev pub grant_open : SessionName → GroupId → Ledger → Option OpenGrant
 grant_open s g ledger = inner (newest (tells quota_by s g) ledger)
   where
@@ -195,6 +203,7 @@ IsWithinGrant b t u before =
     u.uncollected ≡ 0
 
 -- so each use of a ledger, whatever came between
+-- rule: quota.quotas-paid: a report within its grant is collected whole
 abbrev pub AreQuotasPaid : Shelf → Ledger → Type 0
 AreQuotasPaid b [] = Unit {0}
 AreQuotasPaid b (d ∷ older) =

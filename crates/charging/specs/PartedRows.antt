@@ -14,11 +14,14 @@ use Rattle.charging.specs.Accepted.{Accepted}
 use Rattle.charging.specs.Served.{history}
 
 -- what is found is what one of two lists has, and no other row
+-- rule: database-loads.in-one: each row is loaded or left, and none is both; of a new session none
+--   was left
 pub record IsInOne {A : Type 0} (found left loaded : Option A) : Type 0 where
   pub one : found ≡ first_of left loaded
   pub apart : (is_some left && is_some loaded) ≡ false
 
 -- so of each kind of rows
+-- rule: database-loads.in-one
 pub record AreParted (left : LeftRows) (a : AccountRows) : Type 0 where
   pub buckets : (n : BucketNumber) → IsInOne (bucket_in n (joined left a).buckets)
       (bucket_in n left.buckets) (bucket_in n a.buckets)
@@ -33,6 +36,7 @@ abbrev pub RowsAreParted : Type 0
 RowsAreParted = (left : LeftRows) (a : AccountRows) → IsLeft left a → AreParted left a
 
 -- of a session without a recorded request no row was left: one that begins needs no look at those
+-- rule: database-loads.in-one
 abbrev pub NewSessionsAreNotLeft : Type 0
 NewSessionsAreNotLeft = (b : Shelf) (account : AccountName) (list : List Accepted) (left : LeftRows)
     (a : AccountRows) (s : SessionName) → IsJoined (history b account list).ledger left a →

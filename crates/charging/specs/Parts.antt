@@ -20,6 +20,7 @@ pub record PartReads {T : Type 0} (old new : Seen) (Found : T → Type 0)
   pub cause : HasCause old.failed new.failed result
 
 -- a part that may write: at a fault the tables are as before
+-- rule: stop-run.writes
 pub record PartKeeps {T : Type 0} (old new : Seen) (result : Result T StoreFault) : Type 0 where
   pub err : new.clean → OnErr result (new.tables ≡ old.tables)
   pub cleanness : new.clean → old.clean
@@ -28,5 +29,6 @@ pub record PartKeeps {T : Type 0} (old new : Seen) (result : Result T StoreFault
   pub cause : HasCause old.failed new.failed result
 
 -- a stop leaves what it left before, or what was to be written
+-- rule: stop-run.writes
 abbrev pub Leaves : Seen → Seen → (Tables → Type 0) → Type 0
 Leaves old new Written = new.honest → (t : Tables) → new.left t → old.left t ⊎ Written t

@@ -13,6 +13,8 @@ use Rattle.charging.specs.Accepted.{Accepted}
 use Rattle.charging.specs.Served.{AreTables}
 
 -- by the row of a session's group: its book is on the shelf, and has the group and both periods
+-- rule: grant-terms.reservations-are-priced: each reservation has its prices on the shelf, so that
+--   no account is refused for another book
 abbrev pub ReservationsArePriced : Type 0
 ReservationsArePriced =
     (shelf : Shelf) → IsShelf shelf → (list : List Accepted) (tables : Tables) →
@@ -22,6 +24,7 @@ ReservationsArePriced =
     is_some (prices_on shelf g x) ≡ true
 
 -- so no list of an account's rows is refused for another book
+-- rule: grant-terms.reservations-are-priced
 abbrev pub NoBookIsMissing : Type 0
 NoBookIsMissing =
     (shelf : Shelf) → IsShelf shelf → (list : List Accepted) (tables : Tables) →

@@ -81,6 +81,7 @@ From shelf tables says = (list : List Accepted) → IsInTime list → AreLists t
 
 -- each bucket is available, reserved, charged or expired; each use has the price of its report or
 -- of its debit, and what isn't collected of it nobody had; a use within its grant is collected whole
+-- rule: ledger.runs-over
 pub record IsAccountPaid (shelf : Shelf) (a : AccountName) (head : Head) (list : List Accepted)
     : Type 0 where
   pub balanced : Each IsBalanced
@@ -97,6 +98,7 @@ AreAccountsPaid shelf tables list = (a : AccountName) (head : Head) →
 
 -- a store that is clean, or honest, was so before; over an honest one that was clean no other fault
 -- than those that are counted ends the call, and without a fault it is clean again
+-- rule: stop-run
 pub record Carries (old new : Seen) (fault : Option StoreFault) : Type 0 where
   pub clean : new.clean → old.clean
   pub honest : new.honest → old.honest
@@ -111,6 +113,7 @@ abbrev pub answered : List DatedCommand → Run → List DatedCommand
 answered commands run = take (length run.answers.items) commands
 
 -- all of them, or those up to a store fault
+-- rule: store-faults
 pub record EndsAs (commands : List DatedCommand) (run : Run) : Type 0 where
   pub whole : IfNone run.fault (length run.answers.items ≡ length commands)
   pub stopped : IfSome run.fault (λ fault. length run.answers.items < length commands)
@@ -122,6 +125,8 @@ pub record AreAfter (shelf : Shelf) (list : List Accepted) (tables : Tables) : T
   pub time : IsInTime list
 
 -- a stop leaves the tables of the commands that were answered, or of one more, and they are lists
+-- rule: stop-run: a run over a store that stops answering: the answers until then, and what is
+--   found again has each command that was answered, and at most one more
 pub record IsFound (shelf : Shelf) (commands : List DatedCommand) (run : Run) (left : Tables)
     (list : List Accepted) : Type 0 where
   pub count : ℕ
@@ -132,9 +137,12 @@ pub record IsFound (shelf : Shelf) (commands : List DatedCommand) (run : Run) (l
 
 -- from tables of accepted commands on, the answers are those to the commands, each after those
 -- before it, and the tables are those of all that were accepted
+-- rule: ledger.runs-over: each account is accounted for
+-- rule: store-faults: a run gives all answers, or those of a beginning up to a store fault
 pub record RunsOver (shelf : Shelf) (commands : List DatedCommand) (old new : Seen) (run : Run)
     : Type 0 where
   pub ends : EndsAs commands run
+  -- rule: stop-run
   pub answers : new.honest → From shelf old.tables
       (λ list. run.answers.items ≡ answers_to shelf list (answered commands run))
   pub tables : new.clean → From shelf old.tables
@@ -143,6 +151,7 @@ pub record RunsOver (shelf : Shelf) (commands : List DatedCommand) (old new : Se
       (λ list. AreAccountsPaid shelf new.tables
       (after_commands shelf list (answered commands run)))
   pub unchanged : new.clean → run.answers.items ≡ [] → new.tables ≡ old.tables
+  -- rule: stop-run
   pub stop : new.honest → (left : Tables) → new.left left →
       (old.clean → From shelf old.tables (IsFound shelf commands run left))
       × (old.left left ⊎ From shelf old.tables (IsFound shelf commands run left))

@@ -25,12 +25,15 @@ abbrev pub voucher_command : Command → Moment → List VoucherCommand
 voucher_command c t = voucher_asked (about c).code t
 
 -- what accepted commands ask of them, the first of them first
+-- rule: redeemed-once.voucher-commands: what a run leaves under a code is what its additions and
+--   redemptions leave
 abbrev pub voucher_commands : List Accepted → List VoucherCommand
 voucher_commands [] = []
 voucher_commands (d ∷ before) = voucher_commands before ++ voucher_command d.command d.moment
 
 -- what is under a code is what these leave of it: what is redeemed over one account's history
 -- and what is redeemed at all is known by the same list
+-- rule: redeemed-once.voucher-commands
 abbrev pub IsLeftByThese : Type 0
 IsLeftByThese = (b : Shelf) (list : List Accepted) (code : VoucherCode) →
     voucher b code list ≡ with_commands (book_days b) (voucher_commands list) (λ k. None) code
@@ -45,6 +48,7 @@ abbrev pub is_redemption : VoucherCode → Command → Bool
 is_redemption code c = is_redeemed code (about c).code
 
 -- how often accepted commands redeem it
+-- rule: redeemed-once.redemption-count: a code is redeemed at most once in any run
 abbrev pub redemption_count : VoucherCode → List Accepted → ℕ
 redemption_count code [] = 0
 redemption_count code (d ∷ before) =
@@ -52,6 +56,7 @@ redemption_count code (d ∷ before) =
 
 -- in a run, from whichever commands on, it is redeemed once more at most, and not at all where the
 -- voucher that is under it is spent
+-- rule: redeemed-once.redemption-count
 pub record AreRedeemedOnce (b : Shelf) (code : VoucherCode) (list : List Accepted)
     (ds : List DatedCommand) : Type 0 where
   pub once : redemption_count code (after_commands b list ds) ≤ redemption_count code list + 1
@@ -59,6 +64,7 @@ pub record AreRedeemedOnce (b : Shelf) (code : VoucherCode) (list : List Accepte
       redemption_count code (after_commands b list ds) ≡ redemption_count code list
 
 -- so from nothing on at most once
+-- rule: redeemed-once.redemption-count
 abbrev pub IsRedeemedAtMostOnce : Type 0
 IsRedeemedAtMostOnce = (b : Shelf) (code : VoucherCode) (ds : List DatedCommand) →
     redemption_count code (after_commands b [] ds) ≤ 1

@@ -24,6 +24,7 @@ pub record IsRepeated (b : Shelf) (before after : List Accepted) (c : Command) (
   pub accepted : accepts b after c u ≡ false
 
 -- once a command with a key is accepted it has one answer for good
+-- rule: repeat.answers-once: a repeat has one answer for good
 abbrev pub AnswersOnce : Type 0
 AnswersOnce =
     (b : Shelf) (list : List Accepted) (c : Command) (t : Moment) (between : List DatedCommand)
@@ -32,6 +33,7 @@ AnswersOnce =
     IsRepeated b list (after_commands b (record { moment = t; command = c } ∷ list) between) c t u
 
 -- a command that was accepted before gets its first answer, and no table changes
+-- rule: repeat.answers-once
 abbrev pub IsAnsweredAgain : Shelf → Command → Tables → Tables → Answer → Type 0
 IsAnsweredAgain b c old new given =
     (before : List Accepted) (t : Moment) (between : List DatedCommand) → has_key c ≡ true →

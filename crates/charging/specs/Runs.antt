@@ -19,12 +19,14 @@ abbrev pub after_command : Shelf → List Accepted → DatedCommand → List Acc
 after_command b list d = with_command b list d.command (moment_of list d.moment)
 
 -- the answers to dated commands, each after those before it
+-- rule: store-faults
 abbrev pub answers_to : Shelf → List Accepted → List DatedCommand → List Answer
 answers_to b list [] = []
 answers_to b list (d ∷ ds) = answer_to b list d.command (moment_of list d.moment)
     ∷ answers_to b (after_command b list d) ds
 
 -- the list of accepted commands after them
+-- rule: store-faults
 abbrev pub after_commands : Shelf → List Accepted → List DatedCommand → List Accepted
 after_commands b list [] = list
 after_commands b list (d ∷ ds) = after_commands b (after_command b list d) ds
@@ -38,6 +40,7 @@ pub record IsRun (b : Shelf) (list : List Accepted) (commands : List DatedComman
   pub time : IsInTime (after_commands b list (take (length given) commands))
 
 -- for every list of accepted commands whose tables a keeper holds
+-- rule: store-faults
 abbrev pub Runs : Shelf → List DatedCommand → Tables → Tables → List Answer → Type 0
 Runs b commands old new given = (list : List Accepted) → IsInTime list → AreTables b list old →
     IsRun b list commands new given
@@ -48,6 +51,7 @@ AreAnswered b commands old given = (list : List Accepted) → IsInTime list → 
     given ≡ answers_to b list (take (length given) commands)
 
 -- tables are those of a beginning of the commands that has each one answered, and at most one more
+-- rule: stop-run
 pub record IsHeld (b : Shelf) (list : List Accepted) (commands : List DatedCommand)
     (given : List Answer) (held : Tables) : Type 0 where
   pub count : ℕ
@@ -55,12 +59,14 @@ pub record IsHeld (b : Shelf) (list : List Accepted) (commands : List DatedComma
   pub one_more : count ≤ length given + 1
   pub tables : AreTables b (after_commands b list (take count commands)) held
 
+-- rule: stop-run
 abbrev pub AreHeld : Shelf → List DatedCommand → Tables → List Answer → Tables → Type 0
 AreHeld b commands old given held = (list : List Accepted) → IsInTime list → AreTables b list old →
     IsHeld b list commands given held
 
 -- one run after another is a run: of the commands that the first one answered, and of the second
 -- one's
+-- rule: runs.run-of-both: one run after another is a run
 abbrev pub IsRunOfBoth : Type 0
 IsRunOfBoth =
     (b : Shelf) (list : List Accepted) (first second : List DatedCommand) (between new : Tables)

@@ -31,15 +31,18 @@ abbrev pub standing : Shelf → Command → List Accepted → Option Voucher
 standing b c list = accepted.standing_for (book_days b) c list
 
 -- the tables are those of the accepted commands
+-- rule: runs.tables: a run before any command
 abbrev pub AreTables : Shelf → List Accepted → Tables → Type 0
 AreTables b list tables = accepted.AreTablesOf (book_days b) (outcome b) b list tables
 
 -- the moment of a command: the later of the one handed in and that of the last accepted command
+-- rule: command-moment: the moment of a command
 abbrev pub moment_of : List Accepted → Moment → Moment
 moment_of list t = max t (last_moment list)
 
 -- a command's answer at its moment: by what is under the code that it names, and the history of
 -- the account that it names, where it names one; a sweep's is the number of accounts
+-- rule: runs.serves
 abbrev pub answer_to : Shelf → List Accepted → Command → Moment → Answer
 answer_to b list c t = answer_on (concerned_by c)
   where
@@ -48,6 +51,7 @@ answer_to b list c t = answer_on (concerned_by c)
     answer_on none = (outcome b (standing b c list) no_history c t).answer
     answer_on (one a) = (outcome b (standing b c list) (history b a list) c t).answer
 
+-- rule: runs.serves
 abbrev pub accepts : Shelf → List Accepted → Command → Moment → Bool
 accepts b list c t = accepts_on (concerned_by c)
   where
@@ -74,6 +78,7 @@ pub record IsServed (b : Shelf) (list : List Accepted) (c : Command) (t : Moment
 
 -- for every list of accepted commands whose tables a keeper holds: the command is served, or the
 -- tables are as before
+-- rule: runs.serves: one command is served
 abbrev pub Serves : Shelf → Command → Moment → Tables → Tables → Result Answer StoreFault → Type 0
 Serves b c t old new result =
     (list : List Accepted) → IsInTime list → AreTables b list old →
@@ -81,6 +86,7 @@ Serves b c t old new result =
     old)
 
 -- for every such list: tables are those of the list with the command where it is accepted
+-- rule: stop-run.writes: a command over a store that stops answering
 abbrev pub Writes : Shelf → Command → Moment → Tables → Tables → Type 0
 Writes b c t old new = (list : List Accepted) → IsInTime list → AreTables b list old →
     AreTables b (with_command b list c (moment_of list t)) new

@@ -13,11 +13,13 @@ use Rattle.ledger.specs.Settlement.{charge_facts}
 use Rattle.ledger.specs.Reservation.{hold_for, hold_facts}
 
 -- what shares take of a bucket
+-- rule: shares.taken-of: each share of a charge or a hold is one fact, of its bucket alone
 abbrev pub taken_of : BucketNumber → List HeldAmount → BucketAmount
 taken_of n shares = sum_by (λ h. if h.bucket == n then h.amount else 0) shares
 
 -- charges: one a share, in the order of the shares, and each bucket's sum grows by what they take
 -- of it
+-- rule: shares.taken-of
 pub record AreCharged (t : Moment) (shares : List HeldAmount) (ledger : Ledger) : Type 0 where
   pub facts : charge_facts t shares
       ≡ map (λ h. record { at = t; fact = Charge h.bucket h.amount }) shares
@@ -29,6 +31,7 @@ pub record AreCharged (t : Moment) (shares : List HeldAmount) (ledger : Ledger) 
 
 -- holds: one a share, and what is held of each bucket grows by what they take of it, where the
 -- reservation counts
+-- rule: shares.taken-of
 pub record AreHeld (t : Moment) (session : SessionName) (group : GroupId) (shares : List HeldAmount)
     (ledger : Ledger) : Type 0 where
   pub facts : hold_facts t session group shares

@@ -24,6 +24,7 @@ pub record IsStateAt (b : Shelf) (t : Moment) (ledger : Ledger) (s : AccountStat
   pub buckets : s.buckets.items ≡ by_number (buckets_at (validity_of b) t ledger)
 
 -- an account that was opened has a state
+-- rule: balance
 abbrev pub IsState : Shelf → Moment → History → Option AccountState → Type 0
 IsState b t h None = h.opened ≡ false
 IsState b t h (Some s) = (h.opened ≡ true) × IsStateAt b t h.ledger s
@@ -35,6 +36,7 @@ TellsStateAt b a t tables found = (list : List Accepted) → IsInTime list →
     AreTables b list tables → last_moment list ≤ t → IsState b t (history b a list) found
 
 -- and at the moment of a command
+-- rule: balance
 abbrev pub TellsState : Shelf → AccountName → Moment → Tables → Option AccountState → Type 0
 TellsState b a t tables found = (list : List Accepted) → IsInTime list →
     AreTables b list tables → IsState b (moment_of list t) (history b a list) found

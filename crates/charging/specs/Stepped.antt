@@ -14,11 +14,17 @@ use Rattle.charging.specs.Stepping.{LeavesRefused}
 
 -- the command is served, or a store fault changes nothing; over an honest store an answer leaves
 -- one that can be asked, and a stop leaves what was there, or that with the command
+-- rule: runs.serves
 pub record StepsOver (b : Shelf) (command : Command) (moment : Moment) (old new : Seen)
     (result : Result Answer StoreFault) : Type 0 where
+  -- rule: runs.serves
   pub served : new.clean → Serves b command moment old.tables new.tables result
+  -- rule: refused
   pub refused : new.clean → LeavesRefused old.tables new.tables result
   pub kept : PartKeeps old new result
+  -- rule: stop-run.writes
   pub stands : new.honest → OnOk result new.clean
+  -- rule: stop-run.writes
   pub left : Leaves old new (λ t. old.clean × Writes b command moment old.tables t)
+  -- rule: repeat.answers-once
   pub again : new.clean → IfOk result (IsAnsweredAgain b command old.tables new.tables)

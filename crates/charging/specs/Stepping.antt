@@ -59,6 +59,7 @@ Answers b c t old new given = (list : List Accepted) → IsInTime list → AreTa
 
 -- the answer shows by itself that nothing was accepted: it is a refusal, what was read, or a
 -- failure of a request that isn't a denial
+-- rule: refused
 abbrev pub is_unaccepted : Answer → Bool
 is_unaccepted (answer.Request r) = not (may_be_accepted r.outcome)
 is_unaccepted (answer.Refused refusal) = true
@@ -68,6 +69,7 @@ is_unaccepted (answer.Bucket number) = false
 is_unaccepted (answer.Swept count) = false
 
 -- such an answer leaves the tables as they were, of no list of commands too
+-- rule: refused
 abbrev pub LeavesRefused : Tables → Tables → Result Answer StoreFault → Type 0
 LeavesRefused old new result = IfOk result (λ given. is_unaccepted given ≡ true → new ≡ old)
 
@@ -146,5 +148,6 @@ kept_of_request r tables =
     if is_read r.ask then None else tables.answers r.account (key_of (content.Request r))
 
 -- a request begins a session of which the tables have a row
+-- rule: session-names.known: a session that begins is new
 abbrev pub is_known : Request → Tables → Bool
 is_known r tables = begins_session r.ask && is_some ((tables.rows r.account).sessions r.session)

@@ -8,6 +8,7 @@ ghost use Rattle.charging.specs.LaterBooks.{AdditionsChangeNothing, AdditionsGoO
 /// before the addition and one after it are one run over the shelf after it, and each account is
 /// accounted for: its balances, its payments and its quotas go on over the addition (TS 32.296,
 /// rating function; profile).
+// rule: later-books.goes-on-after, later-books.leave-the-same, joined-runs
 pub fn later_books()
     ensures additions { AdditionsGoOn }
     ensures before { AdditionsChangeNothing }

@@ -27,6 +27,7 @@ use units::Moment;
 use wire::WrittenAnswer;
 
 /// Gives an account an allowance, under a reference.
+// rule: allowance
 pub(crate) fn serve_allowance<K: Keeper>(
     alloc: Global,
     keeper: &mut K,

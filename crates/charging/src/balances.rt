@@ -38,6 +38,7 @@ pub struct AccountState {
 ///
 /// # Errors
 /// Store fault 1 where a growth was refused, 2 where the store failed.
+// rule: balance
 pub fn account_state<K: Keeper>(
     keeper: &mut K,
     shelf: &TariffShelf,
@@ -74,6 +75,7 @@ fn state_at<K: Keeper>(
 }
 
 /// What was viewed, brought to the moment, with the dead buckets, which stay as they are.
+// rule: balance
 fn state_of(
     mut account: Account,
     dead: Vec<Bucket>,
@@ -110,6 +112,7 @@ fn sort(buckets: &mut Vec<Bucket>) -> Result<(), AllocError>
 }
 
 /// Answers what became of an account's money.
+// rule: balance
 pub(crate) fn tell_balance<K: Keeper>(
     alloc: Global,
     keeper: &mut K,

@@ -15,6 +15,7 @@ use units::Moment;
 use wire::WrittenAnswer;
 
 /// The moment of a command on an account: it isn't before that of the account's last change.
+// rule: command-moment
 pub(crate) fn moment_on(account: &Account, moment: Moment) -> Moment
     ensures value { result ≡ max moment account.now.as_of }
     ensures later { account.now.as_of ≤ result }
@@ -43,6 +44,7 @@ fn kept_as(
 /// kept and the voucher that it redeemed, and gives the command's answer. The answer's text is made
 /// before: where its growth is refused nothing has changed. Where the rows of one session alone may
 /// have changed, no other session's row is looked at.
+// rule: database-writes.changed, http-unanswered
 pub(crate) fn commit<K: Keeper>(
     alloc: Global,
     keeper: &mut K,

@@ -32,6 +32,7 @@ use shelves::TariffShelf;
 
 /// Before any command the tables are empty: those of `MemoryKeeper::new`, with which a first call
 /// can begin.
+// rule: runs.tables
 pub fn beginning()
     ensures time { IsInTime [] }
     ensures tables { (b : Shelf) → AreTables b [] no_tables }
@@ -55,6 +56,7 @@ pub fn equations_are_enough()
 /// keeper held: the answers are those of a beginning of the commands, and the tables are those of
 /// the list after it. Each account's buckets and charges are then sums of its ledger, and each use
 /// was paid as the rules say (profile).
+// rule: ledger.runs-over
 pub fn run_over_lists<K: Keeper>(
     old: &K,
     new: &K,
@@ -76,6 +78,7 @@ pub fn run_over_lists<K: Keeper>(
 /// One run after another is a run, where the second goes on from what the first one left. The
 /// answers of both, one after the other, are those of the commands that the first one answered and
 /// of the second one's. The tables are those of all of them.
+// rule: runs.run-of-both
 pub fn runs_chain()
     ensures { IsRunOfBoth }
 {}
@@ -83,6 +86,7 @@ pub fn runs_chain()
 /// What the ledger of each history is: a session's last touch is recorded, a session without a
 /// record was neither closed nor has anything held or granted, and nothing is charged or held of a
 /// bucket that isn't made yet (profile).
+// rule: ledger.sound-ledger
 pub fn soundness()
     ensures { LedgersAreSound }
 {}
@@ -90,6 +94,7 @@ pub fn soundness()
 /// Each reservation that accepted commands leave has its prices on the shelf by which they were
 /// answered: its book is there, and has its group and both its periods. So no account whose rows a
 /// keeper holds is refused for another book, as it is where a reservation has no prices.
+// rule: grant-terms.reservations-are-priced
 pub fn reservations_are_priced()
     ensures rows { ReservationsArePriced }
     ensures lists { NoBookIsMissing }
@@ -98,6 +103,7 @@ pub fn reservations_are_priced()
 /// Rows that are loaded and rows that were left are an account's rows together: under each key
 /// is the row of one of both, and none has a row in both. Of a session without a recorded
 /// request no row was left (profile).
+// rule: database-loads.in-one
 pub fn loaded_or_left()
     ensures rows { RowsAreParted }
     ensures sessions { NewSessionsAreNotLeft }
@@ -106,6 +112,7 @@ pub fn loaded_or_left()
 /// What a call charges or holds are the shares of its buckets: each share is one fact, in the order
 /// of the buckets, and adds its amount to what is charged to its bucket, or held of it, and to
 /// nothing else (TS 32.296, account balance management function).
+// rule: shares.taken-of
 pub fn shares_are_facts()
     ensures charges { ChargesAreShares }
     ensures holds { HoldsAreShares }
@@ -114,6 +121,7 @@ pub fn shares_are_facts()
 /// What a session was granted of a group is one grant: the terms by which a report of it is priced,
 /// and the units and the place of the counter that its quota has, are those of the last grant that
 /// no later fact ended (TS 32.299, session charging with unit reservation).
+// rule: grant-terms.granted
 pub fn open_grants_are_one()
     ensures { GrantsAreOne }
 {}
@@ -121,6 +129,7 @@ pub fn open_grants_are_one()
 /// Dead rows are dead for good. They are a bucket that has nothing available and nothing reserved,
 /// a session that is over or was never opened, and what it used of each group. They stay as they
 /// are, whatever commands come, and at every later moment (RFC 8506 section 8.2; profile).
+// rule: dead-rows.dead-for-good
 pub fn dead_rows_stay()
     ensures { DeadRowsStay }
 {}
@@ -128,6 +137,7 @@ pub fn dead_rows_stay()
 /// An initial request opens a session exactly where one of its grants is made: services are granted
 /// in the order of the request, each on what the one before it left. Where none is, the request is
 /// denied for its first service's reason (RFC 8506 section 5.2.1).
+// rule: initial.opened-by-grants
 pub fn sessions_open_by_grants()
     ensures { SessionsOpenByGrants }
 {}
@@ -138,6 +148,7 @@ pub fn sessions_open_by_grants()
 /// eligible bucket has anything left, neither money nor blocks (RFC 8506 section 5.3; TS 32.296,
 /// account balance management function). The reports are those of the accepted updates and
 /// terminations, in their order, each priced by the parts that it names.
+// rule: paid, paid.taken
 pub fn payment()
     ensures { ReportsArePaid }
 {}
@@ -145,6 +156,7 @@ pub fn payment()
 /// Allowances before money: a report's price, and an event's, is due only where all blocks are
 /// covered that its reservation and the eligible allowances have, so that what an allowance could
 /// cover costs nothing (profile).
+// rule: paid.covers-first
 pub fn allowances_before_money()
     ensures reports { ReportsAreCovered }
     ensures events { EventsAreCovered }
@@ -153,6 +165,7 @@ pub fn allowances_before_money()
 /// A quota pays: a report that ends a grant, has at most its units and starts at its place of the
 /// group's counter is collected whole, whatever came between: the blocks and the money that were
 /// held for it pay for it (TS 32.299, session charging with unit reservation).
+// rule: quota.quotas-paid
 pub fn quota()
     ensures { QuotasArePaid }
 {}
@@ -160,6 +173,7 @@ pub fn quota()
 /// To date: what was collected by all charges of an account is what its buckets of money together
 /// show as charged, and the blocks that they covered are what its allowances show, at any moment
 /// (TS 32.296, account balance management function).
+// rule: collected
 pub fn collection()
     ensures { TakenIsCharged }
 {}
@@ -167,12 +181,14 @@ pub fn collection()
 /// The charges of an account are within bounds: each starts no more blocks than a counter counts,
 /// none of them dearer than 10^9 micro-units, and the sums of an account's charges, and of any
 /// among them, are numbers of 128 bits. So no statement of them ends for a sum (profile).
+// rule: stored-limits.bounded
 pub fn charges_within_bounds()
     ensures { ChargesAreBounded }
 {}
 
 /// A balance lists each bucket of an account once, in the order of their numbers, as the account's
 /// ledger has it at the moment (TS 32.296, account balance management function).
+// rule: balance.told-by-number
 pub fn balances_by_number()
     ensures { BalancesAreByNumber }
 {}
@@ -181,6 +197,7 @@ pub fn balances_by_number()
 /// of a voucher is accepted, it has one answer for good. Whatever commands come between, the same
 /// command is answered as the first time and isn't accepted again (RFC 8506 section 8.2; references
 /// of credits, allowances and redemptions, and codes of vouchers: profile).
+// rule: repeat.answers-once
 pub fn repeats()
     ensures { AnswersOnce }
 {}
@@ -189,6 +206,7 @@ pub fn repeats()
 /// accepted command redeems it, in a run from any accepted commands on one more at most, and none
 /// where the voucher is spent. What is under each code is what the accepted additions and
 /// redemptions leave of it (profile).
+// rule: redeemed-once.redemption-count, redeemed-once.voucher-commands
 pub fn codes_redeemed_once()
     ensures left { IsLeftByThese }
     ensures more { CodesAreRedeemedOnce }
@@ -200,6 +218,7 @@ pub fn codes_redeemed_once()
 /// the additions of the vouchers that it redeems, where no redemption for another account names the
 /// code of one. Others and sweeps reach it through the moments of its commands, and where moments
 /// never fall not at all (profile).
+// rule: isolation
 pub fn isolation()
     ensures { AccountsAreIsolated }
 {}

@@ -29,6 +29,7 @@ use units::{Moment, Money};
 use wire::{AnswerRoom, WrittenAnswer};
 
 /// Opens an account.
+// rule: open
 pub(crate) fn open_account<K: Keeper>(
     alloc: Global,
     keeper: &mut K,
@@ -69,6 +70,7 @@ pub(crate) fn open_account<K: Keeper>(
 }
 
 /// Bars an account, or ends that.
+// rule: open, bar
 pub(crate) fn set_barred<K: Keeper>(
     alloc: Global,
     keeper: &mut K,
@@ -104,6 +106,7 @@ pub(crate) fn set_barred<K: Keeper>(
 }
 
 /// Brings each account to the moment.
+// rule: sweep
 pub(crate) fn sweep<K: Keeper>(
     alloc: Global,
     keeper: &mut K,
@@ -125,6 +128,7 @@ pub(crate) fn sweep<K: Keeper>(
 }
 
 /// Credits an account, under a reference.
+// rule: credit
 pub(crate) fn serve_credit<K: Keeper>(
     alloc: Global,
     keeper: &mut K,

@@ -13,6 +13,7 @@ use std::alloc::{AllocError, Global};
 use wire::WrittenAnswer;
 
 /// What is kept of an account's command under a reference.
+// rule: repeat
 pub(crate) fn find_referenced<K: Keeper>(
     keeper: &mut K,
     account: &AccountNumber,
@@ -28,6 +29,7 @@ pub(crate) fn find_referenced<K: Keeper>(
 
 /// The answer to a command whose key is kept, by whether what is kept is the same command: the
 /// first answer, else that of a conflict.
+// rule: repeat
 pub(crate) fn first_or_conflict(
     alloc: Global,
     kept: KeptAnswer,
@@ -45,6 +47,7 @@ pub(crate) fn first_or_conflict(
 }
 
 /// The answer to a command whose key is kept: its first answer where it is the same command.
+// rule: repeat, changed-repeat
 pub(crate) fn repeated(
     alloc: Global,
     kept: KeptAnswer,

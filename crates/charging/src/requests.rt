@@ -28,6 +28,7 @@ use units::Moment;
 use wire::WrittenAnswer;
 
 /// Answers a request: that of an unknown account, a repeat, or one that is decided.
+// rule: repeat, unknown-account
 pub(crate) fn serve_request<K: Keeper>(
     alloc: Global,
     keeper: &mut K,
@@ -62,6 +63,7 @@ pub(crate) fn serve_request<K: Keeper>(
 }
 
 /// Whether a request begins a session of which the account has a row.
+// rule: session-names.known
 fn is_known<K: Keeper>(keeper: &mut K, request: &Request) -> Result<bool, StoreFault>
     ensures { PartReads (K.seen keeper.old) (K.seen keeper.new)
         (λ known. known ≡ is_known request.now (K.seen keeper.old).tables) result }
@@ -167,6 +169,7 @@ fn own_of<'r>(account: &Account, request: &'r Request, moment: Moment) -> Option
 
 /// Decides a request, and commits it where it is accepted. Of the account as it was before are kept
 /// the rows alone that the request may change.
+// rule: ledger.extends, database-writes.quiet-at
 fn decide_on<K: Keeper>(
     alloc: Global,
     keeper: &mut K,

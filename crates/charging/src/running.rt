@@ -32,6 +32,7 @@ pub struct DatedCommand {
 ///
 /// After a stop, and where the store can't be asked any more, each command that was answered is
 /// found again, and at most one more.
+// rule: ledger.runs-over, store-faults, stop-run
 pub fn run<K: Keeper>(
     alloc: Global,
     keeper: &mut K,

@@ -26,6 +26,7 @@ use wire::WrittenAnswer;
 /// # Errors
 /// Store fault 1 where a growth was refused, also for the answer's text, 2 where the store failed.
 /// Then nothing has changed.
+// rule: runs.serves, repeat.answers-once, stop-run.writes
 pub fn step<K: Keeper>(
     alloc: Global,
     keeper: &mut K,
@@ -39,6 +40,7 @@ pub fn step<K: Keeper>(
 }
 
 /// Serves a command by its kind.
+// rule: command-moment
 fn serve<K: Keeper>(
     alloc: Global,
     keeper: &mut K,
@@ -49,6 +51,7 @@ fn serve<K: Keeper>(
     ensures served { (K.seen keeper.new).clean →
         Serves shelf.now command moment (K.seen keeper.old).tables (K.seen keeper.new).tables
         result }
+    // rule: refused
     ensures refused { (K.seen keeper.new).clean → LeavesRefused (K.seen keeper.old).tables
         (K.seen keeper.new).tables result }
     ensures kept { PartKeeps (K.seen keeper.old) (K.seen keeper.new) result }

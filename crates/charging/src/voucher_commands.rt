@@ -43,6 +43,7 @@ impl CivilDays for BookDays<'_> {
 }
 
 /// Adds a voucher. It concerns no account.
+// rule: voucher-add.addition-outcome
 pub(crate) fn add_voucher<K: Keeper>(
     alloc: Global,
     keeper: &mut K,
@@ -72,6 +73,7 @@ pub(crate) fn add_voucher<K: Keeper>(
 }
 
 /// Redeems a voucher for an account, under a reference.
+// rule: redeem.redeem-outcome
 pub(crate) fn serve_redemption<K: Keeper>(
     alloc: Global,
     keeper: &mut K,
@@ -136,6 +138,7 @@ fn told_refusal(refusal: RedeemRefusal) -> Refusal
 }
 
 /// Credits an account with what it redeemed, and keeps the voucher as spent, under this code.
+// rule: redeem.redeem-outcome
 fn credit_redeemed<K: Keeper>(
     alloc: Global,
     keeper: &mut K,

@@ -59,6 +59,7 @@ event_exact a b = search rules
 ask_exact : (a b : Ask) → Decides (ask.eq a b) (a ≡ b)
 ask_exact a b = search (services_exact, event_exact, rules)
 
+-- rule: equal-content
 pub request_exact : (a b : Request) → Decides (same_request a b) (a ≡ b)
 request_exact a b = search (ask_exact, rules)
 
@@ -90,6 +91,7 @@ credit_sound a b e =
     ((option_exact a.until b.until).0 until.0) ((option_exact a.scope b.scope).0 scope.0)
     ((bytes_decides a.reference b.reference).0 scope.1)
 
+-- rule: equal-content
 pub credit_exact : (a b : Credit) → Decides (same_credit a b) (a ≡ b)
 credit_exact a b = (credit_sound a b, λ e. subst (λ c. same_credit a c ≡ true) e (search rules))
 
@@ -117,6 +119,7 @@ allowance_sound a b e =
     ((option_exact a.until b.until).0 until.0) ((unsigned_Decides a.scope b.scope).0 scope.0)
     ((bytes_decides a.reference b.reference).0 scope.1)
 
+-- rule: equal-content
 pub allowance_exact : (a b : Allowance) → Decides (same_allowance a b) (a ≡ b)
 allowance_exact a b =
     (allowance_sound a b, λ e. subst (λ c. same_allowance a c ≡ true) e (search rules))

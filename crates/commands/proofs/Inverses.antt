@@ -119,6 +119,7 @@ names name all there = record {
   back = λ s x h. equal_names (name x) s (passes (λ y. pointwise nat_eq (name y) s) all x h);
 }
 
+-- rule: codes
 pub are_tables : AreTables
 are_tables = record {
   avps = names name_of all_avps avp_there;

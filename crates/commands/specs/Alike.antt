@@ -13,12 +13,15 @@ use Rattle.commands.specs.contracts.command.VoucherRedemptionPartialEq.TheImpl.{
   ghosts as redemption,
 }
 
+-- rule: equal-content: when two contents are equal
 abbrev pub same_request : Request → Request → Bool
 same_request = request.eq
 
+-- rule: equal-content
 abbrev pub same_credit : Credit → Credit → Bool
 same_credit = credit.eq
 
+-- rule: equal-content
 abbrev pub same_allowance : Allowance → Allowance → Bool
 same_allowance = allowance.eq
 

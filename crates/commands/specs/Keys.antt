@@ -18,6 +18,7 @@ use Rattle.commands.specs.declared.key.KeyRef.{KeyRef}
 use Rattle.commands.specs.declared.key.KeyRef.TheVariants as lent
 
 -- the account of a command with this content
+-- rule: database-reads
 abbrev pub account_of : Content → AccountName
 account_of (content.Request r) = r.account
 account_of (content.Credit c) = c.account
@@ -25,6 +26,7 @@ account_of (content.Allow a) = a.account
 account_of (content.Redeem r) = r.account
 
 -- its key
+-- rule: database-reads
 abbrev pub key_of : Content → Key
 key_of (content.Request r) = Request r.session r.number
 key_of (content.Credit c) = Reference c.reference
@@ -37,6 +39,7 @@ lent_key (lent.Request s n) = Request s.now n
 lent_key (lent.Reference r) = Reference r.now
 
 -- two are the same
+-- rule: database-reads
 abbrev pub same_key : Key → Key → Bool
 same_key (Request s n) (Request t m) = same_name s t && nat_eq n m
 same_key (Reference r) (Reference q) = same_name r q

@@ -34,6 +34,7 @@ abbrev pub tags_differ : List UsedPart → Bool
 tags_differ = all_differ (λ (p q : UsedPart). option_eq same_usage p.change q.change)
 
 -- 1 to 4 parts, whose tags differ, each with at most so many units
+-- rule: used-parts
 abbrev pub is_report : UnitKind → List UsedPart → Bool
 is_report kind parts =
     nat_le 1 (length parts) && nat_le (length parts) 4

@@ -106,6 +106,7 @@ impl CreditEnd {
 #[derive(Clone, Debug, PartialEq, Eq)]
 pub struct Credit {
     /// The account that gets the bucket.
+    // rule: database-reads
     pub account: AccountNumber,
     /// What the bucket is opened with, in micro-units.
     pub amount: Money,
@@ -323,6 +324,7 @@ impl Content {
     }
 
     /// The key under which the command's answer is kept.
+    // rule: database-reads
     pub fn key(&self) -> KeyRef<'_>
         ensures { lent_key result ≡ key_of self.now }
     {
@@ -341,6 +343,7 @@ impl Content {
     ///
     /// # Errors
     /// Out of memory.
+    // rule: database-reads
     pub fn copy(&self) -> Result<Content, AllocError>
         ensures { IfOk result (λ copy. copy ≡ self.now) }
     {

@@ -45,6 +45,7 @@ impl Key {
     ///
     /// # Errors
     /// Out of memory.
+    // rule: database-reads
     pub fn of(content: &Content) -> Result<Key, AllocError>
         ensures { IfOk result (λ key. key ≡ key_of content.now) }
     {
@@ -62,6 +63,7 @@ impl PartialEq for Key {
     ghost use Rattle.std.specs.Cmp.{decided, partial_equiv_from_equiv};
     ghost use Rattle.commands.specs.Keys.{same_key, key_decides};
 
+    // rule: database-reads
     ghost eq = { same_key };
 
     ghost laws = { partial_equiv_from_equiv (decided same_key key_decides) };

@@ -89,6 +89,7 @@ pub const EXPIRED: &str = "Expired";
 
 /// Each name and each number is that of one value: what is written is found again, and what is
 /// found is written so.
+// rule: codes
 pub fn tables_are_inverse()
     ensures { AreTables }
 {}

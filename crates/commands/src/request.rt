@@ -230,6 +230,7 @@ impl Request {
 
 /// Whether two requests are the same: a request that comes again with the same content is a repeat
 /// (profile).
+// rule: equal-content
 #[tactic(auto, using(crate::proofs::Exact::request_exact))]
 pub fn same_request(a: &Request, b: &Request) -> bool
     ensures { IsTrue result ↔ (a.now ≡ b.now) }

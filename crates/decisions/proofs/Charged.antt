@@ -133,6 +133,7 @@ pub not_fault : {R E : Type 0} {x : R} {e : E} (r : Result R E) → r ≡ Ok x �
 not_fault {R} {E} {x} {e} r is fault = let both : Ok x ≡ Err e = sym is ∙ fault in cc
 
 -- money that is paid back
+-- rule: refund
 pub follows_refunded : (old middle new : AccountRows) (t : ℕ) (s : List ℕ) (n : ℕ) (r : Refund) →
     old.next_bucket ≤ 4294967295 →
     ((ledger : Ledger) (left : LeftRows) → IsWith ledger left t old →

@@ -58,6 +58,7 @@ grants_some b tariff t s g asked grant ledger left a some rows =
     at false e = absurd (let no : false ≡ true = e in cc)
 
 -- units that are reserved are the service's grant
+-- rule: final-units, service-codes
 pub grants_units : (b : Shelf) (tariff : GroupTariff) (t : ℕ) (s : List ℕ) (g : ℕ)
     (asked : Option ℕ)
     (ledger : Ledger) (left : LeftRows) (a : AccountRows) (given : ℕ) (switch : Option ℕ)

@@ -93,6 +93,7 @@ stands_told t old r is none = record {
 }
 
 -- a request that is accepted
+-- rule: initial
 pub ruled_accepted : (asked : Ledger → LeftRows → Type 0) (decision : Ledger → Decision) (t : ℕ)
     (old new : AccountRows) (o : Outcome) (c : List ChargeRow) (r : Ruling) → r.outcome ≡ o →
     r.accepted ≡ true → r.charges.items ≡ c →
@@ -103,6 +104,7 @@ ruled_accepted asked decision t old new o c r outcome is charges at f = record {
 }
 
 -- an answer that changes nothing
+-- rule: decision-order, session-refused
 pub ruled_told : (asked : Ledger → LeftRows → Type 0) (decision : Ledger → Decision) (t : ℕ)
     (old : AccountRows) (o : Outcome) (r : Ruling) → r.outcome ≡ o → r.accepted ≡ false →
     r.charges.items ≡ [] →
@@ -115,6 +117,7 @@ ruled_told asked decision t old o r outcome is charges same = record {
 }
 
 -- the same ruling by another decision, from another premise
+-- rule: decision-order, session-refused
 pub ruled_as : (p q : Ledger → LeftRows → Type 0) (d e : Ledger → Decision) (t : ℕ)
     (old new : AccountRows) (r : Ruling) →
     ((ledger : Ledger) (left : LeftRows) → q ledger left → IsWith ledger left t old →
@@ -216,6 +219,7 @@ grants_charges b t s (x ∷ xs) ledger = grants_charges b t s xs (granted b t s 
 -- ---- sessions
 
 -- a session that is opened
+-- rule: initial
 pub follows_opened : (old new : AccountRows) (t : ℕ) (s : List ℕ) (n : ℕ) (services : List Service)
     (answers : List ServiceAnswer) →
     ((ledger : Ledger) (left : LeftRows) → IsWith ledger left t old →
@@ -241,6 +245,7 @@ follows_opened old new t s n services answers some grants = λ ledger left asked
     (sym (rw (some ledger left h) refl)) own
 
 -- an update whose services are settled
+-- rule: update
 pub follows_updated : (old middle new : AccountRows) (t : ℕ) (s : List ℕ) (n : ℕ)
     (services : List Service) (answers : List ServiceAnswer) (charges : List ChargeRow) →
     middle.shelf ≡ old.shelf →
@@ -266,6 +271,7 @@ follows_updated old middle new t s n services answers charges e settles grants =
     }
 
 -- a termination whose services are settled
+-- rule: termination
 pub follows_ended : (old middle new : AccountRows) (t : ℕ) (s : List ℕ) (n : ℕ)
     (services : List Service) (answers : List ServiceAnswer) (charges : List ChargeRow) →
     answers ≡ settled_answers (book_at old.shelf t) services →

@@ -18,6 +18,7 @@ use Rattle.decisions.specs.Asked.{IsAsked}
 use Rattle.decisions.specs.Decisions.{Decision, decision, answer_of, is_read}
 
 -- the session whose rows alone may change: the request's, where nothing ends at the moment
+-- rule: database-writes.quiet-at
 abbrev pub own_of : Request → Moment → AccountRows → Option SessionName
 own_of r t a = if is_quiet_at t a then Some r.session else None
 

@@ -60,6 +60,8 @@ asks_other kind (Some (Units q)) = not (kinds.eq q.kind kind)
 
 -- the first fault of the services' units, in their order: a service asks for other units than its
 -- group's tariff has, or it reports use in others, or one that starts more than 10^9 blocks
+-- rule: units: units of another kind than the group's
+-- rule: block-limit: use, or an event's request, of more than 10^9 blocks
 abbrev pub units_fault : Book → SessionName → Ledger → List Service → Option Avp
 units_fault b s ledger [] = None
 units_fault b s ledger (x ∷ xs) =
@@ -90,6 +92,7 @@ module _ (b : Shelf) (t : Moment) (s : SessionName) where
       if is_known (book_at b t) x.group then settled_by b t s x.group (parts_of x.used) ledger
       else ledger
 
+  -- rule: termination
   abbrev pub settled_services : List Service → Ledger → Ledger
   settled_services [] ledger = ledger
   settled_services (x ∷ xs) ledger = settled_services xs (settled_service x ledger)
@@ -105,6 +108,9 @@ module _ (b : Shelf) (t : Moment) (s : SessionName) where
   -- the grant of a service, as far as the funds cover it: no unit is 4012, a barred account is
   -- granted nothing, 4010, a rating group without a tariff is 5031, and a service that asks for
   -- nothing is 2001
+  -- rule: final-units: when units are final
+  -- rule: service-codes: the code of each service
+  -- rule: barred
   abbrev pub granted : Service → Ledger → Answered
   granted x ledger = by_tariff (tariff_at b t x.group)
     where
@@ -145,17 +151,20 @@ module _ (b : Shelf) (t : Moment) (s : SessionName) where
       by_tariff (Some tariff) = as_asked tariff x.requested
 
   -- the grants of all services, one after the other
+  -- rule: initial.opened-by-grants
   abbrev pub grant_answers : List Service → Ledger → List ServiceAnswer
   grant_answers [] ledger = []
   grant_answers (x ∷ xs) ledger =
       record { group = x.group; outcome = (granted x ledger).outcome }
       ∷ grant_answers xs (granted x ledger).after
 
+  -- rule: update
   abbrev pub after_grants : List Service → Ledger → Ledger
   after_grants [] ledger = ledger
   after_grants (x ∷ xs) ledger = after_grants xs (granted x ledger).after
 
 -- a service that asks for nothing is 2001, or 5031 for a rating group without a tariff
+-- rule: service-codes
 abbrev pub settled_answers : Book → List Service → List ServiceAnswer
 settled_answers b services = map (λ x. record {
   group = x.group;
@@ -166,12 +175,14 @@ settled_answers b services = map (λ x. record {
 
 -- some service of a new session, which asks for units, would be granted one; until one is granted
 -- the funds stay the same, so that each can be asked for by itself
+-- rule: initial
 abbrev pub any_grants : Shelf → Moment → Ledger → List Service → Bool
 any_grants b t ledger services =
     list_any (λ x. nat_lt 0
     (grant_for b t x.group 0 (option_and_then units_of x.requested) ledger).units.0) services
 
 -- why the first service is granted nothing; a request without one has nothing to grant
+-- rule: initial, service-codes
 abbrev pub first_denial : Book → List Service → ServiceFailure
 first_denial b [] = CreditLimitReached
 first_denial b (x ∷ xs) = if is_known b x.group then CreditLimitReached else RatingFailed

@@ -23,6 +23,7 @@ fn balance(covered: bool) -> Balance
 }
 
 /// Whether the account could pay for an event's units (CHECK_BALANCE, RFC 8506 section 6.2).
+// rule: check
 pub(crate) fn checked(account: &Account, event: &Event, moment: Moment) -> Outcome
     requires later { account.now.as_of ≤ moment }
     ensures { (ledger : Ledger) (left : LeftRows) → IsWith ledger left moment account.now →
@@ -40,6 +41,7 @@ pub(crate) fn checked(account: &Account, event: &Event, moment: Moment) -> Outco
 }
 
 /// What an event's units would cost (PRICE_ENQUIRY, RFC 8506 section 6.1).
+// rule: check, enquiry
 pub(crate) fn priced(account: &Account, event: &Event, moment: Moment) -> Outcome
     ensures { (ledger : Ledger) (left : LeftRows) → IsWith ledger left moment account.now →
         result ≡ (enquiry_decision account.now.shelf moment event.now ledger).outcome }

@@ -66,6 +66,7 @@ after_one head (Err status) rest says = says
 after_one head (Ok n) rest says =
     cut_or (nat_lt (length rest) n) (asks (ask_of head (take n rest)) (drop n rest)) tt
 
+-- rule: http-refusals
 pub next_of_head : (part : Part) (next : Next) → IsNextOf part next → IsOfHead next
 next_of_head (whole part rest) next (inl h) =
     subst IsOfHead (sym h.2) (after_one h.0 (length_of h.0) rest (length_one h.0))

@@ -18,6 +18,7 @@ pub begins-all : (old new : Option (List ℕ)) (text : List ℕ) → Appends old
 begins-all old new text h = (length text, subst (Appends old new) (sym (take-length text)) h)
 
 module _ {A : Type 0} (old mid new : Option (List ℕ)) (result : Result A StreamFault) where
+  -- rule: http-leave
   pub text_left : (text : List ℕ) → Appends old mid text → Keeps mid new →
       OnErr result (result ≡ Err Write) → WritesText text old new result
   text_left text appends keeps fault =
@@ -28,6 +29,7 @@ module _ {A : Type 0} (old mid new : Option (List ℕ)) (result : Result A Strea
         fault = fault;
       }
 
+  -- rule: http-leave
   pub told_left : (tells : (List ℕ → Type 0) → Type 0) →
       ((X Y : List ℕ → Type 0) → ((text : List ℕ) → X text → Y text) → tells X → tells Y) →
       tells (Appends old mid) → Keeps mid new → OnErr result (result ≡ Err Write) →

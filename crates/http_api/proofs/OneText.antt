@@ -50,6 +50,7 @@ takes b (refused status) old new is gets = answered b (refuses status) true [] o
     (refused_says (first_part old.rest) status is) gets
 takes b ended old new is gets = absurd gets
 
+-- rule: http-text
 pub are_turns : DueTurnsAreTurns
 are_turns b zero first last turns = turns
 are_turns b (suc n) first last (between, turns, turn) = (
@@ -177,6 +178,7 @@ alike b (suc n) first x y (u, tu, tx) (v, tv, ty) =
     let before = alike b n first u v tu tv in
     one_turn b u v x y before.0 before.1 tx ty
 
+-- rule: http-text
 pub text_is_one : TextIsOne
 text_is_one b n stream list x y tx ty moments =
     let same : x ≡ y = (alike b n (new_connection stream list) x y tx ty).1 moments in
@@ -232,6 +234,7 @@ by_counts b n m first x y tx ty ox oy = by (nat_lt n m) refl (nat_lt m n) refl
     by false s true r = absurd (not_fewer b m n first y x ty tx oy (ltb-true m n r))
     by false s false r = omega (arith, ltb-false n m s, ltb-false m n r)
 
+-- rule: http-text
 pub turns_are_one : TurnsAreOne
 turns_are_one b n m stream list x y tx ty ox oy =
     by_counts b n m (new_connection stream list) x y tx ty ox oy

@@ -181,6 +181,7 @@ module _ {C : Type 0} (gives : C → Option ℕ → C → Type 0) (b : Shelf) (c
       (λ list time are. are) w
 
   -- a store fault
+  -- rule: http-read, http-503
   pub failed_reply : (c : Command) (t : ℕ) (c0 c1 : C) (old new : Tables) (fault : StoreFault) →
       gives c0 (Some t) c1 → Serves b c t old new (Err fault) →
       Writes (response status.service_unavailable closes unable) →
@@ -191,6 +192,7 @@ module _ {C : Type 0} (gives : C → Option ℕ → C → Type 0) (b : Shelf) (c
       (λ list time are. subst (AreTables b list) (sym (serves list time are)) are) w
 
   -- a command that is served, and its answer given
+  -- rule: http-read
   pub served_reply : (c : Command) (t : ℕ) (c0 c1 : C) (old new : Tables) (answer : Answer) →
       gives c0 (Some t) c1 → Serves b c t old new (Ok answer) →
       Writes (response status.ok closes (answer_text answer)) →

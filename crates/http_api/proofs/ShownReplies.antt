@@ -34,6 +34,7 @@ module _ (b : Shelf) where
     left = λ before t l. before t l;
   }
 
+  -- rule: http-end
   pub holds_more : (old mid new : Seen) (held next last : Tables) →
       HoldsNext b old mid held next → HoldsNext b mid new next last → HoldsNext b old new held last
   holds_more old mid new held next last first second = record {
@@ -54,6 +55,7 @@ module _ (b : Shelf) where
     }
 
     -- a command failed: a stop may leave it
+    -- rule: http-end
     pub holds_failed : (d : DatedCommand) → (new.clean → new.tables ≡ old.tables) →
         ((t : Tables) → new.left t →
         old.left t ⊎ (old.clean × Writes b d.command d.moment old.tables t)) →

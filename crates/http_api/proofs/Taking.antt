@@ -181,6 +181,7 @@ more-at b stream count left rest after moments ms text more mid new list asking 
       rest_is = refl;
     }
 
+-- rule: http-end
 at-more : (b : Shelf) (stream : List ℕ) (count left : ℕ) (closes : Bool) (after : List ℕ)
     (moments : List (Option ℕ)) (text more : List ℕ) (new : Tables) (list : List Accepted) →
     IsMoreAt b stream count left closes after moments text more new list →
@@ -303,6 +304,7 @@ module _ {C : Type 0} (gives : C → Option ℕ → C → Type 0) (b : Shelf) wh
       (flag_is ∙ ap (λ n. n == 0) next_is) (replies asking asked))
 
   -- and the connection goes on
+  -- rule: http-end
   pub so_far-more : (count left next : ℕ) (closes : Bool) (r0 r2 : Option (List ℕ)) (c0 c2 : C)
       (w0 w1 w2 : Option (List ℕ)) (old new : Tables) →
       next ≡ left_after closes left → next ≢ 0 →
@@ -323,6 +325,7 @@ module _ {C : Type 0} (gives : C → Option ℕ → C → Type 0) (b : Shelf) wh
       }
 
   -- or it ends
+  -- rule: http-end
   pub so_far-closed : (count total left next : ℕ) (closes : Bool) (r0 r2 : Option (List ℕ))
       (c0 c2 : C) (w0 w1 w2 : Option (List ℕ)) (old new : Tables) →
       total ≡ count + 1 → next ≡ left_after closes left → next ≡ 0 →
@@ -422,6 +425,7 @@ module _ {C : Type 0} (gives : C → Option ℕ → C → Type 0) (b : Shelf) wh
       whole
 
   -- the next request isn't read, since the reader fails or memory is refused
+  -- rule: http-unanswered
   pub so_far-unread : (count left : ℕ) (r0 r1 : Option (List ℕ)) (c0 c1 : C)
       (w0 w1 : Option (List ℕ)) (old new : Tables) → count < 1000 → 0 < left →
       IfSome r0 (λ stream. IsSoFar stream count left r1 c0 c1 w0 w1 old new) →
@@ -503,6 +507,7 @@ module _ {C : Type 0} (gives : C → Option ℕ → C → Type 0) (b : Shelf) wh
       ))
 
   -- one request more
+  -- rule: http-end
   pub turns_more : (count left : ℕ) (r0 r1 r2 : Option (List ℕ)) (c0 c1 : C)
       (w0 w1 : Option (List ℕ)) (old mid new : Seen) (o : Option Heard) (heard : Heard) →
       0 < left → o ≡ Some heard → (mid.clean → old.clean) → (new.honest → mid.honest) →
@@ -635,6 +640,7 @@ module _ {C : Type 0} (gives : C → Option ℕ → C → Type 0) (b : Shelf) wh
     comes_shown (Some stream) result x = comes_as stream result x
 
   -- so it comes of a keeper's tables, and of what a stop leaves
+  -- rule: http-end
   pub serves : (r0 : Option (List ℕ)) (c0 c1 : C) (w0 w1 : Option (List ℕ)) (old new : Seen)
       (result : Result Served ServeFault) → (new.clean → new.honest) →
       ((t : Tables) → old.clean → old.left t → t ≡ old.tables) →

@@ -69,6 +69,7 @@ Takes b (refused status) old new = IsAnswered b (refuses status) true [] old new
 Takes b ended old new = ⊥
 
 -- one turn
+-- rule: http-end
 pub record IsTurn (b : Shelf) (old new : Connection) : Type 0 where
   pub taken : 0 < old.left
   pub next : Next
@@ -76,12 +77,14 @@ pub record IsTurn (b : Shelf) (old new : Connection) : Type 0 where
   pub takes : Takes b next old new
 
 -- so many turns
+-- rule: http-end: a connection: what is written and accepted
 abbrev pub Turns : Shelf → ℕ → Connection → Connection → Type 0
 Turns b zero first last = last ≡ first
 Turns b (suc n) first last = (between : Connection) × Turns b n first between
     × IsTurn b between last
 
 -- no more requests are taken, or the stream ends before a request does
+-- rule: http-end
 abbrev pub IsOver : Connection → Type 0
 IsOver last = (last.left ≡ 0) ⊎ IsNext last.rest ended
 
@@ -137,6 +140,7 @@ pub record IsPart {C : Type 0} (gives : C → Option Moment → C → Type 0) (b
   pub is : ForEachList b old (Is moments text)
 
 -- a stream is served to the end of the connection
+-- rule: http-end
 pub record IsConnectionServed {C : Type 0} (gives : C → Option Moment → C → Type 0) (b : Shelf)
     (stream : Bytes) (count : ℕ) (before after : C) (empty full : Option Bytes) (old : Tables)
     (Is : List Accepted → Type 0) : Type 0 where
@@ -144,10 +148,13 @@ pub record IsConnectionServed {C : Type 0} (gives : C → Option Moment → C �
       (λ moments text. IsWholeConnection b stream count moments text Is)
 
 -- so many requests of a stream were answered whole, and nothing is done for the next one
+-- rule: http-unanswered: an answer's text is made before its command is accepted, and what a
+--   connection that runs out of memory leaves
 pub record IsUnread {C : Type 0} (gives : C → Option Moment → C → Type 0) (b : Shelf)
     (stream : Bytes) (before after : C) (empty full : Option Bytes) (old : Tables)
     (Is : List Accepted → Type 0) : Type 0 where
   pub count : ℕ
+  -- rule: http-end
   pub bounded : count < most_requests
   pub taken : IsPart gives b before after old (Appends empty full)
       (λ moments text. IsTakenOn b stream count moments text Is)
@@ -166,6 +173,7 @@ pub record IsCutOff {C : Type 0} (gives : C → Option Moment → C → Type 0) 
 -- what comes of a connection, by its end: it is served to its end; or the reader fails, or memory
 -- is refused, before the next request; or the writer fails, in an answer. The accepted commands
 -- after it are so.
+-- rule: http-end, http-unanswered
 abbrev pub ComesTo : {C : Type 0} → (C → Option Moment → C → Type 0) → Shelf → Bytes → C → C →
     Option Bytes → Option Bytes → Tables → (List Accepted → Type 0) → Result Served ServeFault →
     Type 0
@@ -181,6 +189,7 @@ ComesTo gives b stream before after empty full old Is (Err Write) =
 -- ---- what a stop leaves
 
 -- at most so many requests of a stream come to these tables
+-- rule: http-end
 pub record IsLeftWithin (b : Shelf) (stream : Bytes) (most : ℕ) (held : Tables)
     (list : List Accepted) : Type 0 where
   pub count : ℕ
@@ -197,17 +206,22 @@ pub record IsLeftWithin (b : Shelf) (stream : Bytes) (most : ℕ) (held : Tables
 -- are the tables at the last moment at which it could be asked (`shown`), and a stop leaves each
 -- command that was answered, and at most one more (`found`): one of its requests (`held`). At most
 -- 1,000 requests are answered, and the accepted commands go on.
+-- rule: http-end
 pub record ServesConnection {C : Type 0} (gives : C → Option Moment → C → Type 0) (b : Shelf)
     (bytes : Option Bytes) (before after : C) (empty full : Option Bytes) (old new : Seen)
     (result : Result Served ServeFault) : Type 0 where
+  -- rule: http-end
   pub comes : new.clean → IfSome bytes (λ stream. ComesTo gives b stream before after empty full
       old.tables (λ list. AreTables b list new.tables) result)
+  -- rule: http-end
   pub shown : new.honest → (held : Tables) × IfSome bytes (λ stream.
       ComesTo gives b stream before after empty full
       old.tables (λ list. AreTables b list held) result)
+  -- rule: http-end
   pub found : new.honest → old.clean → (left : Tables) → new.left left → IfSome bytes (λ stream.
       ComesTo gives b stream before after empty full old.tables (AreLeftAfter b left) result)
   pub bounded : IfOk result (λ done. done.requests ≤ most_requests)
   pub goes_on : GoesOn b old new
+  -- rule: http-end
   pub held : IfSome bytes (λ stream. Leaves old new (λ left.
       old.clean × ForEachList b old.tables (IsLeftWithin b stream most_requests left)))

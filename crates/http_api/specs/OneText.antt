@@ -33,23 +33,28 @@ pub record IsDueTurn (b : Shelf) (old new : Connection) : Type 0 where
   pub gets : NextGetsDue b next old new
 
 -- so many turns
+-- rule: http-text: what a connection writes and accepts is one function of its bytes, of what was
+--   accepted before and of the moments, but for 503
 abbrev pub DueTurns : Shelf → ℕ → Connection → Connection → Type 0
 DueTurns b zero first last = last ≡ first
 DueTurns b (suc n) first last = (between : Connection) × DueTurns b n first between
     × IsDueTurn b between last
 
 -- such turns are turns of a connection
+-- rule: http-text
 abbrev pub DueTurnsAreTurns : Type 0
 DueTurnsAreTurns = (b : Shelf) (n : ℕ) (first last : Connection) → DueTurns b n first last →
     Turns b n first last
 
 -- the same stream, list of accepted commands and moments give the same text and list
+-- rule: http-text
 abbrev pub TextIsOne : Type 0
 TextIsOne = (b : Shelf) (n : ℕ) (stream : Bytes) (list : List Accepted) (x y : Connection) →
     DueTurns b n (new_connection stream list) x → DueTurns b n (new_connection stream list) y →
     x.moments ≡ y.moments → (x.written ≡ y.written) × (x.list ≡ y.list)
 
 -- to its end a connection has one number of turns
+-- rule: http-text
 abbrev pub TurnsAreOne : Type 0
 TurnsAreOne = (b : Shelf) (n m : ℕ) (stream : Bytes) (list : List Accepted) (x y : Connection) →
     DueTurns b n (new_connection stream list) x → DueTurns b m (new_connection stream list) y →

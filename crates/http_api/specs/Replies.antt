@@ -93,6 +93,7 @@ reply_text closes reply = response_of reply.media reply.status closes reply.body
 
 -- what is due, by what a request asks; the clock is asked once for a command or a statement, and
 -- for nothing else
+-- rule: http-read, http-503
 abbrev pub IsDue : Shelf → List Accepted → Asking → List (Option Moment) → Reply → Type 0
 IsDue b list (refuses code) moments reply = (moments ≡ []) × (reply ≡ refusal list code no_members)
 IsDue b list (reads (Err fault)) moments reply = (moments ≡ [])
@@ -111,6 +112,8 @@ MayAsk (states q) moments = length moments ≤ 1
 
 -- what is due; or 503 where memory or the store fails: then the request isn't accepted. A refusal
 -- takes neither, and is always written.
+-- rule: http-read: the answer to one request of a connection
+-- rule: http-503: what may be answered 503
 abbrev pub IsReply : Shelf → List Accepted → Asking → List (Option Moment) → Reply → Type 0
 IsReply b list (refuses code) moments reply = IsDue b list (refuses code) moments reply
 IsReply b list (reads read) moments reply = IsDue b list (reads read) moments reply
@@ -140,6 +143,7 @@ pub record Replies {C : Type 0} (gives : C → Option Moment → C → Type 0) (
   pub replied : ForEachList b old (IsReplied b asking closes moments text new)
 
 -- tables that a stop may leave after accepted commands: their own, or those with one command more
+-- rule: http-end
 abbrev pub AreLeftAfter : Shelf → Tables → List Accepted → Type 0
 AreLeftAfter b left list = AreTables b list left
     ⊎ ((dated : DatedCommand) × AreTables b (after_command b list dated) left)
@@ -147,6 +151,7 @@ AreLeftAfter b left list = AreTables b list left
 -- what becomes of tables that a keeper had at the last moment at which it could be asked: commands
 -- come to them, they are its own where it is clean after it, and a stop leaves them, or one command
 -- more, where one before left no other
+-- rule: http-end
 pub record HoldsNext (b : Shelf) (old new : Seen) (held next : Tables) : Type 0 where
   pub now : new.clean → next ≡ new.tables
   pub continued : Continues b held next
@@ -186,6 +191,7 @@ LeavesReply b asking old new =
 
 -- what answering a request leaves, whatever it asks: the writer alone fails, and the accepted
 -- commands go on
+-- rule: http-unanswered
 pub record GoesOn {A : Type 0} (b : Shelf) (old new : Seen)
     (result : Result A StreamFault) : Type 0 where
   pub fault : OnErr result (result ≡ Err Write)

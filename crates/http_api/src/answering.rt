@@ -23,6 +23,7 @@ use texts::StreamFault;
 /// # Errors
 /// `Write` where the writer failed: what is accepted stays so, and a beginning of the answer is
 /// written.
+// rule: http-read, http-503
 #[tactic(auto, using(crate::proofs::StatementReplies::goes_on_same))]
 pub(crate) fn answer_request<W: Write, K: ChargeSource, C: Clock>(
     alloc: Global,
@@ -54,6 +55,7 @@ pub(crate) fn answer_request<W: Write, K: ChargeSource, C: Clock>(
 }
 
 /// Serves a command at the clock's moment, and writes its answer.
+// rule: http-read
 #[tactic(auto, using(crate::proofs::StatementReplies::goes_on_same))]
 fn serve_command<W: Write, K: ChargeSource, C: Clock>(
     alloc: Global,

@@ -30,6 +30,7 @@ fn adds(waiting: &mut Vec<u8>, text: &[u8]) -> bool
 ///
 /// # Errors
 /// `Write` where the writer failed. Then a beginning of what waits is written.
+// rule: http-end
 pub(crate) fn write_waiting<W: Write>(
     writer: &mut W,
     waiting: &mut Vec<u8>,
@@ -68,6 +69,7 @@ fn write_after<W: Write>(
 ///
 /// # Errors
 /// `Write` where the writer failed. Then a beginning of both is written, and nothing waits.
+// rule: http-end
 pub(crate) fn join<W: Write>(
     writer: &mut W,
     waiting: &mut Vec<u8>,

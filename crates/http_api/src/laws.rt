@@ -8,6 +8,7 @@ use http_messages::next_is_one;
 /// leaves accepted is one function of three: the bytes that are read, the commands accepted before,
 /// and the clock's moments. So is the number of requests that are answered to its end (RFC 9112
 /// section 9.3).
+// rule: http-text
 pub fn text_is_one()
     ensures turns { DueTurnsAreTurns }
     ensures text { TextIsOne }

@@ -73,6 +73,7 @@ impl<'s> PatientStream<'s> {
 }
 
 /// How long the next read or write may take, of what is left for all; nothing if nothing is left.
+// rule: http-waiting
 fn next_wait(left: Duration) -> Option<Duration>
     ensures { MatchOption result (as_nanos left ≡ 0)
         (λ wait. (0 < as_nanos wait) × (as_nanos wait ≡ min (as_nanos left) (socket_seconds * 1_000_000_000))) }
@@ -88,6 +89,7 @@ fn next_wait(left: Duration) -> Option<Duration>
 }
 
 /// What is left after a read or a write that took so long.
+// rule: http-waiting
 fn left_after(left: Duration, taken: Duration) -> Duration
     ensures { as_nanos result ≡ as_nanos left - as_nanos taken }
 {

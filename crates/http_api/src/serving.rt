@@ -38,6 +38,7 @@ pub struct Served {
 /// failed: then all answers are written, and nothing is done for the next request. `Write` where
 /// the writer failed: then all but the last are, and a beginning of that, or all of it where it
 /// couldn't be flushed. What was accepted stays so.
+// rule: http-end
 pub fn serve<R: Read, W: Write, K: ChargeSource, C: Clock>(
     alloc: Global,
     reader: &mut R,
@@ -84,6 +85,7 @@ fn left_after(closes: bool, left: u32) -> u32
 }
 
 /// Serves the requests of a connection.
+// rule: http-end, http-leave
 fn serve_requests<R: Read, W: Write, K: ChargeSource, C: Clock>(
     alloc: Global,
     parser: &mut RequestParser,

@@ -29,6 +29,7 @@ pub(crate) struct Following {
 ///
 /// # Errors
 /// `Write` where the writer failed.
+// rule: http-leave
 fn leave<W: Write>(writer: &mut W, following: Following) -> Result<(), StreamFault>
     ensures kept { Keeps (W.contents writer.old) (W.contents writer.new) }
     ensures fault { OnErr result (result ≡ Err StreamFault.Write) }
@@ -88,6 +89,7 @@ pub(crate) fn tell_fault<W: Write>(
 ///
 /// # Errors
 /// `Write` where the writer failed. Then a beginning of it is written.
+// rule: http-leave
 pub(crate) fn tell_text<W: Write>(
     alloc: Global,
     writer: &mut W,
@@ -106,6 +108,7 @@ pub(crate) fn tell_text<W: Write>(
 ///
 /// # Errors
 /// `Write` where the writer failed. Then a beginning of the answer is written.
+// rule: http-leave, http-unanswered
 pub(crate) fn tell_answer<W: Write>(
     writer: &mut W,
     answer: &WrittenAnswer,

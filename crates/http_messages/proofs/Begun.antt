@@ -20,6 +20,7 @@ take_first (suc n) (x ∷ xs) more =
     let rest = take_first n xs more in
     (suc rest.0, ap (λ l. x ∷ l) rest.1)
 
+-- rule: http-answer
 pub begun_first : (a b : Option (List ℕ)) (text more : List ℕ) → Begins a b text →
     Begins a b (text ++ more)
 begun_first a b text more h =
@@ -27,6 +28,7 @@ begun_first a b text more h =
     (first.0, subst (Appends a b) (sym first.1) h.1)
 
 -- so do the text and a beginning of what is after it
+-- rule: http-answer
 pub begun_second : (a b c : Option (List ℕ)) (text more : List ℕ) → Appends a b text →
     Begins b c more → Begins a c (text ++ more)
 begun_second a b c text more h k = (

@@ -17,6 +17,7 @@ all_same (d ∷ ds) = ap (λ b. is_ascii_digit d && b) (all_same ds)
 own : IsNumeralModel (λ ds. all_ascii_digits ds ≡ true) (digits_value 10)
 own = numerals_by_value (λ ds. all_ascii_digits ds ≡ true) tells_all_ascii_digits
 
+-- rule: http-length
 pub number_parsed : {E : Type 0} (bs : List ℕ) (r : Result ℕ E) → ParsesUnsigned 64 10 bs r
     → 0 < length bs → length bs ≤ 18
     → list_all is_ascii_digit bs ≡ true → r ≡ Ok (digits_value 10 bs)

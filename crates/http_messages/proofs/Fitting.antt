@@ -44,12 +44,14 @@ one_added all first i d rows new text is adds less so =
     }
 
 -- after the last one
+-- rule: http-path
 pub all_added : (all : List Route) (first : Rows) (i : ℕ) (rows : Rows) → length all ≤ i →
     IsAddedTo all first (drop i all) rows → rows ≡ with_routes all first
 all_added all first i rows less so =
     (subst (λ left. IsAddedTo all first left rows) (drop_of_length-le all less) so).made
 
 -- each of ours
+-- rule: http-path
 pub all_fit : AreFitting every_route []
 unfolding scan
 all_fit = (refl, (refl, (refl, (refl, (refl, (refl, (refl, tt)))))))

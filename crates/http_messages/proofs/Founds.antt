@@ -43,6 +43,7 @@ found_more part name fields i d found new within h goes =
     (goes (values_of name (map (header_bytes part) (take i fields))) h)
 
 -- no coding
+-- rule: http-coding
 pub unless_none : (values : List (List ℕ)) (length result : Result ℕ ℕ) → values ≡ [] →
     result ≡ length → result ≡ length_unless values length
 unless_none values length result none h = h ∙ sym (ap (λ v. length_unless v length) none)

@@ -10,6 +10,7 @@ use Rattle.matchit.specs.declared.InsertError.TheVariants.{OutOfMemory}
 use Rattle.http_messages.specs.declared.routes.Route.{Route}
 use Rattle.http_messages.specs.Table.{Rows, added_read, fits_read}
 
+-- rule: http-path
 pub inserts_read : (x : Result Scan InsertError) (value : Route) (old new : Rows)
     (r : Result (Unit {0}) InsertError) (u : Unit {0}) → InsertsRead x value old new r →
     r ≡ Ok u → new ≡ added_read x value old

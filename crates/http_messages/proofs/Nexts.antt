@@ -20,6 +20,7 @@ long_next too_long left right h =
     record { next = refused fields_too_large; is_next = refl; tells = refl }
 long_next cut left right h = absurd h
 
+-- rule: http-head
 pub next_long : (part : HeadPart) (begun : Part) (left right : Option (List ℕ)) →
     part ≡ head_part.TooLong → IsHeadPart begun part left →
     TellsNext begun (taken.Refused fields_too_large) right
@@ -32,6 +33,7 @@ ended_next (whole part rest) left right h = absurd h
 ended_next too_long left right h = absurd h
 ended_next cut left right h = record { next = ended; is_next = refl; tells = tt }
 
+-- rule: http-head, http-body
 pub next_ended : (part : HeadPart) (begun : Part) (left right : Option (List ℕ)) →
     part ≡ head_part.Ended → IsHeadPart begun part left → TellsNext begun taken.Ended right
 next_ended part begun left right e h =
@@ -51,6 +53,7 @@ whole_next too_long told bytes left right h next = absurd h
 whole_next cut told bytes left right h next = absurd h
 
 -- a head part is whole
+-- rule: http-head
 pub next_whole : {E : Type 0} (result : Result Taken E) (part : HeadPart) (bytes : Vec ℕ Global)
     (given : List ℕ) (left right : Option (List ℕ)) → part ≡ head_part.Whole bytes →
     given ≡ bytes.items →

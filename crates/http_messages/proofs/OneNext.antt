@@ -15,5 +15,6 @@ one_next (whole part rest) a b (inr x) (inr y) = x.1 ∙ sym y.1
 one_next too_long a b x y = x ∙ sym y
 one_next cut a b x y = x ∙ sym y
 
+-- rule: http-head.next-is-one
 pub next_is_one : NextIsOne
 next_is_one stream a b x y = one_next (first_part stream) a b x y

@@ -508,6 +508,7 @@ voucher_path path rest n text is h =
         (same ∙ sym (append_assoc a (47 ∷ []) more)) text)) f in
         last a more part same kid.place kid.within kid.found
 
+-- rule: http-path.part
 path_of : (path : List ℕ) (n : ℕ) → IsText path → first (rows root) path ≡ Some n →
     IsPathOf (numbered n) path
 path_of path n text h = by kid.place kid.within kid.found
@@ -576,6 +577,7 @@ text_before : (w rest : List ℕ) → IsText (w ++ rest) → IsText w
 text_before [] rest h = tt
 text_before (b ∷ w) rest h = (h.0, text_before w rest h.1)
 
+-- rule: http-path.part
 found_at : (path : List ℕ) (route : Route) → IsText path → IsPathOf route path →
     (n : ℕ) × (numbered n ≡ route) × (first (rows root) path ≡ Some n)
 found_at path Ccr text is = (
@@ -689,5 +691,6 @@ row_each path route text is =
     let at = found_at path route text is in
     row_is path ∙ ap (map_key numbered) at.2 ∙ ap Some at.1
 
+-- rule: http-path.part
 pub are_routes_paths : AreRoutesPaths
 are_routes_paths = record { found = row_found; each = row_each }

@@ -1,4 +1,5 @@
 -- The phrases of the nine statuses of answers, spelled out.
+-- rule: http-answer.answer-status
 use Rattle.std.proofs.Common.{◌≡◌, codes, refl}
 use Rattle.http_messages.specs.Statuses.{ok, bad_request, not_found, method_not_allowed}
 use Rattle.http_messages.specs.Statuses.{length_required, payload_too_large, fields_too_large}

@@ -48,6 +48,7 @@ all_taken stream taken bytes e few none full =
     )
 
 -- the walk from where it is, by its tests
+-- rule: http-head.shortest
 walked : (stream taken bytes : List ℕ) → stream ≡ taken ++ bytes → length taken ≤ 8192 →
     HasNoEnd (length taken) stream → IsFirstPart stream (part_after taken bytes)
 walked stream taken [] e few none = by (nat_lt (length taken) 8192) refl
@@ -149,6 +150,7 @@ one_part stream cut (whole q s) a b = no_whole stream q s (length stream) b a.1
 one_part stream cut too_long a b = absurd (omega (arith, a.0, b.0))
 one_part stream cut cut a b = refl
 
+-- rule: http-head.shortest
 pub are_shortest : AreShortest
 are_shortest = record {
   is = is_first_part;

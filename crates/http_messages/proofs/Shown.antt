@@ -73,6 +73,7 @@ no_sooner shown most k n within fits before less = by (ends_head (take n shown))
         (ap ends_head (sym (same_begin shown most n within (omega (arith, less, fits)))) ∙ e) in
         absurd (before j (omega (arith)) (omega (arith, at, less)) stands)
 
+-- rule: http-head
 pub is_found : (shown : List ℕ) (most k : ℕ) → most ≤ length shown → most ≤ 8192 →
     OccursAt (take most shown) end_of_head k →
     Nowhere (OccursAt (take most shown) end_of_head) 0 k →
@@ -139,6 +140,7 @@ pub is_alone : (shown part rest : List ℕ) → first_part shown ≡ whole part 
     first_part part ≡ whole part []
 is_alone shown part rest e = ap first_part (sym (append-nil part)) ∙ is_before shown part rest [] e
 
+-- rule: http-head
 pub whole_taken : (old new : Option (List ℕ)) (before : List ℕ) (part : Vec ℕ Global) →
     before ≡ [] → TakesHead before part.items old new →
     IfSome old (λ stream. IsHeadPart (first_part stream) (head_part.Whole part) new)

@@ -29,6 +29,7 @@ stated (Ok q) = states q
 stated (Err fault) = reads (Err fault)
 
 -- what is asked, as it is given
+-- rule: http-path: what a request of HTTP asks
 abbrev pub IsAsked : Asking → HttpAsked → Type 0
 IsAsked (refuses status) (told.Refused given) = refusal_status given ≡ status
 IsAsked (refuses status) (told.Unread fault) = ⊥

@@ -52,11 +52,14 @@ length_by method (value ∷ []) = said_length value
 length_by method (value ∷ other ∷ more) = Err bad_request
 
 -- by the values of Transfer-Encoding: none is taken
+-- rule: http-coding
 abbrev pub length_unless : List Bytes → Result ℕ ℕ → Result ℕ ℕ
 length_unless [] length = length
 length_unless (coding ∷ codings) length = Err not_implemented
 
 -- the length of the body, or the status of a refusal
+-- rule: http-length: the length of a body, and whether the connection ends
+-- rule: http-coding: a Transfer-Encoding is refused before the length is looked at
 abbrev pub body_length : Bytes → Fields → Result ℕ ℕ
 body_length method fields =
     length_unless (values_of (codes "Transfer-Encoding") fields)
@@ -69,5 +72,6 @@ abbrev pub says_close : Bytes × Bytes → Bool
 says_close field = same_name field.0 (codes "Connection") && same_name field.1 (codes "close")
 
 -- the connection ends after a request of HTTP/1.0, and where a field says so
+-- rule: http-length
 abbrev pub closes : ℕ → Fields → Bool
 closes minor fields = minor == 0 || nat_lt 0 (count_by says_close fields)

@@ -29,12 +29,15 @@ part_after taken (b ∷ bytes) =
     else too_long
 
 -- what a stream begins with
+-- rule: http-head: a request of an HTTP/1.1 connection
+-- rule: http-head.shortest
 abbrev pub first_part : Bytes → Part
 first_part stream = part_after [] stream
 
 -- ---- as it is given
 
 -- this part is given, and what follows a head part is left
+-- rule: http-head
 abbrev pub IsHeadPart : Part → HeadPart → Option Bytes → Type 0
 IsHeadPart (whole part rest) (head_part.Whole bytes) left = (bytes.items ≡ part)
     × (left ≡ Some rest)

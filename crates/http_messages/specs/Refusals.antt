@@ -12,6 +12,7 @@ use Rattle.http_messages.specs.declared.refusal.HttpRefusal.TheVariants.{FieldsT
 use Rattle.http_messages.specs.declared.refusal.HttpRefusal.TheVariants.{NotImplemented}
 
 -- the status of a refusal
+-- rule: http-refusals: a refusal, and that a body is no JSON object, are answered without memory
 abbrev pub refusal_status : HttpRefusal → ℕ
 refusal_status BadRequest = status.bad_request
 refusal_status NotFound = status.not_found
@@ -22,6 +23,7 @@ refusal_status FieldsTooLarge = status.fields_too_large
 refusal_status NotImplemented = status.not_implemented
 
 -- the refusal of a head or of a length that has this status
+-- rule: http-refusals
 abbrev pub refusal_of : StatusCode → HttpRefusal
 refusal_of code =
     if code == status.length_required then LengthRequired

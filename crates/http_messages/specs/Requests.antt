@@ -49,11 +49,13 @@ ask_of head body = record {
 -- ---- what follows
 
 -- the body is the next so many bytes
+-- rule: http-body: a body that ends early
 abbrev pub after_length : RequestHead → Result ℕ ℕ → Bytes → Next
 after_length head (Err status) rest = refused status
 after_length head (Ok n) rest =
     if nat_lt (length rest) n then ended else asks (ask_of head (take n rest)) (drop n rest)
 
+-- rule: http-head
 abbrev pub after_head : RequestHead → Bytes → Next
 after_head head rest = after_length head (length_of head) rest
 
@@ -65,6 +67,7 @@ IsNextOf (whole part rest) next =
 IsNextOf too_long next = next ≡ refused fields_too_large
 IsNextOf cut next = next ≡ ended
 
+-- rule: http-head.next-is-one
 abbrev pub IsNext : Bytes → Next → Type 0
 IsNext stream next = IsNextOf (first_part stream) next
 

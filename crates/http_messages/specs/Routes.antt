@@ -31,6 +31,7 @@ pub record AboutRoute : Type 0 where
   pub has : Bytes → Bool
 
 -- a part in braces is any that isn't empty
+-- rule: http-path
 abbrev pub about_route : Route → AboutRoute
 about_route Ccr = record { pattern = codes "/ccr"; has = is_post }
 about_route Account = record {
@@ -49,6 +50,8 @@ about_route Sweep = record { pattern = codes "/sweep"; has = is_post }
 -- ---- paths in words
 
 -- a part of a path: it isn't empty and has no slash
+-- rule: http-path.part: a path has a row of the table exactly where it is one of that row's, in
+--   words
 pub record IsPart (part : Bytes) : Type 0 where
   pub some : 0 < length part
   pub slashless : has_slash part ≡ false
@@ -68,6 +71,7 @@ pub record IsStatementPath (path : Bytes) : Type 0 where
   pub is : path ≡ codes "/accounts/" ++ (account ++ (codes "/statement/" ++ month))
 
 -- the paths of a route
+-- rule: http-path.part
 abbrev pub IsPathOf : Route → Bytes → Type 0
 IsPathOf Ccr path = path ≡ codes "/ccr"
 IsPathOf Account path = HasPart (codes "/accounts/") [] path
@@ -94,16 +98,19 @@ abbrev pub allowance_asked : Bytes → Bytes → Result Command WireFault
 allowance_asked target body =
     account_in target >>= λ a. allowance_of a body >>= λ x. Ok (command.Allow x)
 
+-- rule: http-paths
 abbrev pub redemption_asked : Bytes → Bytes → Result Command WireFault
 redemption_asked target body =
     code_in target >>= λ c. redemption_of c body >>= λ r. Ok (command.Redeem r)
 
 -- the account, and then the month
+-- rule: http-paths
 abbrev pub statement_in : Bytes → Result StatementAsked WireFault
 statement_in target =
     account_in target >>= λ a. month_in target >>= λ m. Ok (record { account = a; month = m })
 
 -- of a route that has the method
+-- rule: http-paths: faults in the path before faults in the body
 abbrev pub asking_by : Route → Bytes → Bytes → Bytes → Asking
 asking_by Ccr method target body = reads (command_of body)
 asking_by Account method target body = reads (account_asked method target)

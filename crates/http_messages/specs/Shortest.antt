@@ -11,6 +11,8 @@ HasNoEnd most stream = (n : ℕ) → n ≤ most → ends_head (take n stream) �
 
 -- these bytes and the rest are the stream, they are at most 8,192 and end with an empty line, and
 -- no shorter beginning ends with one
+-- rule: http-head.shortest: the head part is the shortest beginning of the stream that ends with
+--   an empty line
 pub record IsShortest (stream part rest : Bytes) : Type 0 where
   pub split : stream ≡ part ++ rest
   pub few : length part ≤ most_head
@@ -19,17 +21,20 @@ pub record IsShortest (stream part rest : Bytes) : Type 0 where
 
 -- what a stream begins with, in words: its shortest such beginning; none within its first 8,192
 -- bytes; none in a stream of fewer
+-- rule: http-head.shortest
 abbrev pub IsFirstPart : Bytes → Part → Type 0
 IsFirstPart stream (whole part rest) = IsShortest stream part rest
 IsFirstPart stream too_long = (most_head ≤ length stream) × HasNoEnd most_head stream
 IsFirstPart stream cut = (length stream < most_head) × HasNoEnd (length stream) stream
 
 -- of each stream this is so, and of nothing else
+-- rule: http-head.shortest
 pub record AreShortest : Type 0 where
   pub is : (stream : Bytes) → IsFirstPart stream (first_part stream)
   pub alone : (stream : Bytes) (part : Part) → IsFirstPart stream part →
       first_part stream ≡ part
 
 -- a stream has one next
+-- rule: http-head.next-is-one: what comes next in a stream is one thing
 abbrev pub NextIsOne : Type 0
 NextIsOne = (stream : Bytes) (a b : Next) → IsNext stream a → IsNext stream b → a ≡ b

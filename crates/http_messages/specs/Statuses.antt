@@ -46,5 +46,6 @@ answer_statuses = ok ∷ bad_request ∷ not_found ∷ method_not_allowed ∷ le
     ∷ payload_too_large ∷ fields_too_large ∷ not_implemented ∷ service_unavailable ∷ []
 
 -- the status is one of the nine
+-- rule: http-answer.answer-status: an answer over HTTP has one of nine statuses, with its phrase
 abbrev pub IsAnswerStatus : StatusCode → Type 0
 IsAnswerStatus status = IsTrue (list_any (λ s. s == status) answer_statuses)

@@ -48,14 +48,17 @@ AreFitting (route ∷ rest) rows = Fits (about_route route).pattern rows
     × AreFitting rest (added (about_route route).pattern route rows)
 
 -- the table has a row for each route
+-- rule: http-path
 unfoldable pub table : Rows
 table = with_routes every_route []
 
 -- the route of a path
+-- rule: http-path.part
 abbrev pub route_at : Bytes → Option Route
 route_at path = option_map (λ r. r.value) (first table path)
 
 -- a path of bytes has a route exactly where it is, in words, one of that route's
+-- rule: http-path.part
 pub record AreRoutesPaths : Type 0 where
   pub found : (path : Bytes) (route : Route) → IsText path → route_at path ≡ Some route →
       IsPathOf route path
@@ -67,6 +70,7 @@ abbrev pub has_query : Bytes → Bool
 has_query target = list_any (λ b. b == 63) target
 
 -- what a target names: the route of its path; none where it has a query
+-- rule: http-path
 abbrev pub route_of : Bytes → Option Route
 route_of target = if has_query target then None else route_at target
 
@@ -80,5 +84,6 @@ asked_by None ask = refuses not_found
 asked_by (Some route) ask = if serves route ask.method
     then asking_by route ask.method ask.target ask.body else refuses method_not_allowed
 
+-- rule: http-path
 abbrev pub asked_of : Ask → Asking
 asked_of ask = asked_by (route_of ask.target) ask

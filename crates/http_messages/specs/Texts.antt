@@ -27,6 +27,7 @@ abbrev pub type_and_length : Bytes
 type_and_length = codes "\r\nContent-Type: application/json\r\nContent-Length: "
 
 -- the bytes of an answer
+-- rule: http-answer: the bytes of an answer, or a beginning of them
 abbrev pub response : StatusCode → Bool → Bytes → Bytes
 response status closes body =
     codes "HTTP/1.1 " ++ (decimal status ++ (codes " " ++ (phrase status ++ (type_and_length
@@ -60,6 +61,7 @@ TellsText closes status body Writes = Writes (response_of Text status closes bod
 
 -- a request that isn't read is answered its fault, or that there is no memory: not so what is no
 -- JSON object
+-- rule: http-refusals
 abbrev pub TellsFault : Bool → WireFault → (Bytes → Type 0) → Type 0
 TellsFault closes fault Writes =
     ((fault ≡ Memory → ⊥) × Writes (response bad_request closes (fault_text fault)))
@@ -72,6 +74,8 @@ Begins old new text = (n : ℕ) × Appends old new (take n text)
 -- ---- what is written
 
 -- a text is written, or a beginning of it where the writer failed
+-- rule: http-leave: an answer leaves where no more bytes have come, and is the same bytes where it
+--   waits
 pub record WritesText {A : Type 0} (text : Bytes) (old new : Option Bytes)
     (result : Result A StreamFault) : Type 0 where
   pub ok : OnOk result (Appends old new text)
@@ -79,6 +83,7 @@ pub record WritesText {A : Type 0} (text : Bytes) (old new : Option Bytes)
   pub fault : OnErr result (result ≡ Err Write)
 
 -- so it is of what this writes
+-- rule: http-leave
 pub record WritesTold {A : Type 0} (tells : (Bytes → Type 0) → Type 0) (old new : Option Bytes)
     (result : Result A StreamFault) : Type 0 where
   pub ok : OnOk result (tells (Appends old new))

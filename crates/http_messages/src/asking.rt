@@ -137,6 +137,7 @@ fn read_credits(
 }
 
 /// The allowance of the account in a path.
+// rule: http-paths
 fn read_allowance(
     alloc: Global,
     target: &str,
@@ -150,6 +151,7 @@ fn read_allowance(
 }
 
 /// The redemption of the voucher in a path.
+// rule: http-paths
 fn read_redemption(
     alloc: Global,
     target: &str,
@@ -218,6 +220,7 @@ fn asked_by(
 
 /// What a request asks by the table of routes. Its body is read by `scratch`, which may serve all
 /// requests of a connection.
+// rule: http-path
 pub fn ask(
     alloc: Global,
     router: &Router<Route>,

@@ -140,6 +140,7 @@ fn length_by(method: &Method, part: &[u8], found: Found) -> Result<usize, Status
 /// # Errors
 /// 501 at a Transfer-Encoding; 400 at more than one Content-Length or one that isn't 1 to 18
 /// digits; 413 above 65,536; 411 at a POST or a PUT without one.
+// rule: http-coding
 pub(crate) fn body_length(
     method: &Method,
     part: &[u8],

@@ -103,6 +103,7 @@ fn take_whole<R: BufRead>(reader: &mut R, part: &mut Vec<u8>) -> Result<Shown, S
 /// # Errors
 /// `Memory` where a growth was refused, `Read` where the reader failed, or was interrupted 100
 /// times.
+// rule: http-head
 pub fn next_head_part<R: BufRead>(reader: &mut R, room: Vec<u8>) -> Result<HeadPart, StreamFault>
     ensures part { IfOk result (λ part. IfSome (R.remaining reader.old)
         (λ stream. IsHeadPart (first_part stream) part (R.remaining reader.new))) }

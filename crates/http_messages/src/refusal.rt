@@ -75,6 +75,7 @@ const NOT_IMPLEMENTED_AT_LAST: &[u8] =
 impl HttpRefusal {
     /// The refusal of a head or of a body's length that has this status: 411, 413, 431, 501; of any
     /// other it is 400.
+    // rule: http-refusals
     pub fn of_head(status: StatusCode) -> HttpRefusal
         ensures { result ≡ refusal_of status }
     {
@@ -122,6 +123,7 @@ impl HttpRefusal {
 ///
 /// # Errors
 /// `Write` where the writer failed. Then a beginning of it is written.
+// rule: http-refusals
 pub fn tell_refusal<W: Write>(
     writer: &mut W,
     refusal: HttpRefusal,

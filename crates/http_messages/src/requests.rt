@@ -43,6 +43,7 @@ pub enum Taken {
 ///
 /// # Errors
 /// `Memory` where a growth was refused, `Read` where the reader failed.
+// rule: http-head, http-length, http-answer.answer-status
 pub fn next_request<R: BufRead>(
     alloc: Global,
     reader: &mut R,
@@ -103,6 +104,7 @@ fn after_bytes<R: BufRead>(
 }
 
 /// The request of a head, with its body.
+// rule: http-body
 fn with_body<R: BufRead>(
     alloc: Global,
     reader: &mut R,

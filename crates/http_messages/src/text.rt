@@ -68,6 +68,7 @@ fn closing_line(closes: bool) -> &'static str
 ///
 /// # Errors
 /// The growth of its text was refused.
+// rule: http-answer, http-answer.answer-status
 pub fn response(
     alloc: Global,
     status: StatusCode,
@@ -111,6 +112,7 @@ fn after_length(closes: bool) -> &'static [u8]
 ///
 /// # Errors
 /// `Write` where the writer failed. Then a beginning of it is written.
+// rule: http-unanswered
 pub fn tell_json<W: Write>(writer: &mut W, closes: bool, body: &[u8]) -> Result<(), StreamFault>
     ensures ok { OnOk result (Appends (W.contents writer.old) (W.contents writer.new)
         (response ok closes body.now)) }
@@ -259,6 +261,7 @@ fn tell_not_request<W: Write>(writer: &mut W, closes: bool) -> Result<(), Stream
 ///
 /// # Errors
 /// `Write` where the writer failed. Then a beginning of it is written.
+// rule: http-answer, http-refusals
 pub fn tell_fault<W: Write>(
     alloc: Global,
     writer: &mut W,

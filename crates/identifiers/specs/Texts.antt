@@ -12,14 +12,17 @@ abbrev pub is_digit : ℕ → Bool
 is_digit b = nat_le 48 b && nat_le b 57
 
 -- the name of a session (Session-Id, RFC 6733 section 8.8; 1 to 128 visible bytes: profile)
+-- rule: names: which texts are names
 abbrev pub is_session_id : List ℕ → Bool
 is_session_id s = nat_le 1 (length s) && nat_le (length s) 128 && list_all is_visible s
 
 -- the number of an account: 1 to 15 digits (E.164)
+-- rule: names
 abbrev pub is_account_number : List ℕ → Bool
 is_account_number s = nat_le 1 (length s) && nat_le (length s) 15 && list_all is_digit s
 
 -- the reference of a credit or a redemption: 1 to 64 visible bytes (profile)
+-- rule: names
 abbrev pub is_reference : List ℕ → Bool
 is_reference s = nat_le 1 (length s) && nat_le (length s) 64 && list_all is_visible s
 

@@ -40,6 +40,7 @@ impl AccountNumber {
     ///
     /// # Errors
     /// Out of memory.
+    // rule: names
     pub fn new(alloc: Global, text: &str) -> Result<Option<AccountNumber>, AllocError>
         ensures { IfOk result
             (λ o. o ≡ if is_account_number text.now then Some text.now else None) }

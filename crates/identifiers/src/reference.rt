@@ -40,6 +40,7 @@ impl Reference {
     ///
     /// # Errors
     /// Out of memory.
+    // rule: names
     pub fn new(alloc: Global, text: &str) -> Result<Option<Reference>, AllocError>
         ensures { IfOk result (λ o. o ≡ if is_reference text.now then Some text.now else None) }
     {

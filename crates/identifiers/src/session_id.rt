@@ -43,6 +43,7 @@ impl SessionId {
     ///
     /// # Errors
     /// Out of memory.
+    // rule: names
     pub fn new(alloc: Global, text: &str) -> Result<Option<SessionId>, AllocError>
         ensures { IfOk result (λ o. o ≡ if is_session_id text.now then Some text.now else None) }
     {

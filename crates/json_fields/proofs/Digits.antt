@@ -87,6 +87,7 @@ few_so_far bs i n few inside so_far =
     omega (arith, so_far.1, below (take i bs) 17 so_far.0 long)
 
 -- what all bytes write is their number
+-- rule: json-members
 pub number_so_far : (bs : List ℕ) (i n : ℕ) → 0 < length bs → length bs ≤ 18 → length bs ≤ i →
     IsSoFar bs i n → number_of bs ≡ Some (unsigned n)
 number_so_far bs i n some few end so_far =

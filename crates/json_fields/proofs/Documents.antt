@@ -19,6 +19,7 @@ json_found bytes d text is =
     ap (λ b. cond b (read bytes) None) (is_utf8-from_IsUtf8 bytes text) ∙ is
 
 -- a text that was read
+-- rule: request-fields, no-object
 pub text_read : {M : Type 0} (r : Result (Value M) WireFault) (text bytes : List ℕ) → text ≡ bytes →
     IsUtf8 bytes → Gives view r (or_fault NotRequest (read text)) →
     Gives view r (or_fault NotRequest (json_of bytes))
@@ -34,6 +35,7 @@ no_text_of bytes true e h = absurd (h (IsUtf8-from_is_utf8 bytes e))
 no_text_of bytes false e h = refl
 
 -- bytes that are no text
+-- rule: request-fields, no-object
 pub no_text : (bytes : List ℕ) → (IsUtf8 bytes → ⊥) →
     or_fault {F = WireFault} NotRequest (json_of bytes) ≡ Err NotRequest
 unfolding json_of

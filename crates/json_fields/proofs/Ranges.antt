@@ -69,11 +69,13 @@ read_of : (o : Option json.Json) (j : json.Json) → told o ≡ Ok j → option_
 read_of None j e = absurd (cc)
 read_of (Some i) j e = let same : i ≡ j = cc in ap of_json same ∙ json_read j
 
+-- rule: no-object
 pub in_range : (text : List ℕ) (j : json.Json) → told (tree_of text) ≡ Ok j →
     is_in_range j ≡ true → or_fault {F = WireFault} NotRequest (read text) ≡ Ok (data_of j)
 in_range text j e h = ap (or_fault NotRequest)
     (read_of (tree_of text) j e ∙ ap (λ b. when b (data_of j)) h)
 
+-- rule: no-object
 pub out_of_range : (text : List ℕ) (j : json.Json) → told (tree_of text) ≡ Ok j →
     is_in_range j ≡ false → or_fault {A = Data} NotRequest (read text) ≡ Err NotRequest
 out_of_range text j e h = ap (or_fault NotRequest)

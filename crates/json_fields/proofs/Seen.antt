@@ -11,6 +11,7 @@ use Rattle.serde_json.specs.Find.{get, get_member, as_str, as_bool}
 use Rattle.serde_json.proofs.Views.{get_member-put, get_member-put_other}
 use Rattle.json_fields.specs.View.{data_of, members_data, view}
 
+-- rule: json-members
 pub text_seen : (j : json.Json) → as_str (data_of j) ≡ reader.as_str j
 text_seen json.null = refl
 text_seen (json.boolean b) = refl
@@ -76,6 +77,7 @@ seen_twice : {A : Type 0} (r : Option (Bor (Value A))) →
 seen_twice None = refl
 seen_twice (Some v) = refl
 
+-- rule: json-members
 pub member_found : {A : Type 0} (r : Option (Bor (Value A))) (name : List ℕ) (j : json.Json) →
     option_map (λ v. value_view v.now) r ≡ reader.get name j
     → option_map (λ v. view v.now) r ≡ get name (data_of j)

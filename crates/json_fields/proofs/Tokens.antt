@@ -30,6 +30,7 @@ pub one_named : {E : Type 0} (r : Result (Unit {0}) E) (old new : Written) (k : 
     Adds r old new (member_tokens k d) → Adds r old new (named_tokens ((k, d) ∷ []))
 one_named r old new k d h = subst (λ ts. Adds r old new ts) (sym (append-nil (member_tokens k d))) h
 
+-- rule: answers, fault-answers
 pub printed : (d : Data) (ts : List Token) → ts ≡ [] ++ tokens_of d → print ts ≡ compact_text d
 printed d ts e = ap print e ∙ print-outline d
 

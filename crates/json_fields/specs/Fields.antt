@@ -13,10 +13,12 @@ use Rattle.json_fields.specs.declared.fault.WireFault.TheVariants.{NotRequest, M
 use Rattle.json_fields.specs.Gives.{◌>>=◌, or_fault, where_holds}
 
 -- the JSON that the bytes are
+-- rule: no-object
 unfoldable pub json_of : List ℕ → Option Data
 json_of bytes = if is_utf8 bytes then read bytes else None
 
 -- what is read is an object
+-- rule: no-object: a text that is no JSON object
 unfoldable pub document_at : List ℕ → Result Data WireFault
 document_at bytes = do
   d ← or_fault NotRequest (json_of bytes)
@@ -24,6 +26,7 @@ document_at bytes = do
   Ok d
 
 -- the member of this name, which has to be there
+-- rule: json-members: members of a JSON object
 unfoldable pub member_at : Avp → Data → Result Data WireFault
 member_at a d = or_fault (Missing a) (get (name_of a) d)
 
@@ -34,6 +37,7 @@ whole_in fault low high v = do
   where_holds (nat_le low n && nat_le n high) fault n
 
 -- a whole number of this range
+-- rule: json-members
 unfoldable pub number_at : Avp → ℕ → ℕ → Data → Result ℕ WireFault
 number_at a low high d = do
   v ← member_at a d
@@ -53,6 +57,7 @@ abbrev pub optional_at : Avp → ℕ → ℕ → Data → Result (Option ℕ) Wi
 optional_at a low high d = optional_in (name_of a) (Invalid a) low high d
 
 -- a text
+-- rule: json-members
 unfoldable pub text_at : Avp → Data → Result (List ℕ) WireFault
 text_at a d = do
   v ← member_at a d
@@ -66,5 +71,6 @@ object_at a d = do
   Ok v
 
 -- an array
+-- rule: json-members
 unfoldable pub array_of : Avp → Data → Result Items WireFault
 array_of a v = or_fault (Invalid a) (as_array v)

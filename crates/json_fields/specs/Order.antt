@@ -13,6 +13,10 @@ Above k (member l d ms) = (slice_cmp nat_cmp l k ≡ Greater) × Above k ms
 
 -- in this value, and in each value inside, each member's name is above those before it
 abbrev mutual
+  -- rule: answers.in-byte-order: members of an answer are in byte order of their names
+  -- rule: request-written.in-byte-order: members of a request are in byte order of their names
+  -- rule: kept-content.in-byte-order: members of a credit, an allowance and a redemption are in
+  --   byte order of their names
   pub AreInByteOrder : Data → Type 0
   AreInByteOrder null = ⊤
   AreInByteOrder (boolean b) = ⊤

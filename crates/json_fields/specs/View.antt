@@ -33,6 +33,7 @@ abbrev mutual
   members_data json.no_members found = found
   members_data (json.member k j ms) found = members_data ms (put k (data_of j) found)
 
+-- rule: json-members
 abbrev pub view : {A : Type 0} → Value A → Data
 view v = data_of (value_view v)
 
@@ -41,6 +42,7 @@ items_view vs = items_data (borrowed.items_view vs)
 
 -- each number is in the range of a float
 abbrev mutual
+  -- rule: no-object
   pub is_in_range : json.Json → Bool
   is_in_range json.null = true
   is_in_range (json.boolean b) = true

@@ -53,6 +53,7 @@ fn negative(numeral: &Numeral<'_>) -> Option<Number>
 
 /// The number that a text of JSON's grammar writes, where it is in range: a whole number of 64
 /// bits, or a finite float.
+// rule: json-members
 pub(crate) fn number(text: &str) -> Option<Number>
     ensures { option_map number_view result ≡ number_of text.now }
 {
@@ -91,6 +92,7 @@ fn has_number(text: &str) -> bool
 }
 
 /// The number that a text of JSON's grammar writes, where it is a whole one from 0 on that fits.
+// rule: json-members
 pub(crate) fn whole_number(text: &str) -> Option<u64>
     ensures { result ≡ option_and_then as_u64 (number_of text.now) }
 {

@@ -30,6 +30,7 @@ fn parsed<'a>(bytes: &'a [u8], scratch: &'a mut Scratch) -> Result<Tree<'a>, Wir
 ///
 /// # Errors
 /// `NotRequest` where the bytes are no JSON object, `Memory` where memory ran out.
+// rule: no-object
 #[tactic(auto, unfolding(crate::specs::Fields::document_at))]
 pub fn document<'a>(bytes: &'a [u8], scratch: &'a mut Scratch) -> Result<Tree<'a>, WireFault>
     ensures { Gives view result (document_at bytes.now) }
@@ -46,6 +47,7 @@ pub fn document<'a>(bytes: &'a [u8], scratch: &'a mut Scratch) -> Result<Tree<'a
 ///
 /// # Errors
 /// `Missing`, with the name, where it isn't there.
+// rule: first-fault, json-members
 #[tactic(auto, unfolding(crate::specs::Fields::member_at))]
 pub fn member<'v, 'a>(parent: &'v Tree<'a>, name: Avp) -> Result<&'v Tree<'a>, WireFault>
     ensures { Says (λ v. view v.now) result (member_at name (view parent.now)) }
@@ -72,6 +74,7 @@ pub fn whole_in(value: &Tree<'_>, fault: WireFault, low: u64, high: u64) -> Resu
 ///
 /// # Errors
 /// `Missing` where it isn't there, `Invalid` where it is no such number, both with the name.
+// rule: first-fault
 #[tactic(auto, unfolding(crate::specs::Fields::number_at))]
 pub fn number(parent: &Tree<'_>, name: Avp, low: u64, high: u64) -> Result<u64, WireFault>
     ensures reads { Says (λ n. n) result (number_at name low high (view parent.now)) }
@@ -100,6 +103,7 @@ pub fn optional_number(
 ///
 /// # Errors
 /// `fault` where it is there and is no such number.
+// rule: json-members
 #[tactic(auto, unfolding(crate::specs::Fields::optional_in))]
 pub fn optional_in(
     parent: &Tree<'_>,
@@ -150,6 +154,7 @@ fn moment(seconds: Option<u64>) -> Option<Moment>
 ///
 /// # Errors
 /// `Missing` where it isn't there, `Invalid` where it is no text, both with the name.
+// rule: json-members
 #[tactic(auto, unfolding(crate::specs::Fields::text_at))]
 pub fn text<'a>(parent: &Tree<'a>, name: Avp) -> Result<&'a str, WireFault>
     ensures { Says (λ s. s.now) result (text_at name (view parent.now)) }
@@ -161,6 +166,7 @@ pub fn text<'a>(parent: &Tree<'a>, name: Avp) -> Result<&'a str, WireFault>
 ///
 /// # Errors
 /// `Missing` where it isn't there, `Invalid` where it is no object, both with the name.
+// rule: json-members
 #[tactic(auto, unfolding(crate::specs::Fields::object_at))]
 pub fn object<'v, 'a>(parent: &'v Tree<'a>, name: Avp) -> Result<&'v Tree<'a>, WireFault>
     ensures { Says (λ v. view v.now) result (object_at name (view parent.now)) }
@@ -176,6 +182,7 @@ pub fn object<'v, 'a>(parent: &'v Tree<'a>, name: Avp) -> Result<&'v Tree<'a>, W
 ///
 /// # Errors
 /// `Invalid`, with the name `told`, where the value is no array.
+// rule: json-members
 #[tactic(auto, unfolding(crate::specs::Fields::array_of))]
 pub fn array<'v, 'a>(value: &'v Tree<'a>, told: Avp) -> Result<&'v Items<'a>, WireFault>
     ensures { Says (λ v. items_view v.now.items) result (array_of told (view value.now)) }
@@ -187,6 +194,7 @@ pub fn array<'v, 'a>(value: &'v Tree<'a>, told: Avp) -> Result<&'v Items<'a>, Wi
 ///
 /// # Errors
 /// The first fault of `read`, which ends it; `Memory` where memory ran out.
+// rule: json-members
 pub fn read_each<'a, T: Drop, F: Fn(&[T], &Tree<'a>) -> Result<T, WireFault>>(
     alloc: Global,
     list: &Items<'a>,

@@ -30,6 +30,7 @@ fn has_unit(value: &Tree<'_>, kind: UnitKind) -> bool
 }
 
 /// The kind of the first unit member that is there.
+// rule: used-parts
 #[tactic(auto, unfolding(crate::specs::Unit::kind_told))]
 pub fn unit_told(value: &Tree<'_>) -> Option<UnitKind>
     ensures { result ≡ kind_told (view value.now) }
@@ -71,6 +72,7 @@ fn lacks_others(value: &Tree<'_>, kind: UnitKind) -> bool
 ///
 /// # Errors
 /// `fault`, where they aren't there alone, or are below `low` or above the most of the kind.
+// rule: used-parts
 #[tactic(auto, unfolding(crate::specs::Unit::units_at))]
 pub fn units_in(
     value: &Tree<'_>,

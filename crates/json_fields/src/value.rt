@@ -36,6 +36,7 @@ fn tree<'a>(text: &'a str, scratch: &'a mut Scratch) -> Result<Tree<'a>, WireFau
 
 /// The value that the text is. Its texts are borrowed: those with escapes from `scratch`, all
 /// others from `text`.
+// rule: no-object
 #[tactic(auto, using(crate::proofs::Ranges::in_range, crate::proofs::Ranges::out_of_range, crate::proofs::Ranges::no_tree))]
 pub(crate) fn value_of<'a>(text: &'a str, scratch: &'a mut Scratch) -> Result<Tree<'a>, WireFault>
     ensures { Gives view result (or_fault WireFault.NotRequest (read_text text.now)) }
@@ -49,6 +50,7 @@ pub(crate) fn value_of<'a>(text: &'a str, scratch: &'a mut Scratch) -> Result<Tr
 }
 
 /// The member of this name, where the value is an object that has it; of two the later one.
+// rule: json-members
 pub fn get<'v, 'a>(value: &'v Tree<'a>, name: &str) -> Option<&'v Tree<'a>>
     ensures { option_map (λ v. view v.now) result ≡ get name.now (view value.now) }
 {
@@ -85,6 +87,7 @@ pub fn as_array<'v, 'a>(value: &'v Tree<'a>) -> Option<&'v Items<'a>>
 }
 
 /// The text, where the value is one.
+// rule: json-members
 #[tactic(auto, using(crate::proofs::Seen::text_seen))]
 pub fn as_str<'a>(value: &Tree<'a>) -> Option<&'a str>
     ensures { option_map (λ s. s.now) result ≡ as_str (view value.now) }
@@ -101,6 +104,7 @@ pub fn as_bool(value: &Tree<'_>) -> Option<bool>
 }
 
 /// The number, where the value is a whole one from 0 on that fits.
+// rule: json-members
 pub fn as_u64(value: &Tree<'_>) -> Option<u64>
     ensures { result ≡ option_and_then as_u64 (as_number (view value.now)) }
 {

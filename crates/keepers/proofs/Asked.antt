@@ -21,6 +21,7 @@ use Rattle.keepers.specs.Change.{AreRowsAt}
 use Rattle.keepers.specs.Steps.{HasNoGroups}
 
 -- what a keeper answers of a session is what the ledger says
+-- rule: session-names.known, database-reads
 pub known_is : (shelf : Shelf) (ledger : Ledger) (u : ℕ) (r : Rows) (s : List ℕ) →
     AreRowsAt shelf ledger u r → is_some (r.sessions s) ≡ is_some (last_recording s ledger)
 known_is shelf ledger u r s h =
@@ -29,6 +30,7 @@ known_is shelf ledger u r s h =
     (last_recording s ledger)
 
 -- a session without a record has no group among those left
+-- rule: session-names.known
 pub new_unleft : (shelf : Shelf) (ledger : Ledger) (u t : ℕ) (r : Rows) (s : List ℕ) (g : ℕ)
     (h : AreRowsAt shelf ledger u r) → IsShelf shelf → HasNoGroups s ledger →
     group_in s g (left_of t (priced shelf h.listed)).groups ≡ None

@@ -155,6 +155,7 @@ none_from least (c ∷ rest) none =
     at false e later = later (grind (arith, nat_tests, e))
 
 -- the row of the next number, and those after it, are what is left
+-- rule: charge-source.next-number
 pub next_parts : (least n low : ℕ) (all : List ChargeColumns) → are_rising low all ≡ true →
     least ≤ n → ((m : ℕ) → least ≤ m → m < n → charge_in m all ≡ None) →
     one_or_none (charge_in n all) ++ from_number (n + 1) all ≡ from_number least all
@@ -261,6 +262,7 @@ module _ {V : Type 0} (Sees : V → ChargeColumns → Bool → V → Type 0) (fr
       (filter p (from_number (n + 1) all)) now next shows)))
 
   -- no number is left
+  -- rule: charge-source.next-number
   pub all_shown : (least : ℕ) (old now : V) → IsShownBelow least old now →
       next_number least None rows ≡ None → SeesCharges Sees from until Charges old now
   all_shown least old now had e all are =

@@ -283,6 +283,7 @@ module _ (shelf : Shelf) (before after : Ledger) (u t : ℕ) (r : Rows) (a x : A
   }
 
   -- the rows that differ alone are committed
+  -- rule: database-loads.load-step, database-writes.changed
   pub left_behind : AreRowsAt shelf after x.as_of (over (named_rows (stored a) (stored x)) r)
   left_behind = subst (AreRowsAt shelf after x.as_of)
       (sym (named_over (stored a) (stored x) r loaded_apart left_apart there)) leaves

@@ -17,6 +17,7 @@ use Rattle.keepers.proofs.Equal.{bucket_from, counter_from, session_from}
 use Rattle.keepers.proofs.GroupsOverlaid.{rows_overlaid, holds_overlaid}
 use Rattle.keepers.proofs.PartsKept.{each_in}
 
+-- rule: database-writes
 pub named_over : IsNamedOver
 named_over before after r hb ha there = λ i. record {
   head = Some (head_of after);
@@ -43,6 +44,7 @@ apart_stored w h = record {
   groups = h.groups;
 }
 
+-- rule: database-writes
 pub named_kept : (before after : StoredRows) → IsStored after → IsNamed (named_rows before after)
 named_kept before after h = record {
   apart = record {

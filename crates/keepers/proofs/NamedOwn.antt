@@ -174,6 +174,7 @@ group_alone s x y mine e =
     let name = and_parts (is_same x.session y.session) (x.group == y.group) group.0 in
     ap (λ n. is_same n s) (sym (equal_names x.session y.session name.0)) ∙ mine
 
+-- rule: database-writes.quiet-at
 pub named_own : (s : List ℕ) (before after : StoredRows) →
     other_sessions s after.sessions ≡ other_sessions s before.sessions →
     other_groups s after.groups ≡ other_groups s before.groups →
@@ -200,6 +201,7 @@ passed_twice p (x ∷ xs) = at (p x) refl (passed_twice p xs)
         ∙ ap (λ l. x ∷ l) rest
     at false e rest = rest
 
+-- rule: database-writes.quiet-at
 pub named_earlier : (own : Option (List ℕ)) (before after : StoredRows) →
     named_for own (earlier_of own before) after ≡ named_for own before after
 named_earlier None before after = refl

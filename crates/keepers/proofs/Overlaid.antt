@@ -435,6 +435,7 @@ module _ (named : StoredRows) (names : Names) (p : Parts) (after : StoredRows) (
             free.1,
           )
 
+  -- rule: database-writes.changed
   pub overlaid : over after (rows_of_parts p) ≡ over named (rows_of_parts p)
   overlaid = λ i. record {
     head = Some (of.head i);

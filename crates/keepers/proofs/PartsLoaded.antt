@@ -157,6 +157,7 @@ module _ (shelf : Shelf) (t : ℕ) (p : Parts) (h : AreParts p) (live : IsStored
           ∙ sym (λ i. if is_open_row (away i) || (reserved_row y.reservation ∙ free) i
           then Some y else None)
 
+  -- rule: database-loads.loaded-from
   pub parts_loaded : IsLoadedFrom shelf t (rows_of_parts p) a
   parts_loaded = record {
     priced_by = refl;

@@ -196,6 +196,7 @@ module _ (shelf : Shelf) (t : ℕ) (p : Parts) (h : AreParts p) where
         ∙ ap (held_of n) (group_told s g)) ∙ are.holds s g n;
   }
 
+-- rule: sweep.brought-to
 pub parts_brought : (shelf : Shelf) (t : ℕ) (p : Parts) → AreParts p → IsStored p.live →
     AreBroughtTo shelf t (rows_of_parts p) (rows_of_parts (advanced_parts shelf t p))
 parts_brought shelf t p h live w are kept early =

@@ -312,12 +312,14 @@ module _ (names : Names) (cycles : Numbers) (rows others : GivenRows) (taken : L
   same_after = after_is (given rows) p (given others) taken beside none none_counted own_sessions
       own_rows
 
+  -- rule: database-writes.past
   pub recorded_parts : AreParts (recorded (given others) taken p)
   recorded_parts = subst AreParts same_after
       (after_parts names cycles (given rows) named.buckets p h live new held of.buckets
       apart.buckets apart.sessions apart.groups apart.counters past fresh known_sessions
       known_groups known_counters)
 
+  -- rule: database-writes.past
   pub recorded_rows : rows_of_parts (recorded (given others) taken p) ≡
       over named (rows_of_parts p)
   recorded_rows = ap rows_of_parts (sym same_after)

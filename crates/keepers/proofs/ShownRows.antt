@@ -13,6 +13,7 @@ module _ {V : Type 0} (Sees : V → ChargeColumns → Bool → V → Type 0) whe
   After rest all next new goes =
       GoesOn goes (Shows Sees rest all next new) ((all ≡ false) × (new ≡ next))
 
+  -- rule: charge-source.visits
   pub shown_visits : (rows : List ChargeColumns) (all : Bool) (old new : V) →
       Shows Sees rows all old new → Visits Sees rows old new
   shown_visits [] all old new h = h.1

@@ -336,6 +336,7 @@ module _ (shelf : Shelf) (t : ℕ) (before w : StoredRows) (r : Rows)
       at None e = are.counters g c
       at (Some x) e = sym (made.there.counters g c x e) ∙ are.counters g c
 
+  -- rule: sweep.brought-to
   pub brought_over : AreListed (advanced_stored shelf t w) (over (advanced_stored shelf t before) r)
   brought_over = record {
     head = λ i. Some (record {
@@ -364,6 +365,7 @@ module _ (shelf : Shelf) (t : ℕ) (before w : StoredRows) (r : Rows)
   }
 
 -- the rows of a ledger, brought on, are the ledger's rows of the later moment
+-- rule: sweep.brought-to
 pub rows_brought : (shelf : Shelf) (t : ℕ) (old new : Rows) → IsShelf shelf →
     AreBroughtTo shelf t old new → (ledger : Ledger) (u : ℕ) → u ≤ t →
     AreRowsAt shelf ledger u old → AreRowsAt shelf ledger t new

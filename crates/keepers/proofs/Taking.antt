@@ -116,6 +116,7 @@ module _ (shelf : Shelf) (ledger : Ledger) (u t : ℕ) (r : Rows) (a : AccountRo
         ∙ ap (λ o. if c == cycle_at shelf g t then o else None) (h.are.counters g c);
   }
 
+  -- rule: database-loads.loaded-from, database-loads.load-step
   pub taken : IsWith ledger (left_of t w) t a
   taken =
       let l : IsLoadedWith ledger t w a = loaded_with ledger t w a whole own h.rows part in

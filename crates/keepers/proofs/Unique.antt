@@ -108,6 +108,7 @@ same_lists least (x ∷ xs) (y ∷ ys) h k same =
     λ i. first i ∷ others i
 
 -- an account's charges are one list
+-- rule: charge-source
 pub one_list : {charges : ℕ → Option ChargeColumns} {xs ys : List ChargeColumns} →
     AreCharges charges xs → AreCharges charges ys → xs ≡ ys
 one_list {charges} {xs} {ys} h k =

@@ -329,6 +329,7 @@ module _ (names : Names) (cycles : Numbers) (named : StoredRows) (rows : GivenRo
       of.buckets apart.buckets apart.sessions apart.groups apart.counters fresh known_sessions
       known_groups known_counters
 
+  -- rule: database-writes.rows-written
   pub put_rows : rows_of_parts (record { live = rows_written (given rows) p.live; left = p.left }) ≡
       over named (rows_of_parts p)
   put_rows = written_rows names cycles (given rows) named.buckets p h live kept.stored held

@@ -43,6 +43,7 @@ is_loaded r s g = is_open_row (r.sessions s) || has_reservation (r.groups s g)
 -- the account is what may still change at the moment: the buckets that aren't dead, the open
 -- sessions, what they have of groups and whatever holds a reservation, and the counters of the
 -- cycles at the moment
+-- rule: database-loads.loaded-from: what is loaded of an account, and what is left
 pub record IsLoadedFrom (shelf : Shelf) (t : Moment) (r : Rows) (a : AccountRows) : Type 0 where
   pub priced_by : a.shelf ≡ shelf
   pub head : r.head ≡ Some (head_of (stored a))
@@ -98,11 +99,13 @@ kept_after None k before = before
 kept_after (Some kept) k before = if same_key (key_of kept.content) k then Some kept else before
 
 -- what is under a code once a voucher was redeemed
+-- rule: redeem.redeem-outcome
 abbrev pub redeemed_over : Option Redeemed → VoucherCode → Option Voucher → Option Voucher
 redeemed_over None code before = before
 redeemed_over (Some redeemed) code before =
     if same_name redeemed.code code then Some redeemed.voucher else before
 
+-- rule: database-writes.changed: a keeper changes by exactly the change
 abbrev pub changed : Change → Tables → Tables
 changed change tables = record {
   last = change.moment;
@@ -119,6 +122,7 @@ changed change tables = record {
 -- ---- a voucher that is added
 
 -- an unspent voucher is under the code, from the moment on
+-- rule: voucher-add.with-voucher: what a keeper holds after an addition
 abbrev pub with_voucher : VoucherCode → VoucherTerms → Moment → Tables → Tables
 with_voucher code terms moment tables = record {
   last = moment;
@@ -141,10 +145,14 @@ pub record AreRowsAt (shelf : Shelf) (ledger : Ledger) (t : Moment) (r : Rows) :
 
 -- from any list of an account's rows that isn't of a later moment, of no ledger too: its rows at
 -- the moment
+-- rule: sweep.brought-to: a sweep brings each stored account that isn't of a later moment to it,
+--   of no ledger too
 abbrev pub AreBroughtTo : Shelf → Moment → Rows → Rows → Type 0
 AreBroughtTo shelf t old new = (w : StoredRows) → AreListed w old → IsStored w → w.as_of ≤ t →
     AreListed (advanced_stored shelf t w) new
 
+-- rule: sweep: sweep
+-- rule: sweep.brought-to
 pub record IsSwept (shelf : Shelf) (t : Moment) (old new : Tables) : Type 0 where
   pub last : new.last ≡ t
   pub none : (a : AccountName) → (old.rows a).head ≡ None → new.rows a ≡ old.rows a

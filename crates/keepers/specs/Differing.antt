@@ -83,6 +83,8 @@ equal_group x y =
 -- ---- the rows of a change
 
 -- what is kept of the account once, and of its rows those that differ from all before
+-- rule: database-writes: a change names each row once, and of those that were loaded only rows
+--   that differ
 abbrev pub named_rows : StoredRows → StoredRows → StoredRows
 named_rows before after = record after {
   buckets = differing equal_bucket before.buckets after.buckets;
@@ -92,6 +94,7 @@ named_rows before after = record after {
 }
 
 -- the same of one session's rows alone
+-- rule: database-writes.quiet-at
 abbrev pub named_rows_of : SessionName → StoredRows → StoredRows → StoredRows
 named_rows_of s before after = record after {
   buckets = differing equal_bucket before.buckets after.buckets;
@@ -102,6 +105,7 @@ named_rows_of s before after = record after {
 }
 
 -- the rows of all sessions, or of one alone where no other may have changed
+-- rule: database-writes.quiet-at
 abbrev pub named_for : Option SessionName → StoredRows → StoredRows → StoredRows
 named_for None = named_rows
 named_for (Some s) = named_rows_of s
@@ -128,6 +132,7 @@ pub record AreThere (before : StoredRows) (r : Rows) : Type 0 where
       r.holds s g n ≡ held_of n (Some x)
 
 -- so to name the rows that differ from them is to name all
+-- rule: database-writes
 abbrev pub IsNamedOver : Type 0
 IsNamedOver = (before after : StoredRows) (r : Rows) → AreRowsApart before → AreRowsApart after →
     AreThere before r → over (named_rows before after) r ≡ over after r

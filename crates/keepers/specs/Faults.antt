@@ -14,6 +14,7 @@ max_failures = 1_000_000_000_000_000_000
 
 -- a call doesn't lower the count, and a store fault comes only where the call raised it or it
 -- is at the highest
+-- rule: store-faults.cause: a store fault has a cause
 pub record HasCause {T : Type 0} (old new : ℕ) (result : Result T StoreFault) : Type 0 where
   pub kept : old ≤ new
   pub cause : IsErrOf result Store → min (old + 1) max_failures ≤ new

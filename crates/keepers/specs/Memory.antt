@@ -109,6 +109,7 @@ AreSwept shelf t xs ys = ⊥
 abbrev pub VoucherMap : Type 0
 VoucherMap = HashMap (List ℕ) Voucher (BuildHasherDefault FoldHasher)
 
+-- rule: database-reads: a keeper in memory finds what it holds
 abbrev pub memory_tables : Moment → List AccountEntry → VoucherMap → Tables
 memory_tables last entries vouchers = record {
   last = last;

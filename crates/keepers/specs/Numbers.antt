@@ -11,6 +11,7 @@ nearer least n None = if nat_le least n then Some n else None
 nearer least n (Some m) = if nat_le least n && nat_lt n m then Some n else Some m
 
 -- the least number of the rows from `least` on, where this one was found before them
+-- rule: charge-source.next-number: charges in another order are shown number by number
 abbrev pub next_number : ChargeNumber → Option ChargeNumber → List ChargeColumns →
     Option ChargeNumber
 next_number least found [] = found

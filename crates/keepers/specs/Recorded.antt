@@ -24,6 +24,8 @@ is_past_group live r =
     && not (is_some (group_in r.session r.group (own_groups r.session live.groups))))
 
 -- so it is of each group, and each session isn't open and has no row among these
+-- rule: database-writes.past: in memory the rows of sessions that can't change any more, as those
+--   of a recorded event, are left at once
 abbrev pub are_past : StoredRows → StoredRows → Bool
 are_past w live =
     list_all (leaves_session live) w.sessions && list_all (is_past_group live) w.groups
@@ -33,6 +35,7 @@ abbrev pub rest_of : StoredRows → StoredRows
 rest_of w = record w { sessions = []; groups = [] }
 
 -- rows are written over the live ones, and others are behind those that were left
+-- rule: database-writes.past
 abbrev pub recorded : StoredRows → LeftStore → Parts → Parts
 recorded w rows p = record {
   live = rows_written w p.live;
@@ -51,6 +54,7 @@ pub record IsChange (live : List BucketRow) (rows : GivenRows) : Type 0 where
   pub of : IsGivenOver named live rows
 
 -- the change of these rows is made
+-- rule: database-writes.past
 abbrev pub IsPut : GivenRows → Parts → Parts → Type 0
 IsPut rows old new = (named : StoredRows) → IsNamed named →
     IsGivenOver named old.live.buckets rows →

@@ -4,6 +4,8 @@ use Rattle.std.specs.Prelude.{ℕ}
 use Rattle.keepers.specs.Tables.{Tables}
 
 -- what is said of a keeper is said of this
+-- rule: honest-store: an answer comes only from a store that can be asked; a stop between two
+--   calls leaves the tables as they are
 pub record Seen : Type 1 where
   -- the tables
   pub tables : Tables

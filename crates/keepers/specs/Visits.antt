@@ -13,6 +13,7 @@ GoesOn true Rest Same = Rest
 GoesOn false Rest Same = Same
 
 -- what a visitor becomes that is shown the rows, one after another, until it stops
+-- rule: charge-source.visits: charges are shown one at a time
 abbrev pub Visits : {V : Type 0} → (V → ChargeColumns → Bool → V → Type 0) →
     List ChargeColumns → V → V → Type 0
 Visits Sees [] old new = new ≡ old
@@ -29,6 +30,7 @@ Shows {V} Sees (c ∷ rest) all old new =
     × GoesOn goes (Shows Sees rest all next new) ((all ≡ false) × (new ≡ next))
 
 -- it is shown the charges of the range
+-- rule: charge-source.visits
 abbrev pub SeesCharges : {V : Type 0} → (V → ChargeColumns → Bool → V → Type 0) → Moment → Moment →
     (ChargeNumber → Option ChargeColumns) → V → V → Type 0
 SeesCharges Sees from until charges old new =
@@ -36,6 +38,7 @@ SeesCharges Sees from until charges old new =
     Visits Sees (filter (is_between from until) rows) old new
 
 -- it is shown the first of them, and no other
+-- rule: charge-source.visits
 abbrev pub SeesBeginning : {V : Type 0} → (V → ChargeColumns → Bool → V → Type 0) → Moment →
     Moment → (ChargeNumber → Option ChargeColumns) → V → V → Type 0
 SeesBeginning Sees from until charges old new =
@@ -43,6 +46,7 @@ SeesBeginning Sees from until charges old new =
     (count : ℕ) × Visits Sees (take count (filter (is_between from until) rows)) old new
 
 -- it is shown some rows of the range, whichever those are
+-- rule: charge-source.visits
 pub record IsShown {V : Type 0} (Sees : V → ChargeColumns → Bool → V → Type 0)
     (from until : Moment) (old new : V) : Type 0 where
   pub rows : List ChargeColumns

@@ -27,6 +27,7 @@ use voucher_rules::{Voucher, VoucherTerms};
 /// of failures rose in the call, or is at its highest. A change that would leave rows which a
 /// keeper can't hold, as holds without the reservation that holds them, is refused as a fault:
 /// store fault 1 in memory, 2 over a store.
+// rule: runs, store-faults.cause, honest-store
 pub trait Keeper {
     /// What a contract sees of it.
     ghost seen: { Self → Seen };
@@ -48,6 +49,7 @@ pub trait Keeper {
     ///
     /// # Errors
     /// A store fault.
+    // rule: database-loads.loaded-from
     fn load<'b>(
         &mut self,
         shelf: &'b TariffShelf,
@@ -63,6 +65,7 @@ pub trait Keeper {
     ///
     /// # Errors
     /// A store fault.
+    // rule: database-loads.loaded-from
     fn view<'b>(
         &mut self,
         shelf: &'b TariffShelf,
@@ -85,6 +88,7 @@ pub trait Keeper {
     ///
     /// # Errors
     /// A store fault.
+    // rule: session-names.known
     fn knows_session(
         &mut self,
         account: &AccountNumber,
@@ -119,6 +123,7 @@ pub trait Keeper {
     ///
     /// # Errors
     /// A store fault.
+    // rule: voucher-add.with-voucher
     fn find_voucher(&mut self, code: &VoucherCode) -> Result<Option<Voucher>, StoreFault>
         ensures { KeeperReads (seen self.old) (seen self.new)
             (λ found. found ≡ (seen self.old).tables.vouchers code.now) result };
@@ -127,6 +132,7 @@ pub trait Keeper {
     ///
     /// # Errors
     /// A store fault. Then nothing has changed.
+    // rule: database-writes.changed
     fn commit(&mut self, change: Change) -> Result<(), StoreFault>
         ensures done { (seen self.new).clean →
             OnOk result ((seen self.new).tables ≡ changed change (seen self.old).tables) }
@@ -138,6 +144,7 @@ pub trait Keeper {
     ///
     /// # Errors
     /// A store fault. Then nothing has changed.
+    // rule: voucher-add.with-voucher
     fn add_voucher(
         &mut self,
         code: VoucherCode,
@@ -165,6 +172,7 @@ pub trait Keeper {
     ///
     /// # Errors
     /// A store fault. Then nothing has changed.
+    // rule: sweep.brought-to
     fn sweep(&mut self, shelf: &TariffShelf, moment: Moment) -> Result<u64, StoreFault>
         ensures count { (seen self.new).clean →
             IfOk result (λ n. n ≡ (seen self.old).tables.count) }
@@ -177,9 +185,11 @@ pub trait Keeper {
     ghost bounded: { (k : Self) → (seen k).failed ≤ max_failures };
 
     /// A clean store is honest.
+    // rule: honest-store
     ghost honesty: { (k : Self) → (seen k).clean → (seen k).honest };
 
     /// A stop between two calls leaves the tables as they are.
+    // rule: honest-store
     ghost settled: { (k : Self) (t : Tables) → (seen k).clean → (seen k).left t →
         t ≡ (seen k).tables };
 }

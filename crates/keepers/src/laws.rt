@@ -6,6 +6,7 @@ ghost use Rattle.keepers.specs.Differing.{IsNamedOver};
 
 /// What is loaded and what was left are together the ledger's rows, and so they are after a commit;
 /// a session has a row where it has a record; the rows of an account are those of its ledger.
+// rule: database-loads.load-step
 pub fn taken_and_left()
     ensures load { IsLoadStep }
     ensures commit { IsCommitStep }
@@ -17,6 +18,7 @@ pub fn taken_and_left()
 
 /// A change that names only the rows that differ from those loaded leaves what one leaves that
 /// names all.
+// rule: database-writes
 pub fn only_what_differs()
     ensures { IsNamedOver }
 {}

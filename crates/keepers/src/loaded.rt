@@ -74,6 +74,7 @@ impl Loaded<'_> {
     ///
     /// # Errors
     /// Out of memory; the account is given up then, and nothing has changed.
+    // rule: database-writes
     pub fn into_change(
         self,
         alloc: Global,

@@ -36,6 +36,7 @@ pub struct MemoryKeeper {
 
 impl MemoryKeeper {
     /// A keeper without accounts and vouchers. It takes no memory.
+    // rule: runs.tables
     pub fn new(alloc: Global) -> MemoryKeeper
         ensures content { (⟦<MemoryKeeper as Keeper>⟧.seen result).tables ≡ no_tables }
         ensures cleanness { (⟦<MemoryKeeper as Keeper>⟧.seen result).clean }
@@ -50,6 +51,7 @@ impl MemoryKeeper {
     }
 
     /// The charges of an account, in order; none where there is no such account.
+    // rule: database-reads
     pub fn charges(&self, account: &AccountNumber) -> &[ChargeRow]
         ensures { (n : ℕ) → charge_in n result.now ≡
             (⟦<MemoryKeeper as Keeper>⟧.seen self.now).tables.charges account.now n }
@@ -125,6 +127,7 @@ impl Keeper for MemoryKeeper {
         view_entry(&self.accounts, shelf, account, moment).map_err(refused)
     }
 
+    // rule: database-reads
     fn has_account(&mut self, account: &AccountNumber) -> Result<bool, StoreFault> {
         Ok(has_entry(&self.accounts, account))
     }
@@ -137,10 +140,12 @@ impl Keeper for MemoryKeeper {
         Ok(has_session(&self.accounts, account, session))
     }
 
+    // rule: database-reads
     fn dead_buckets(&mut self, account: &AccountNumber) -> Result<Vec<Bucket>, StoreFault> {
         Ok(dead_in(self.alloc, &self.accounts, account)?)
     }
 
+    // rule: database-reads
     fn find_answer(
         &mut self,
         account: &AccountNumber,
@@ -184,6 +189,7 @@ impl Keeper for MemoryKeeper {
         Ok(())
     }
 
+    // rule: sweep
     fn sweep(&mut self, shelf: &TariffShelf, moment: Moment) -> Result<u64, StoreFault> {
         self.accounts.advance(shelf, moment);
         self.last = moment;

@@ -90,6 +90,7 @@ fn show_numbered<V: ChargeVisitor>(
 
 /// Shows a visitor the rows of the range in the order of their numbers, of each number the first,
 /// until it stops. It copies none: it looks for the next number once a row.
+// rule: charge-source.next-number
 fn show_by_number<V: ChargeVisitor>(
     rows: &[ChargeRow],
     from: Moment,
@@ -129,6 +130,7 @@ fn show_in_order<V: ChargeVisitor>(rows: &[ChargeRow], from: Moment, until: Mome
 /// A run numbers an account's charges in order, so that they are shown as they are. Rows in
 /// another order are looked through once for each number.
 impl ChargeSource for MemoryKeeper {
+    // rule: charge-source.visits
     fn each<V: ChargeVisitor>(
         &mut self,
         account: &AccountNumber,

@@ -49,6 +49,7 @@ impl NamedRows {
     ///
     /// # Errors
     /// Out of memory.
+    // rule: database-writes
     pub fn differing(
         alloc: Global,
         before: &EarlierRows,
@@ -75,6 +76,7 @@ impl NamedRows {
     ///
     /// # Errors
     /// Out of memory.
+    // rule: database-writes.quiet-at
     pub fn differing_of(
         alloc: Global,
         session: &SessionId,

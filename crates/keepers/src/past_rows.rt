@@ -37,6 +37,7 @@ fn are_sessions_past(live: &StoredAccount, rows: &[Session]) -> bool
 }
 
 /// Whether no row of a session may change any more, and the live rows have none of these sessions.
+// rule: database-writes.past
 pub(crate) fn are_past(live: &StoredAccount, rows: &GivenRows) -> bool
     ensures { result ≡ are_past (given rows.now) live.now }
 {
@@ -44,6 +45,7 @@ pub(crate) fn are_past(live: &StoredAccount, rows: &GivenRows) -> bool
 }
 
 /// Takes the rows of sessions.
+// rule: database-writes.past
 pub(crate) fn take_past(alloc: Global, rows: &mut GivenRows) -> LeftStore
     ensures rest { given rows.new ≡ rest_of (given rows.old) }
     ensures buckets { result.buckets.items ≡ [] }

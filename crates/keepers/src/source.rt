@@ -29,6 +29,7 @@ pub trait ChargeSource: Keeper {
     /// # Errors
     /// A store fault. Then the visitor was shown a beginning of those rows. Of a store that doesn't
     /// answer what was written it is shown the rows that the store answers.
+    // rule: charge-source, charge-source.visits
     fn each<V: ChargeVisitor>(
         &mut self,
         account: &AccountNumber,

@@ -154,6 +154,7 @@ impl Store {
 
     /// Puts the rows of a change over those that are there. At a fault nothing has changed, as
     /// where they would be no rows of an account.
+    // rule: database-writes.rows-written
     pub(crate) fn put(&mut self, named: NamedRows) -> Result<(), AllocError>
         ensures over { OnOk result (rows_of_parts self.new ≡ over named (rows_of_parts self.old)) }
         ensures err { OnErr result (self.new ≡ self.old) }
@@ -169,6 +170,7 @@ impl Store {
 
     /// The same, where no row of a session may change any more: those of sessions go straight to
     /// what was left, and the others are written over the live ones.
+    // rule: database-writes.past
     fn record(&mut self, mut rows: GivenRows) -> Result<(), AllocError>
         requires past { are_past (given rows) self.old.live ≡ true }
         requires change { IsChange self.old.live.buckets rows }
@@ -188,6 +190,7 @@ impl Store {
 
     /// Writes rows over the live ones, and leaves others behind those that were left. At a fault
     /// nothing has changed.
+    // rule: database-writes.past
     fn leave(&mut self, rows: GivenRows, past: LeftStore) -> Result<(), AllocError>
         requires order { IsStoredInOrder (rows_written (given rows) self.old.live) }
         requires parts { AreParts (recorded (given rows) past self.old) }

@@ -47,6 +47,7 @@ each_later v t u ledger (c ∷ cs) le h = (one, each_later v t u ledger cs le h.
         (release_none u b (held (ended_between v t u ledger) c.number ledger) none)
         ∙ end_dead u b d
 
+-- rule: dead-rows
 pub dead_later : (v : ℕ → ℕ) (t u : ℕ) (ledger : Ledger) → t ≤ u →
     Each IsBalanced (buckets_at v t ledger) →
     AreDeadKept (buckets_at v t ledger) (buckets_at v u ledger)
@@ -92,6 +93,7 @@ each_dead v t session group due ledger holds rows (c ∷ cs) live h =
         ∙ one_none v t session group c.number ledger live d.reserved in
         settled_dead holds group t due rows (bucket_at v t ledger c) d none
 
+-- rule: dead-rows
 pub dead_settled : (v : ℕ → ℕ) (t : ℕ) (session : List ℕ) (group units blocks : ℕ)
     (due : Due) (ledger : Ledger) →
     is_live v t ledger session ≡ true → Each IsBalanced (buckets_at v t ledger) →

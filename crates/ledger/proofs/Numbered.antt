@@ -22,6 +22,7 @@ one_use : (n t : ℕ) (o : Option UseOf) → IsOneUse n t o
 one_use n t None = record { numbered = tt; count = refl }
 one_use n t (Some u) = record { numbered = (refl, tt); count = refl }
 
+-- rule: database-loads.go-on
 pub goes_on : (newer older : Ledger) → GoOn newer older
 goes_on [] older = record {
   added = [];

@@ -54,6 +54,7 @@ release_is before t2 c ch h2 rel h1 e is =
     ∙ sym (ended_release (nat_lt t2 c.until) t2 (balance_by before c ch h1) rel refl)
 
 -- a bucket at a later moment
+-- rule: bucket-end.bucket-at
 pub bucket_at-later : (v : ℕ → ℕ) (t1 t2 : ℕ) (ledger : Ledger) (c : BucketRow) → t1 ≤ t2 →
     IsBalanced (bucket_at v t1 ledger c) →
     bucket_at v t2 ledger c
@@ -95,11 +96,13 @@ balanced_later v t1 t2 ledger c le balanced =
     (balanced_release t2 (bucket_at v t1 ledger c)
     (held (ended_between v t1 t2 ledger) c.number ledger) (omega arith) balanced))
 
+-- rule: going-on
 pub brought_on : (v : ℕ → ℕ) (t1 t2 : ℕ) (ledger : Ledger) (c : BucketRow) → t1 ≤ t2 →
     IsBalanced (bucket_at v t1 ledger c) →
     brought v t1 t2 ledger (bucket_at v t1 ledger c) ≡ bucket_at v t2 ledger c
 brought_on v t1 t2 ledger c le balanced = sym (bucket_at-later v t1 t2 ledger c le balanced)
 
+-- rule: going-on
 pub brought_alike : (v : ℕ → ℕ) (t1 t2 t3 : ℕ) (ledger : Ledger) (c : BucketRow) → t1 ≤ t2 →
     t2 ≤ t3 →
     IsBalanced (bucket_at v t1 ledger c) →

@@ -44,11 +44,13 @@ held_from counts n newer (d ∷ older) =
     (before_more counts d newer)
     ∙ held_from counts n (d ∷ newer) older)
 
+-- rule: holds.held-unended
 pub held_is_unended : IsHeldUnended
 held_is_unended counts n ledger =
     held_same counts (counted counts []) n ledger (λ s g. with_none (counts s g))
     ∙ held_from counts n [] ledger
 
+-- rule: holds.held-unended
 pub reserved_is_unended : IsReservedUnended
 reserved_is_unended v t ledger c =
     held_is_unended (λ s g. is_live v t ledger s) c.number ledger

@@ -33,6 +33,7 @@ balance_of t c charged held = record c {
 }
 
 -- a bucket's position at a moment: what live sessions' reservations hold is reserved
+-- rule: bucket-end.bucket-at: a bucket's position at a moment
 abbrev pub bucket_at : (Moment → Seconds) → Moment → Ledger → BucketRow → BucketRow
 bucket_at v t ledger c =
     balance_of t c (charged c.number ledger) (held (λ s g. is_live v t ledger s) c.number ledger)

@@ -25,6 +25,8 @@ untagged units = record { units = record { 0 = units }; change = None } ∷ []
 module _ (b : Shelf) (t : Moment) (group : GroupId) where
   -- what an event's units cost, where so many blocks are covered: they start blocks from no use on,
   -- at the period of the moment, from the group's counter in the cycle on
+  -- rule: event-price: the price of an event, and the rest of it
+  -- rule: debit
   abbrev pub event_price : BlockCount → UnitCount → Ledger → Rated
   event_price covered units ledger =
       price_of b t group None 0 (place_at b t group ledger) covered (untagged units)
@@ -35,6 +37,7 @@ module _ (b : Shelf) (t : Moment) (group : GroupId) where
       event_price (allowance group t (buckets_at (validity_of b) t ledger)) units ledger
 
   -- the eligible buckets have this price
+  -- rule: debit, event-price
   abbrev pub is_covered : UnitCount → Ledger → Bool
   is_covered units ledger = nat_le (rest_price units ledger).amount.0
       (funds group t (buckets_at (validity_of b) t ledger))
@@ -51,6 +54,7 @@ charged_use v t session group units blocks due ledger =
 module _ (b : Shelf) (t : Moment) (session : SessionName) (group : GroupId) (units : UnitCount)
   where
     -- the ledger with a debit that is covered
+    -- rule: debit
     abbrev pub debited : Ledger → Ledger
     debited ledger = charged_use (validity_of b) t session group units price.blocks (due_of price)
         ledger

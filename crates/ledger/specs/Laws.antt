@@ -29,12 +29,15 @@ brought v t1 t2 ledger b =
     with_end t2 (with_release t2 b (held (ended_between v t1 t2 ledger) b.number ledger))
 
 -- a bucket's position, brought to a later moment, is its position then
+-- rule: going-on: two steps in time bring a bucket to where one does
+-- rule: sweep-unseen: an account that was swept is brought on as one that wasn't
 abbrev pub IsBroughtOn : Type 0
 IsBroughtOn = (v : Moment → Seconds) (t1 t2 : Moment) (ledger : Ledger) (c : BucketRow) → t1 ≤ t2 →
     IsBalanced (bucket_at v t1 ledger c) →
     brought v t1 t2 ledger (bucket_at v t1 ledger c) ≡ bucket_at v t2 ledger c
 
 -- and in two steps it is brought to where one step brings it
+-- rule: going-on
 abbrev pub IsBroughtAlike : Type 0
 IsBroughtAlike =
     (v : Moment → Seconds) (t1 t2 t3 : Moment) (ledger : Ledger) (c : BucketRow) → t1 ≤ t2 →
@@ -46,6 +49,7 @@ IsBroughtAlike =
 -- ---- a dead bucket never changes again: a law of the ledger
 
 -- nothing of a dead bucket can be used any more
+-- rule: dead-rows.dead-for-good
 pub record IsDead (b : BucketRow) : Type 0 where
   pub available : b.available ≡ 0
   pub reserved : b.reserved ≡ 0
@@ -57,12 +61,15 @@ AreDeadKept (x ∷ xs) [] = ⊥
 AreDeadKept (x ∷ xs) (y ∷ ys) = (IsDead x → y ≡ x) × AreDeadKept xs ys
 
 -- as time goes on
+-- rule: dead-rows: a dead bucket never changes again, as time goes on and by a settlement; of each
+--   other call that changes an account its clause `left` says that it leaves such rows as they are
 abbrev pub IsDeadLater : Type 0
 IsDeadLater = (v : Moment → Seconds) (t u : Moment) (ledger : Ledger) → t ≤ u →
     Each IsBalanced (buckets_at v t ledger) →
     AreDeadKept (buckets_at v t ledger) (buckets_at v u ledger)
 
 -- and by a settlement
+-- rule: dead-rows
 abbrev pub IsDeadSettled : Type 0
 IsDeadSettled =
     (v : Moment → Seconds) (t : Moment) (session : SessionName) (group : GroupId)
@@ -79,6 +86,8 @@ abbrev pub is_end_of : SessionName → GroupId → Fact → Bool
 is_end_of s g f = test_of (ends_of s g) (counts_of f).end
 
 -- the sum of a bucket's holds that count, of reservations that no fact after the hold ended
+-- rule: holds.held-unended: what is reserved of a bucket is the sum of its holds whose session is
+--   live and whose reservation hasn't ended
 abbrev pub held_unended : (SessionName → GroupId → Bool) → BucketNumber → Ledger → Ledger →
     BucketAmount
 held_unended counts n newer [] = 0
@@ -87,12 +96,14 @@ held_unended counts n newer (d ∷ older) =
     + held_unended counts n (d ∷ newer) older
 
 -- what is held of a bucket is that sum
+-- rule: holds.held-unended
 abbrev pub IsHeldUnended : Type 0
 IsHeldUnended = (counts : SessionName → GroupId → Bool) (n : BucketNumber) (ledger : Ledger) →
     held counts n ledger ≡ held_unended counts n [] ledger
 
 -- so what is reserved of it is the sum of its holds whose session is live and whose reservation
 -- hasn't ended
+-- rule: holds.held-unended
 abbrev pub IsReservedUnended : Type 0
 IsReservedUnended = (v : Moment → Seconds) (t : Moment) (ledger : Ledger) (c : BucketRow) →
     (bucket_at v t ledger c).reserved
@@ -107,6 +118,8 @@ AreNumberedFrom n (c ∷ cs) = (c.number ≡ n) × AreNumberedFrom (n + 1) cs
 
 -- the charges of newer facts come after those of the older ones, and their numbers go on from the
 -- ledger's next
+-- rule: database-loads.go-on: an account's charges are numbered on, which its rows owe to who
+--   stores them
 pub record GoOn (newer older : Ledger) : Type 0 where
   pub added : List ChargeRow
   pub are : charge_rows (newer ++ older) ≡ charge_rows older ++ added

@@ -30,6 +30,8 @@ pub record GrantOf : Type 0 where
   pub group : GroupId
   pub terms : Terms
   pub units : UnitCount
+  -- rule: counters: the counter of a group
+  -- rule: use-counts
   pub counter : Place
 
 -- what is held of a bucket for a session's group, in the bucket's unit
@@ -179,6 +181,7 @@ sum_of what f ledger = total (λ d. number_of f (what (counts d.fact))) ledger
 -- ---- the account itself
 
 -- whether the account is barred: its last bar decides
+-- rule: barred
 abbrev pub is_barred : Ledger → Bool
 is_barred ledger = unwrap_or (newest (λ d. (counts d.fact).bar) ledger) false
 
@@ -234,6 +237,7 @@ module _ (session : SessionName) where
 -- a live session: it has a touch, wasn't closed, and its supervision time, two validity times after
 -- its last touch, is not over (profile, in the place of the session supervision timer Tcc of RFC
 -- 8506 section 13)
+-- rule: session-live: when a session is live
 abbrev pub is_live : (Moment → Seconds) → Moment → Ledger → SessionName → Bool
 is_live v t ledger s = is_within (last_touch s ledger) && not (is_closed s ledger)
   where
@@ -244,6 +248,7 @@ is_live v t ledger s = is_within (last_touch s ledger) && not (is_closed s ledge
 -- ---- reservations
 
 -- what reservations hold of a bucket: those that count, and that no later fact ended
+-- rule: holds.held: held money is its own reservation's
 abbrev pub held : (SessionName → GroupId → Bool) → BucketNumber → Ledger → BucketAmount
 held p n [] = 0
 held p n (d ∷ older) =
@@ -289,6 +294,7 @@ module _ (session : SessionName) (group : GroupId) where
   used ledger = sum_of (λ c. c.usage) (λ u. if is_use_of u then u.units else 0) ledger
 
   -- the terms of a session's grant of a group that no later fact ended
+  -- rule: grant-terms.granted
   abbrev pub open_grant : Ledger → Option Terms
   open_grant ledger = inner (newest (tells (λ x. x.terms) session group) ledger)
 

@@ -38,6 +38,7 @@ cycle_with zone None t = 0
 cycle_with zone (Some x) t = cycle_of zone x.cycle t
 
 -- the cycle of a group's counter at a moment
+-- rule: counters.cycle-at: the cycle of a counter
 abbrev pub cycle_at : Shelf → GroupId → Moment → CycleNumber
 cycle_at s g t = cycle_with (book_at s t).calendar.zone (tariff_of (book_at s t) g) t
 
@@ -61,6 +62,7 @@ abbrev pub reach : Book → Moment → Seconds
 reach b t = min b.validity (latest_moment - t)
 
 -- the tariff switch within the validity (Tariff-Time-Change)
+-- rule: switch.switch-by: tariff switch of a grant
 abbrev pub switch_by : Book → Moment → Option Moment
 switch_by b t = switch_within b.calendar t (reach b t)
 
@@ -78,9 +80,11 @@ periods_by b t =
     record { before = period_at b.calendar t; after = period_after b.calendar t (switch_by b t) }
 
 -- the same by the book at the moment: one that begins later is no switch and cuts nothing
+-- rule: switch.switch-by
 abbrev pub switch_at : Shelf → Moment → Option Moment
 switch_at s t = switch_by (book_at s t) t
 
+-- rule: validity
 abbrev pub validity_at : Shelf → Moment → Seconds
 validity_at s t = validity_by (book_at s t) t
 
@@ -88,6 +92,9 @@ abbrev pub periods_at : Shelf → Moment → Periods
 periods_at s t = periods_by (book_at s t) t
 
 -- the terms of a grant: the number of its book, and its periods
+-- rule: grant-terms.terms-at: the terms of a grant
+-- rule: report-book: the book and the periods of a report's parts
+-- rule: report-period: the period of each part, with a grant and without
 abbrev pub terms_at : Shelf → Moment → Terms
 terms_at s t = record { book = number_at s t; periods = periods_at s t }
 
@@ -98,6 +105,7 @@ abbrev pub one_period : Period → Periods
 one_period p = record { before = p; after = p }
 
 -- what prices a report without a grant: the book at the moment, and the period at it
+-- rule: report-book, report-period
 abbrev pub terms_now : Shelf → Moment → Terms
 terms_now s t =
     record { book = number_at s t; periods = one_period (period_at (book_at s t).calendar t) }
@@ -117,6 +125,7 @@ four_parts untagged before indeterminate after =
 
 -- a report's parts as they are rated: those without a Tariff-Change-Usage, before the switch, and
 -- on both sides of it by the period at the grant; then those after the switch by the period there
+-- rule: report-order: the order of a report's parts
 abbrev pub rated_parts : List UsedPart → List Part
 rated_parts parts =
     four_parts (units_of None parts) (units_of (Some UnitBeforeTariffChange) parts)
@@ -139,6 +148,7 @@ rated_with (Some t) periods used place covered parts =
 
 -- the units that are wanted: what is requested, or the group's slice, and never more than the
 -- greatest grant
+-- rule: wanted: wanted units
 abbrev pub wanted_units : GroupTariff → Option UnitCount → UnitCount
 wanted_units t requested = min (unwrap_or requested t.slice) t.max_grant
 

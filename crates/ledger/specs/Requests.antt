@@ -9,19 +9,23 @@ use Rattle.ledger.specs.Ledger.{Ledger, next_bucket}
 use Rattle.ledger.specs.Ledger.Fact.{Credit, Touch, Close, Recorded, Barred}
 
 -- a session's request is recorded
+-- rule: recorded
 abbrev pub recorded : Moment → SessionName → CcRequestNumber → Ledger → Ledger
 recorded t s number ledger = record { at = t; fact = Recorded s number } ∷ ledger
 
 -- a session is touched: a request of it is accepted while it lives, or opens it
+-- rule: recorded: a session touched, a request recorded, a session closed
 abbrev pub touched : Moment → SessionName → CcRequestNumber → Ledger → Ledger
 touched t s number ledger =
     record { at = t; fact = Recorded s number } ∷ record { at = t; fact = Touch s } ∷ ledger
 
 -- a session ends: all its reservations are over
+-- rule: recorded
 abbrev pub closed : Moment → SessionName → Ledger → Ledger
 closed t s ledger = record { at = t; fact = Close s } ∷ ledger
 
 -- a bucket is made, under the next number
+-- rule: credit, allowance
 abbrev pub credited : Moment → BucketKind → Moment → Moment → Option GroupId → BucketAmount →
     Ledger → Ledger
 credited t kind from until scope amount ledger =

@@ -22,6 +22,7 @@ abbrev pub hold_for : SessionName → GroupId → HeldAmount → HoldOf
 hold_for session group h =
     record { session = session; group = group; bucket = h.bucket; amount = h.amount }
 
+-- rule: shares.taken-of
 abbrev pub hold_facts : Moment → SessionName → GroupId → List HeldAmount → Ledger
 hold_facts t session group [] = []
 hold_facts t session group (h ∷ hs) =
@@ -38,6 +39,7 @@ grant_at b t session group units ledger = record {
 }
 
 -- the ledger with a grant
+-- rule: grant-held
 abbrev pub reserved : Shelf → Moment → SessionName → GroupId → UnitCount → Due → Ledger → Ledger
 reserved b t session group units due ledger =
     hold_facts t session group (holds_of group t due (buckets_at (validity_of b) t ledger))
@@ -49,6 +51,8 @@ held_due g = due g.amount.0 g.allowed.0
 
 -- what a session with this use would be granted: the blocks of the allowance, and after them the
 -- greatest number of new blocks, each at the dearer of its two prices, that the funds cover
+-- rule: grant-held: an account's grant, and what it holds
+-- rule: grant-covers
 abbrev pub grant_for : Shelf → Moment → GroupId → UnitCount → Option UnitCount → Ledger → RatedGrant
 grant_for b t group before requested ledger =
     grant_with (tariff_at b t group) (periods_at b t) before

@@ -31,6 +31,7 @@ reported used_parts = sum_by (λ p. p.units.0) used_parts
 
 -- what a report costs by the terms of a grant: by the book of their number, in their periods; so
 -- many blocks may be covered
+-- rule: report-book
 abbrev pub price_by : Shelf → GroupId → Terms → UnitCount → Place → BlockCount → List UsedPart →
     Rated
 price_by b group x used place covered used_parts =
@@ -38,15 +39,18 @@ price_by b group x used place covered used_parts =
 
 -- what a report costs: by the terms of its grant, or without one all by the book and the period at
 -- its moment
+-- rule: report-book, report-period
 abbrev pub price_of : Shelf → Moment → GroupId → Option Terms → UnitCount → Place → BlockCount →
     List UsedPart → Rated
 price_of b t group granted used place covered used_parts =
     price_by b group (unwrap_or granted (terms_now b t)) used place covered used_parts
 
 -- what is charged for a report: the price of its blocks that nothing covers, and those covered
+-- rule: covered
 abbrev pub due_of : Rated → Due
 due_of r = due r.amount.0 r.covered.0
 
+-- rule: shares.taken-of
 abbrev pub charge_facts : Moment → List HeldAmount → Ledger
 charge_facts t [] = []
 charge_facts t (h ∷ hs) = record { at = t; fact = Charge h.bucket h.amount } ∷ charge_facts t hs
@@ -65,6 +69,7 @@ use_of session group units blocks due uncollected = record {
 
 -- a stored number would pass its limit: the session's use, the group's counter, or the charge row's
 -- number
+-- rule: stored-limits: limits of stored numbers
 abbrev pub passes : UnitCount → UnitCount → Place → BlockCount → ChargeNumber → Bool
 passes before units count blocks charge =
     nat_lt most_used (before + units)
@@ -73,6 +78,7 @@ passes before units count blocks charge =
 -- of a session's group, as of a moment by these validities
 module _ (v : Moment → Seconds) (t : Moment) (session : SessionName) (group : GroupId) where
   -- the blocks that may cover a report: those that its reservation holds, and the allowance
+  -- rule: covered
   abbrev pub coverable : Ledger → BlockCount
   coverable ledger =
       held_sum Blocks (holds_at v t session group ledger) (buckets_at v t ledger)
@@ -99,6 +105,7 @@ module _ (v : Moment → Seconds) (t : Moment) (session : SessionName) (group : 
 module _ (b : Shelf) (t : Moment) (session : SessionName) (group : GroupId) where
   -- the price of a report of a live session: its grant is its reservation, its use goes on after
   -- the session's use so far, and its blocks are counted from the group's counter in the cycle on
+  -- rule: settle-order
   abbrev pub report_price : List UsedPart → Ledger → Rated
   report_price used_parts ledger =
       price_of b t group (open_grant session group ledger) (used session group ledger)
@@ -106,6 +113,8 @@ module _ (b : Shelf) (t : Moment) (session : SessionName) (group : GroupId) wher
 
   -- the ledger with a reported group's settlement; a group that is named without a report only ends
   -- its reservation
+  -- rule: settle-order: how a report is settled
+  -- rule: use-counts: the use and the counter after a report
   abbrev pub settled_by : List UsedPart → Ledger → Ledger
   settled_by [] ledger = record { at = t; fact = End session group } ∷ ledger
   settled_by (p ∷ ps) ledger =
@@ -115,12 +124,14 @@ module _ (b : Shelf) (t : Moment) (session : SessionName) (group : GroupId) wher
       price = report_price (p ∷ ps) ledger
 
   -- what of a report's price neither its holds nor any eligible bucket pays
+  -- rule: settle-order
   abbrev pub missing : List UsedPart → Ledger → Micros
   missing used_parts ledger =
       uncollected (holds_at (validity_of b) t session group ledger) group t
       (report_price used_parts ledger).amount.0 (buckets_at (validity_of b) t ledger)
 
   -- a settlement would pass the limit of a stored number
+  -- rule: stored-limits
   abbrev pub passes_limit : List UsedPart → Ledger → Bool
   passes_limit [] ledger = false
   passes_limit (p ∷ ps) ledger =
@@ -128,6 +139,7 @@ module _ (b : Shelf) (t : Moment) (session : SessionName) (group : GroupId) wher
       (report_price (p ∷ ps) ledger).blocks (next_charge ledger)
 
 -- the same, where so many charges are numbered before the report's own
+-- rule: stored-limits
 abbrev pub passes_after : ℕ → Shelf → Moment → SessionName → GroupId → List UsedPart → Ledger → Bool
 passes_after charges b t session group [] ledger = false
 passes_after charges b t session group (p ∷ ps) ledger =

@@ -8,11 +8,13 @@ use Rattle.ledger.specs.Ledger.{Ledger, charged, held, is_same, is_closed, open_
 use Rattle.ledger.specs.Ledger.{last_touch, last_recording, next_bucket}
 
 -- a session without a recorded request has nothing else either
+-- rule: ledger.sound-ledger
 pub record IsUnknown (s : SessionName) (ledger : Ledger) : Type 0 where
   pub closed : is_closed s ledger ≡ false
   pub held : (n : BucketNumber) → held (λ x g. is_same x s) n ledger ≡ 0
   pub granted : (g : GroupId) → open_grant s g ledger ≡ None
 
+-- rule: ledger.sound-ledger: the ledger of each history is sound
 pub record IsSoundLedger (ledger : Ledger) : Type 0 where
   -- a session's last touch is recorded
   pub touched : (s : SessionName) (x : Moment) → last_touch s ledger ≡ Some x →

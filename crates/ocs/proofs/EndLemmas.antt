@@ -119,6 +119,7 @@ same_said : (texts : List Text) (a b : ProgramWords) → IsSaid texts a → IsSa
 unfolding ok_in
 same_said texts a b h k = ap (λ r. ok_in r a) (sym h.means ∙ k.means)
 
+-- rule: exit-status
 pub end_said : (texts : List Text) (said : ProgramWords) (status : Status) → IsSaid texts said →
     IsEndBy status → IsEnd texts status
 end_said texts said Done h end = inl (record { said = said; says = h })
@@ -190,6 +191,7 @@ printed_done bytes said before after status printed done =
     subst (HasPrinted bytes said before after) done printed
 
 -- what is refused has begun with its line
+-- rule: exit-status
 pub refused_begun : {F : Type 0} (bytes : F → Option (List ℕ)) (said : ProgramWords)
     (before after : Option (List ℕ)) (status : Status) →
     IsEnded (IsRefused said before after) status → status ≡ Failed →
@@ -224,6 +226,7 @@ is_read (answer.Balance balance) = tt
 is_read (answer.Refused refusal) = tt
 
 -- an answer is printed: it is a refusal, or all is done
+-- rule: exit-status
 pub answered_ends : (status : Status) (old new : Option (List ℕ)) → PrintsAnswer status old new →
     IsEnded (PrintsAnswer Failed old new) status
 answered_ends Done old new printed = tt
@@ -296,6 +299,7 @@ not_said : (texts : List Text) (said : ProgramWords) (argument : Argument) → I
 unfolding is_ok
 not_said texts said argument h k = true_false (ap is_ok (sym h.means ∙ k.means))
 
+-- rule: exit-status
 pub end_unread : (texts : List Text) (f : WordsFault) (status : Status) → IsUnread texts f →
     IsEndOf f status → IsEnd texts status
 end_unread texts (fault.Unread error) Done unread end =

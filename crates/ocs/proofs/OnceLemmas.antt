@@ -16,6 +16,7 @@ use Rattle.request_lines.specs.Served.{IsAnswered, AreLinesBegun, text_of}
 use Rattle.request_lines.proofs.Answered.{begins}
 use Rattle.ocs.specs.Once.{once_text}
 
+-- rule: once
 pub once-answered : {A E : Type 0} (result : Result A E) (b : Shelf) (c : Book) (credit : ℕ)
     (r w0 w1 : Option (List ℕ)) (old new : Tables) → b ≡ one_book c → old ≡ no_tables →
     OnOk result
@@ -27,6 +28,7 @@ once-answered (Ok x) b c credit (Some stream) w0 w1 old new same none h =
     subst (λ (shelf : Shelf). Appends w0 w1 (text_of shelf [] (Some credit) stream)) same
     (h [] tt (subst (AreTables b []) (sym none) (tables_none (book_days b) (outcome b) b))).written
 
+-- rule: once
 pub once-begun : {A E : Type 0} (result : Result A E) (b : Shelf) (c : Book) (credit : ℕ)
     (r w0 w1 : Option (List ℕ)) (old new : Tables) → b ≡ one_book c → old ≡ no_tables →
     OnErr result

@@ -31,12 +31,14 @@ IfOnce _ says = Unit {0}
 
 -- a refusal of it is printed: of an operator's command, or that the account of a statement isn't
 -- there; no other is refused
+-- rule: exit-status
 abbrev pub IsRefused : ProgramWords → Option Bytes → Option Bytes → Type 0
 IsRefused (words.Office office) old new = PrintsAnswer Failed old new
 IsRefused (words.Statement statement) old new = Appends old new unknown_line
 IsRefused _ old new = ⊥
 
 -- the lines of some file are answered, where it shows its bytes
+-- rule: exit-status
 pub record PrintsLines {File : Type 0} (bytes : File → Option Bytes) (old new : Option Bytes)
     : Type 0 where
   pub file : File
@@ -56,6 +58,7 @@ BeginsLinesOf bytes old new = BeginsSomeLines bytes old new ⊎ (new ≡ old)
 -- an import has printed its counts; an operator's command its answer, and a statement the month
 -- that is asked for or that there is no such account, with which they end so; a replay what the
 -- lines of a file are answered, by the bytes that files show
+-- rule: exit-status
 abbrev pub HasPrinted : {File : Type 0} → (File → Option Bytes) → ProgramWords → Option Bytes →
     Option Bytes → Status → Type 0
 HasPrinted bytes (words.Import import) old new status = PrintsCounts old new
@@ -66,6 +69,7 @@ HasPrinted bytes (words.Replay replay) old new status = PrintsLines bytes old ne
 HasPrinted bytes _ old new status = Unit {0}
 
 -- a statement or a replay has printed a beginning of that, or of the line that it is refused by
+-- rule: exit-status
 abbrev pub HasBegun : {File : Type 0} → (File → Option Bytes) → ProgramWords → Option Bytes →
     Option Bytes → Type 0
 HasBegun bytes (words.Statement statement) old new = BeginsMonthOf statement old new
@@ -98,6 +102,7 @@ pub record HasError (texts : List Text) (text : Bool) : Type 0 where
   pub is : is_text kind ≡ text
 
 -- done where the words say a command, or ask for a text; unread where there is a mistake in them
+-- rule: exit-status
 abbrev pub IsEnd : List Text → Status → Type 0
 IsEnd texts Done = SaysCommand texts ⊎ HasError texts true
 IsEnd texts Failed = Unit {0}

@@ -69,6 +69,7 @@ IsReplayFault (program.Vouchers fault) = ⊥
 -- ---- by what the words say
 
 -- the words come to the fault
+-- rule: exit-status
 abbrev pub IsFaultOf : ProgramWords → ProgramFault → Type 0
 IsFaultOf (words.Once once) = IsOnceFault
 IsFaultOf (words.Init init) = OnlyDone IsInitFault
@@ -90,6 +91,7 @@ IsWriteFault fault = fault ≡ program.Stream stream.Write
 
 -- so it is of what these words say; or memory was refused to read them; or they say no command, and
 -- the text that they ask for wasn't written
+-- rule: exit-status
 abbrev pub IsFaultIn : List Text → ProgramFault → Type 0
 IsFaultIn texts fault = Says texts (λ said. IsFaultOf said fault)
     ⊎ (IsMemoryFault fault ⊎ (((said : ProgramWords) → ¬ IsSaid texts said) × IsWriteFault fault))

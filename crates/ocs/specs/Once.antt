@@ -11,6 +11,7 @@ use Rattle.request_lines.specs.Served.{text_of}
 
 -- the text of a stream, before any command, by a book alone on its shelf: the first request's
 -- account is opened with this amount
+-- rule: once: what `once` writes
 abbrev pub once_text : Book → Micros → Bytes → Bytes
 once_text b credit stream = text_of (one_book b) [] (Some credit) stream
 

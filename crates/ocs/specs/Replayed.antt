@@ -9,6 +9,7 @@ use Rattle.request_lines.specs.Served.{IsAnswered}
 
 -- the lines of a stream are answered, for every list of accepted commands whose tables were found:
 -- their text is written, and the tables are those of their commands too
+-- rule: database-words.opened-in
 abbrev pub IsReplayDone : Bytes → Option Bytes → Option Bytes → Shelf → Tables → Tables → Type 0
 IsReplayDone stream before after shelf old new =
     ForEachList shelf old (IsAnswered shelf None stream before after new)

@@ -132,6 +132,7 @@ pub record ServesConnections (texts : List Text) (old new : Option Bytes) : Type
 -- as it was where the words print nothing before it; of words that aren't read the text is
 -- `clap`'s, and where `clap` takes them the line of the first operand or option whose word isn't
 -- what it takes
+-- rule: exit-status
 abbrev pub IsTold : List Text → Option Bytes → Option Bytes → Status → Option Bytes → Option Bytes →
     Type 0
 IsTold texts before after Done old new = Keeps old new ⊎ ServesConnections texts old new

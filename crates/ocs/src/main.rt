@@ -67,6 +67,7 @@ fn run_own_words(rt: &HostRuntime) -> io::Result<Status> {
 /// were served, each one's fault is one line on `errors`. `Failed` where an operator's command or a
 /// statement is refused, and at a fault, which is one line on `errors`. `Unread` where they aren't
 /// words of the program: then `output` gets nothing, and `errors` a text that says why.
+// rule: once, exit-status
 pub fn run_words<'a, F: Files, I: Read, O: Write, E: Write>(
     rt: &HostRuntime,
     files: &F,

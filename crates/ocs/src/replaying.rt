@@ -51,6 +51,7 @@ pub(crate) fn answer_replay<F: Files, O: Write>(
 
 /// Answers the lines of a reader over the database of the words, whatever its files held (`start`),
 /// and answers its keeper.
+// rule: database-words.opened-in
 fn replay_over<S: Start, R: Read + Drop, O: Write>(
     rt: &HostRuntime,
     replay: &ReplayWords,

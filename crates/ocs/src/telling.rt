@@ -19,6 +19,7 @@ use std::io::{self, Write};
 use texts::{StreamFault, write_whole};
 
 /// Reports that a word isn't what this operand or option takes, as far as it can be written.
+// rule: exit-status
 fn tell_invalid<E: Write>(errors: &mut E, argument: Argument) -> Status
     ensures status { result ≡ Unread }
     ensures told { WritesBeginning (E.contents errors.old) (E.contents errors.new)

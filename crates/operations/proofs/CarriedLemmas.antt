@@ -14,6 +14,7 @@ use Rattle.operations.specs.Told.{answer_line, status_of}
 use Rattle.operations.specs.Written.{WritesBeginning}
 use Rattle.operations.specs.declared.status.Status.{Status}
 
+-- rule: office-commands
 pub carried_out : (b : Shelf) (c : Command) (t : ℕ) (old new : Tables) (tells : Answer → Type 0)
     (given : Answer)
     → Serves b c t old new (Ok given) → tells given → IsCarriedOut b c t old new tells

@@ -78,6 +78,7 @@ so-far-more b list ds d old mid new n x so added = record {
 }
 
 -- with one voucher more
+-- rule: import
 pub one-more : (b : Shelf) (t : ℕ) (list : List Accepted) (rows : List VoucherAddition)
     (row : VoucherAddition) (old mid new : Tables) (n m : Counts) (x : Addition) →
     IsSoFar b list (additions t rows) old mid n →
@@ -92,6 +93,7 @@ one-more b t list rows row old mid new n m x so added e =
 -- ---- at the end
 
 -- with none left, those so far are all
+-- rule: import
 pub whole_of : (rows rest all : List VoucherAddition) → rows ++ rest ≡ all → length rest ≡ 0 →
     rows ≡ all
 whole_of rows [] all e none = sym (append-nil rows) ∙ e
@@ -144,6 +146,7 @@ begun b t rows rest all row old mid new n e so kept = λ list time tables.
     }
 
 -- the same of an answer that is a fault
+-- rule: import
 pub begun_at : (b : Shelf) (t : ℕ) (rows rest all : List VoucherAddition) (row : VoucherAddition)
     (old mid new : Tables) (n : Counts) (r : Result Counts StoreFault) → is_err r ≡ true →
     rows ++ row ∷ rest ≡ all → ImportsSoFar b (additions t rows) old mid n →

@@ -136,6 +136,7 @@ module _ (b : Shelf) (q : MonthQuery) (t : ℕ) (buckets : List BucketRow)
     written = begun w.beginning;
   })
 
+  -- rule: statement.month-told
   pub some_printed : {T : Type 0} (r : Result T StatementFault)
       (result : Result Status OfficeFault) → result ≡ month_ended r → WritesSome old new Text r →
       IfOk result (PrintsMonth b q old new)
@@ -211,6 +212,7 @@ module _ (b : Shelf) (q : MonthQuery) (t : ℕ) (old : Tables) (before after : O
       ∙ sym (ap (λ v. if v then ledger_text b q (moment_of list t) h.ledger
       else unknown_line) opened)
 
+  -- rule: statement.month-told
   pub month_told : (found : Option AccountState) (s : AccountState) (mid : Tables)
       (r : Result Status OfficeFault) →
       TellsState b q.account t old found → found ≡ Some s → mid ≡ old →
@@ -232,6 +234,7 @@ module _ (b : Shelf) (q : MonthQuery) (t : ℕ) (old : Tables) (before after : O
       (subst (λ l. Tells Done before after l r) (text_is list s state.0 state.1) written)
 
   -- of one that isn't there
+  -- rule: statement.month-told
   pub unknown_told : (found : Option AccountState) (r : Result Status OfficeFault) →
       TellsState b q.account t old found → found ≡ None → Tells Failed before after unknown_line r →
       IsMonthTold b q t old before after r

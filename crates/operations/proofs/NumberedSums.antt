@@ -20,6 +20,7 @@ sum_by-numbered f b (x ∷ xs) =
       )
     ]
 
+-- rule: statement-sums
 pub sum_by-by_number : (f : BucketRow → ℕ) (rows : List BucketRow) →
     sum_by f (by_number rows) ≡ sum_by f rows
 sum_by-by_number f [] = refl

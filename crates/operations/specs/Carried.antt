@@ -30,6 +30,7 @@ pub record IsCarriedOutOn (b : Shelf) (c : Command) (t : Moment) (old new : Tabl
   pub served : IsServed b list c (moment_of list t) old new (answer_to b list c (moment_of list t))
   pub told : tells (answer_to b list c (moment_of list t))
 
+-- rule: office-commands: an operator's command is carried out, and answered as a line
 abbrev pub IsCarriedOut : Shelf → Command → Moment → Tables → Tables → (Answer → Type 0) → Type 0
 IsCarriedOut b c t old new tells =
     (list : List Accepted) → IsInTime list → AreTables b list old →
@@ -37,16 +38,20 @@ IsCarriedOut b c t old new tells =
 
 -- a command is carried out and its answer written as a line; where the line isn't written, the
 -- command was carried out; where the store failed, nothing was
+-- rule: office-commands
 pub record ServesOffice {W : Type 0} (contents : W → Option Bytes)
     (b : Shelf) (c : Command) (t : Moment) (old new : Seen) (before after : W)
     (result : Result Status OfficeFault) : Type 0 where
+  -- rule: office-commands
   pub done : new.clean → IfOk result (λ status.
       IsCarriedOut b c t old.tables new.tables (λ answer. (status ≡ status_of answer)
       × Appends (contents before) (contents after) (answer_line answer)))
   pub printed : IfOk result (λ status. PrintsAnswer status (contents before) (contents after))
+  -- rule: office-commands
   pub untold : (fault : StreamFault) → result ≡ Err (Write fault) → new.clean →
       IsCarriedOut b c t old.tables new.tables
       (λ answer. WritesBeginning (contents before) (contents after) (answer_line answer))
+  -- rule: office-commands
   pub unserved : (fault : StoreFault) → result ≡ Err (Store fault) → new.clean →
       new.tables ≡ old.tables
   pub honesty : new.honest → old.honest

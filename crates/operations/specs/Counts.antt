@@ -37,5 +37,6 @@ counts_text n = codes "new " ++ (decimal n.new ++ (codes " present " ++ (decimal
     ++ (codes " conflicting " ++ decimal n.conflicting))))
 
 -- and its line feed
+-- rule: import
 abbrev pub counts_line : Counts → Bytes
 counts_line n = counts_text n ++ 10 ∷ []

@@ -43,6 +43,7 @@ counted_after b list d n = counted (accepts b list d.command (moment_of list d.m
     (answer_to b list d.command (moment_of list d.moment)) n
 
 -- with these commands, each as it was decided after those before it
+-- rule: import
 abbrev pub counts_after : Shelf → List Accepted → List DatedCommand → Counts → Counts
 counts_after b list [] n = n
 counts_after b list (d ∷ ds) n =
@@ -65,6 +66,7 @@ pub record IsImportBegun (b : Shelf) (list : List Accepted) (commands : List Dat
   pub tables : AreTables b (after_commands b list (take count commands)) new
   pub time : IsInTime (after_commands b list (take count commands))
 
+-- rule: import
 abbrev pub Imports : Shelf → List DatedCommand → Tables → Tables → Result Counts StoreFault → Type 0
 Imports b commands old new result =
     (list : List Accepted) → IsInTime list → AreTables b list old →
@@ -90,6 +92,7 @@ HoldsBeginning b commands old held =
     IsBeginningHeld b list commands held
 
 -- all were, and this is so of the counts
+-- rule: import: an import: the vouchers added, and their counts
 pub record IsImportTold (b : Shelf) (list : List Accepted) (commands : List DatedCommand)
     (old new : Tables) (tells : Counts → Type 0) : Type 0 where
   pub imported : IsImported b list commands old new (counts_after b list commands no_counts)

@@ -57,9 +57,11 @@ unknown_line = answer_line (Refused AccountUnknown)
 
 -- what is printed of an account by its history, and how that ends: one that wasn't opened is
 -- refused
+-- rule: statement.month-told
 abbrev pub month_text : Shelf → MonthQuery → Moment → History → Bytes
 month_text b q t h = if h.opened then ledger_text b q t h.ledger else unknown_line
 
+-- rule: statement.month-told
 abbrev pub month_status : History → Status
 month_status h = if h.opened then Done else Failed
 
@@ -73,6 +75,7 @@ pub record Tells (ends : Status) (old new : Option Bytes) (text : Bytes)
 
 -- so the month is printed as of the moment of a command, for every list of accepted commands whose
 -- tables a keeper holds
+-- rule: statement.month-told: an account's month is stated, or that there is no account
 abbrev pub IsMonthTold : Shelf → MonthQuery → Moment → Tables → Option Bytes → Option Bytes →
     Result Status OfficeFault → Type 0
 IsMonthTold b q t tables old new result =
@@ -90,12 +93,14 @@ pub record WritesMonth (b : Shelf) (q : MonthQuery) (Writes : Bytes → Type 0) 
   pub written : Writes (rows_text b q moment charges buckets)
 
 -- it is written where all is done; where it is refused, that the account isn't there
+-- rule: statement.month-told
 abbrev pub PrintsMonth : Shelf → MonthQuery → Option Bytes → Option Bytes → Status → Type 0
 PrintsMonth b q old new Done = WritesMonth b q (Appends old new)
 PrintsMonth b q old new Failed = Appends old new unknown_line
 PrintsMonth b q old new Unread = ⊥
 
 -- or a beginning of one of them
+-- rule: statement.month-told
 abbrev pub BeginsMonth : Shelf → MonthQuery → Option Bytes → Option Bytes → Type 0
 BeginsMonth b q old new =
     WritesMonth b q (WritesBeginning old new) ⊎ WritesBeginning old new unknown_line
@@ -114,6 +119,7 @@ month_ended (Ok written) = Ok Done
 month_ended (Err fault) = Err (month_fault fault)
 
 -- the tables are as before, and store fault 2 comes only with a cause
+-- rule: statement.month-told
 pub record OnlyReads (old new : Seen) (result : Result Status OfficeFault) : Type 0 where
   pub same : new.clean → new.tables ≡ old.tables
   pub cleanness : new.clean → old.clean
@@ -123,13 +129,18 @@ pub record OnlyReads (old new : Seen) (result : Result Status OfficeFault) : Typ
 -- ---- over a keeper
 
 -- an account's month is printed, or that there is no account; nothing is changed
+-- rule: statement.month-told
 pub record ServesStatement {W : Type 0} (contents : W → Option Bytes)
     (b : Shelf) (q : MonthQuery) (t : Moment) (old new : Seen) (before after : W)
     (result : Result Status OfficeFault) : Type 0 where
+  -- rule: statement.month-told
   pub told : new.clean → IsMonthTold b q t old.tables (contents before) (contents after) result
   pub ended : IfOk result (IsEnded (Appends (contents before) (contents after) unknown_line))
+  -- rule: statement.month-told
   pub printed : IfOk result (PrintsMonth b q (contents before) (contents after))
+  -- rule: statement.month-told
   pub begun : OnErr result (BeginsMonth b q (contents before) (contents after))
+  -- rule: statement.month-told
   pub reads : OnlyReads old new result
   pub honesty : new.honest → old.honest
   pub stands : new.honest → OnOk result new.clean

@@ -16,10 +16,12 @@ use Rattle.wire.specs.ReadingAnswers.{is_refusal}
 use Rattle.wire.specs.Spelled.{answer_text}
 
 -- an answer with its line feed
+-- rule: office-commands
 abbrev pub answer_line : Answer → Bytes
 answer_line given = answer_text given ++ 10 ∷ []
 
 -- a refusal is no success
+-- rule: office-commands
 abbrev pub status_of : Answer → Status
 status_of given = if is_refusal given then Failed else Done
 
@@ -45,6 +47,7 @@ place_told None = []
 place_told (Some n) = codes " at record " ++ decimal n
 
 -- the line: `ocs: file fault`, `ocs: store fault 1`
+-- rule: office-commands
 abbrev pub told_line : FaultWords → Bytes
 told_line w = w.line ++ number_told w.number
 
@@ -68,6 +71,7 @@ stream_line stream.Write = codes "ocs: file fault"
 abbrev pub about_stream : StreamFault → FaultWords
 about_stream fault = plain_words (stream_line fault)
 
+-- rule: office-commands
 abbrev pub about_office : OfficeFault → FaultWords
 about_office (Store fault) = about_store fault
 about_office (Write fault) = about_stream fault

@@ -31,6 +31,7 @@ pub(crate) fn no_counts() -> Counts
 }
 
 /// The counts with one voucher more, of which this became.
+// rule: import
 pub(crate) fn count_one(counts: Counts, addition: Addition) -> Counts
     requires { total counts < most_of_64_bits }
     ensures { result ≡ counted_as addition counts }

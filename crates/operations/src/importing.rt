@@ -30,6 +30,7 @@ use voucher_rules::{Addition, add};
 /// # Errors
 /// Store fault 1 where a growth was refused, 2 where the store failed. Then a beginning of the
 /// vouchers was added.
+// rule: import
 pub fn import<K: Keeper>(
     alloc: Global,
     keeper: &mut K,
@@ -78,6 +79,7 @@ fn add_voucher<K: Keeper>(
 /// `Store` where the keeper failed: then a beginning of the vouchers was added, and nothing is
 /// written. `Write` where memory ran out for the line or the writer failed: then all were added,
 /// and a beginning of the line is written.
+// rule: import
 #[tactic(auto, using(crate::proofs::ImportLemmas::told_from, crate::proofs::ImportLemmas::untold_from, crate::proofs::ImportLemmas::begun_from))]
 pub fn serve_import<K: Keeper, W: Write>(
     alloc: Global,

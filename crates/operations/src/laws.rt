@@ -8,6 +8,7 @@ use charging::collection;
 /// To date: what the buckets of money of a statement show as charged together, which it shows as
 /// collected, is what all charges of the account collected, at any moment (TS 32.296, account
 /// balance management function).
+// rule: statement-sums
 pub fn statement_collects()
     ensures { StatementShowsCharged Money }
 {
@@ -17,6 +18,7 @@ pub fn statement_collects()
 /// To date: what the allowances of a statement show as charged together, which it shows as covered,
 /// is the covered blocks of all charges of the account, at any moment (TS 32.296, account balance
 /// management function).
+// rule: statement-sums
 pub fn statement_covers()
     ensures { StatementShowsCharged Blocks }
 {

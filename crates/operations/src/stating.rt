@@ -48,6 +48,7 @@ pub struct MonthQuery {
 /// `Store` where the keeper failed; `Write` where memory ran out for the text, or the writer
 /// failed.
 /// Then a beginning of the text is written.
+// rule: statement.month-told
 pub fn serve_statement<K: ChargeSource, W: Write>(
     alloc: Global,
     keeper: &mut K,

@@ -32,6 +32,7 @@ pub blocks_line : argument_line argument.Blocks ≡ range_line (codes "BLOCKS") 
 unfolding digits
 blocks_line = refl
 
+-- rule: exit-status
 pub port_line : argument_line argument.Port ≡ range_line (codes "--port") 1 most_of_16_bits
 unfolding digits
 port_line = refl

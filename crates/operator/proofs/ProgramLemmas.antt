@@ -22,6 +22,7 @@ use Rattle.operator.specs.declared.fault.WordsFault.TheVariants.{Unread, Invalid
 use Rattle.operator.specs.declared.parsed.ProgramWords.{ProgramWords}
 
 -- the program is one of which clap says all
+-- rule: words
 pub simple_program : is_simple program_app ≡ true
 unfolding clap_on_literals
 simple_program = refl
@@ -47,6 +48,7 @@ joined n w None name rows (Some y) e f = absurd (none_some (name y) (sym e))
 joined n w (Some x) name rows None e f = absurd (none_some (n x) e)
 
 -- an error of clap as a fault of the words
+-- rule: words
 pub refused_by : (kinds : Kinds) (error : Error) (fault : WordsFault) → HasKind kinds error →
     IsRefusal error fault → IsRefused kinds fault
 refused_by kinds error (Unread same) has is = elim has [

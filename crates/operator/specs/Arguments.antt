@@ -26,6 +26,7 @@ argument_id argument.Until = codes "until"
 argument_id argument.Scope = codes "scope"
 argument_id argument.At = codes "at"
 
+-- rule: exit-status
 abbrev pub argument_line : Argument → Text
 argument_line argument.Command = codes "ocs: a command is one that --help lists"
 argument_line argument.Database = codes "ocs: DB takes a path of 1 byte or more"

@@ -17,6 +17,8 @@ moment_said digits =
     if nat_le (length digits) 10 then option_and_then as_command (number_of digits) else None
 
 -- the line is read as its moment and what follows the first space; or it isn't a dated line
+-- rule: dated-lines: a dated line
+-- rule: written-numbers
 abbrev pub IsDated : List ℕ → Option DatedLine → Type 0
 IsDated line (Some d) = (position_or_len (λ b. b == 32) line < length line)
     × (moment_said (before_first (λ b. b == 32) line) ≡ Some d.moment)

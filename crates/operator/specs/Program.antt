@@ -159,5 +159,6 @@ with_commands [] program = program
 with_commands (name ∷ rest) program =
     with_commands rest (with_subcommand program (command_app name).top)
 
+-- rule: words: the words of the command line
 abbrev pub program_app : App
 program_app = with_commands command_names top_app

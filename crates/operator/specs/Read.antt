@@ -29,6 +29,8 @@ abbrev pub texts_of : List (Bor (List ℕ)) → List Text
 texts_of words = map (λ w. w.now) words
 
 -- `clap` takes the words, and they say this
+-- rule: exit-status: how the program ends, by its words
+-- rule: words
 pub record IsSaid (words : List Text) (said : ProgramWords) : Type 0 where
   pub taken : fault_of program_app words ≡ []
   pub means : said_by (subcommand_of program_app words) ≡ Ok said
@@ -39,6 +41,7 @@ pub record IsInvalid (words : List Text) (argument : Argument) : Type 0 where
   pub means : said_by (subcommand_of program_app words) ≡ Err (value.Invalid argument)
 
 -- an error of `clap`, of a kind that it states of the words; or one isn't what its place takes
+-- rule: words
 abbrev pub IsUnread : List Text → WordsFault → Type 0
 IsUnread words (Unread error) = IsAmong (kind_of error) (fault_of program_app words)
 IsUnread words (Invalid argument) = IsInvalid words argument
@@ -88,6 +91,7 @@ pub record IsOfficeInRange (words : OfficeWords) : Type 0 where
 abbrev pub IsStatementInRange : StatementWords → Type 0
 IsStatementInRange statement = IsAtInRange statement.at
 
+-- rule: words
 abbrev pub IsInRange : ProgramWords → Type 0
 IsInRange (words.Once once) = IsOnceInRange once
 IsInRange (words.Book book) = IsBookInRange book

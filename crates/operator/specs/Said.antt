@@ -99,6 +99,7 @@ abbrev pub said_as : {A : Type 0} → (A → ProgramWords) → Result A ValueFau
 said_as words said = said >>= λ x. Ok (words x)
 
 -- what the words of a command say
+-- rule: words
 abbrev pub command_said : CommandName → List Row → Result ProgramWords ValueFault
 command_said name.Once rows = said_as words.Once (once_said rows)
 command_said name.Init rows = said_as words.Init (init_said rows)
@@ -111,6 +112,7 @@ command_said name.Statement rows = said_as words.Statement (statement_said rows)
 command_said name.Replay rows = said_as words.Replay (replay_said rows)
 
 -- what a line's words say, by the command that they name and what it finds
+-- rule: words
 abbrev pub said_by : Option (Text × List Row) → Result ProgramWords ValueFault
 said_by None = Err (Invalid argument.Command)
 said_by (Some (name, rows)) =

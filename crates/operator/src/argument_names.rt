@@ -72,6 +72,7 @@ impl Argument {
     }
 
     /// The line on standard error where a word isn't what it takes, without its line feed.
+    // rule: exit-status
     pub fn line(self) -> &'static str
         ensures { result.now ≡ argument_line self }
     {

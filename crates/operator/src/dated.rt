@@ -17,6 +17,7 @@ pub struct DatedLine<'a> {
 
 /// The moment and the body of a line: a moment of 1 to 10 digits, of a command (0 to
 /// 4,102,444,799), one space, and the rest. None for any other line.
+// rule: written-numbers, dated-lines
 pub fn dated_line<'a>(line: &'a str) -> Option<DatedLine<'a>>
     ensures { IsDated line.entry.now result }
 {

@@ -28,10 +28,14 @@ use std::alloc::Global;
 /// `Unread` where `clap` doesn't take the words, with its error, also where they ask for the help
 /// or the version. `Invalid` where it takes them and one isn't what its place takes, with the first
 /// such place. `Memory` where memory was refused.
+// rule: words, exit-status
 #[tactic(auto, using(crate::proofs::ProgramLemmas::is_said_from, crate::proofs::ProgramLemmas::is_invalid_from, crate::proofs::ProgramLemmas::refused_unread))]
 pub fn program_words<'a>(alloc: Global, words: &'a [&'a str]) -> Result<ProgramWords, WordsFault>
+    // rule: words
     ensures read { IfOk result (IsSaid (texts_of words.entry.now)) }
+    // rule: words
     ensures unread { IfErr result (IsUnread (texts_of words.entry.now)) }
+    // rule: words
     ensures in_range { IfOk result IsInRange }
 {
     // A `match` in place of `?`: the prover has no proof for `?` on a result whose value holds a

@@ -77,6 +77,7 @@ uncovered_sum ts place (suc covered) (suc n) =
     let left : suc n - suc covered ≡ n - covered = sym (less_one n covered) in
     (λ i. rated_amount ts (here i) (left i)) ∙ uncovered_sum ts (place + 1) covered n
 
+-- rule: covered.covers-the-first
 pub covers_the_first : CoversTheFirst
 unfolding report_blocks report_amount report_prices
 covers_the_first p used place covered [] =

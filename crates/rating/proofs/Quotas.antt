@@ -80,6 +80,7 @@ report_most p used place covered (part ∷ parts) =
           omega (arith, here, nothing, behind))
     ]
 
+-- rule: quota
 pub pays_within : PaysWithin
 pays_within p used place covered parts m n more within =
     let b : ℕ = report_blocks p.tariff.block used parts in

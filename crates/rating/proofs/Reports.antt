@@ -128,6 +128,7 @@ amount_after t a place i done left sum n price into next_left total parts within
     omega (arith, amount_step t a (place + done) left i parts no_part within, rest, here, h)
 
 -- two reports after each other
+-- rule: cutting.cuts-alike
 pub follows : (t : GroupPrices) (used place covered : ℕ) (parts more : List Part) →
     FollowsAt t used place covered parts more
 unfolding report_blocks report_amount
@@ -208,6 +209,7 @@ cut_amount t used place covered side one two after some =
           (started (used + one) two t.tariff.block),
     ))
 
+-- rule: rated-amount
 report_is : (t : GroupPrices) (used place covered : ℕ) (xs ys : List Part) →
     report_blocks t.tariff.block used xs ≡ report_blocks t.tariff.block used ys
     → report_amount t used place covered xs ≡ report_amount t used place covered ys →
@@ -220,6 +222,7 @@ report_is t used place covered xs ys blocks amount =
     }
 
 -- anywhere in a report
+-- rule: cutting.cuts-alike
 pub cuts_alike : CutsAlike
 cuts_alike t used place covered before after side one two some =
     let xs = part_of side one ∷ part_of side two ∷ after in

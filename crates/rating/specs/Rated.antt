@@ -11,12 +11,14 @@ use Rattle.rating.specs.declared.report.Part.{Part}
 use Rattle.rating.specs.declared.report.Rated.{Rated}
 
 -- the rated amount of n blocks: the sum of their prices, at the places after one on the counter
+-- rule: rated-amount: the rated amount
 unfoldable pub rated_amount : List Tier → Place → BlockCount → Micros
 rated_amount tiers place zero = 0
 rated_amount tiers place (suc n) = rated_amount tiers place n + block_price tiers (place + suc n)
 
 -- the same of n blocks the first of which are covered: these cost nothing, and each other block
 -- keeps its place
+-- rule: covered: the covered blocks of a report come first, cost nothing and keep their places
 abbrev pub uncovered_amount : List Tier → Place → BlockCount → BlockCount → Micros
 uncovered_amount tiers place covered n = rated_amount tiers (place + covered) (n - covered)
 
@@ -37,6 +39,7 @@ report_amount p used place covered (part ∷ parts) =
     (covered - started used part.units.0 p.tariff.block) parts
 
 -- a report's price: its rated amount, its blocks, and how many of them are covered
+-- rule: rated-amount, covered
 abbrev pub rated_report : GroupPrices → UnitCount → Place → BlockCount → List Part → Rated
 rated_report p used place covered parts = record {
   amount = record { 0 = report_amount p used place covered parts };
@@ -50,6 +53,7 @@ part_of side units = record { side = side; units = record { 0 = units } }
 
 -- the law of cutting: units used in two parts on one side, with nothing between, start and cost
 -- what they do as one
+-- rule: cutting.cuts-alike: a report in two parts costs the same
 abbrev pub CutsAlike : Type 0
 CutsAlike =
     (p : GroupPrices) (used : UnitCount) (place : Place) (covered : BlockCount)
@@ -76,6 +80,7 @@ pub record FollowsAt (p : GroupPrices) (used : UnitCount) (place : Place) (cover
       (place + report_blocks p.tariff.block used parts)
       (covered - report_blocks p.tariff.block used parts) more
 
+-- rule: cutting.cuts-alike
 abbrev pub FollowsOn : Type 0
 FollowsOn = (p : GroupPrices) (used : UnitCount) (place : Place) (covered : BlockCount)
     (parts more : List Part) →
@@ -94,6 +99,7 @@ block_prices tiers place zero = []
 block_prices tiers place (suc n) = block_price tiers (place + 1) ∷ block_prices tiers (place + 1) n
 
 -- the prices of the blocks that a report starts, each on its part's side and at its own place
+-- rule: covered.covers-the-first
 unfoldable pub report_prices : GroupPrices → UnitCount → Place → List Part → List Micros
 report_prices p used place [] = []
 report_prices p used place (part ∷ parts) =
@@ -103,6 +109,7 @@ report_prices p used place (part ∷ parts) =
 
 -- each started block has its price at its own place, and the rated amount is the sum of these
 -- prices without the first ones, which are covered
+-- rule: covered.covers-the-first
 pub record CoversAt (p : GroupPrices) (used : UnitCount) (place : Place) (covered : BlockCount)
     (parts : List Part) : Type 0 where
   pub blocks : report_blocks p.tariff.block used parts
@@ -110,6 +117,8 @@ pub record CoversAt (p : GroupPrices) (used : UnitCount) (place : Place) (covere
   pub amount : report_amount p used place covered parts
       ≡ sum_by (λ price. price) (drop covered (report_prices p used place parts))
 
+-- rule: covered.covers-the-first: what is covered costs nothing, and each block has the price at
+--   its own place
 abbrev pub CoversTheFirst : Type 0
 CoversTheFirst = (p : GroupPrices) (used : UnitCount) (place : Place) (covered : BlockCount)
     (parts : List Part) →

@@ -113,6 +113,7 @@ first_before b cs true h = refl
 first_before b cs false h = ap (prepend b) h
 
 -- a stream's lines are its first one and those after it
+-- rule: lines
 pub lines_first : (b : ℕ) (bs : List ℕ) →
     lines_of (b ∷ bs) ≡ line_of (b ∷ bs) ∷ lines_of (after_line (b ∷ bs))
 lines_first b [] = first_alone b (b == 10)
@@ -141,6 +142,7 @@ line_first (b ∷ bs) line left h =
     (h.1, lines_first b bs ∙ ap (λ l. l ∷ lines_of (after_line (b ∷ bs))) (sym h.0))
 
 -- a line more
+-- rule: lines
 pub read-line : (r0 r1 r2 : Option (List ℕ)) (line : Vec ℕ Global) (old new : Input) →
     IfSome r0 (λ stream. IsReadSoFar stream r1 old) →
     IfSome r1 (λ stream. IsLineOf stream (Some line) r2) →

@@ -110,6 +110,7 @@ texts_first lines answers d i n o text lt item told =
     (told ∙ ap (line_text fault) (answer_at answers n o item))
 
 -- and the place of the answer after it
+-- rule: request-lines
 pub texts_next : (lines : List Line) (answers : List Answer) (d : Line) (i n next : ℕ)
     (o : Option (Bor Answer)) (request : Bool) (text : List ℕ) → i < length lines →
     IsItemAt answers n o →

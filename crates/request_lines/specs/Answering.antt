@@ -15,19 +15,27 @@ use Rattle.request_lines.specs.declared.fault.LinesFault.TheVariants.{Read, Writ
 
 -- each line is answered, or a beginning of them is, and the fault says which; a stop leaves what
 -- was there, or that with a beginning of the requests
+-- rule: request-lines
 pub record LinesOver {A K W : Type 0} (seen : K → Seen) (contents : W → Option Bytes)
     (b : Shelf) (opening : Option Micros) (bytes : Option Bytes) (old new : K) (before after : W)
     (result : Result A LinesFault) : Type 0 where
+  -- rule: request-lines
   pub answers : AnswersLines b opening bytes (contents before) (contents after) (seen old)
       (seen new) result
+  -- rule: request-lines
   pub told : OnOk result (IfSome bytes (TellsLines (contents before) (contents after)))
   pub begun : OnErr result (IfSome bytes (BeginsLines (contents before) (contents after)))
+  -- rule: request-lines
   pub unread : (fault : StreamFault) → result ≡ Err (Read fault) → new ≡ old
+  -- rule: request-lines
   pub unwritten : (fault : StreamFault) → result ≡ Err (Read fault) → after ≡ before
   pub fault : (fault : StreamFault) → result ≡ Err (Write fault) → fault ≢ ReadFailed
   pub honesty : (seen new).honest → (seen old).honest
+  -- rule: request-lines
   pub stands : (seen new).honest → (seen old).clean → OnOk result (seen new).clean
+  -- rule: request-lines
   pub asked : (fault : StreamFault) → result ≡ Err (Write fault) → (seen new).honest →
       (seen old).clean → (seen new).clean
+  -- rule: request-lines
   pub left : (seen old).clean → Leaves (seen old) (seen new) (λ t. IfSome bytes (λ stream.
       HoldsBeginning b (commands_of opening stream) (seen old).tables t))

@@ -19,15 +19,18 @@ abbrev pub is_parted : Bytes → Bool
 is_parted line = is_utf8 line && nat_lt (position_or_len (λ b. b == 32) line) (length line)
 
 -- the moment before the first space
+-- rule: dated-lines.line-request
 abbrev pub line_moment : Bytes → Option Moment
 line_moment line = if is_parted line then moment_said (before_first (λ b. b == 32) line) else None
 
 -- what follows the first space
+-- rule: dated-lines.line-request
 abbrev pub line_rest : Bytes → Bytes
 line_rest line = after_first (λ b. b == 32) line
 
 -- the request of a line, or the first fault: it isn't a moment of 1 to 10 digits, a space and a
 -- body; then the body's
+-- rule: dated-lines.line-request: the moment and the request of a line, or its first fault
 abbrev pub line_request : Bytes → Result DatedCommand WireFault
 line_request line =
     or_fault NotRequest (line_moment line) >>= λ t.

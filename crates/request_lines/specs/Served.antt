@@ -102,6 +102,7 @@ told_text amount stream answers =
     answer_texts (faults_in stream) (drop (length (opening_in amount stream)) answers)
 
 -- the text of a stream, after a list of accepted commands
+-- rule: request-lines: what the program writes of lines
 abbrev pub text_of : Shelf → List Accepted → Option Micros → Bytes → Bytes
 text_of b list amount stream =
     told_text amount stream (answers_to b list (commands_of amount stream))
@@ -114,6 +115,7 @@ text_to count b list amount stream =
 -- ---- a run
 
 -- all is written, and the tables are those of all commands
+-- rule: request-lines
 pub record IsAnswered (b : Shelf) (opening : Option Micros) (stream : Bytes)
     (old new : Option Bytes) (content : Tables) (list : List Accepted) : Type 0 where
   pub written : Appends old new (text_of b list opening stream)
@@ -135,6 +137,7 @@ pub record IsShort (b : Shelf) (opening : Option Micros) (stream : Bytes) (Write
   pub written : Writes (text_to count b list opening stream)
 
 -- all of that text
+-- rule: request-lines
 abbrev pub IsStopped : Shelf → Option Micros → Bytes → Option Bytes → Option Bytes → Tables →
     List Accepted → Type 0
 IsStopped b opening stream old new content list =
@@ -147,6 +150,7 @@ IsCut b opening stream old new content list =
     IsShort b opening stream (WritesBeginning old new) content list
 
 -- the same, where all commands may have been run
+-- rule: request-lines
 pub record AreLinesBegun (b : Shelf) (opening : Option Micros) (stream : Bytes)
     (old new : Option Bytes)
     (content : Tables) (list : List Accepted) : Type 0 where
@@ -172,12 +176,16 @@ pub record IsRunOpened {F : Type 0} (b : Shelf) (opening requests : List DatedCo
 
 -- what answering lines leaves of a keeper that stays clean, where the reader shows its bytes: all
 -- are answered, or a beginning of them, and the faults of the keeper and of the writer say which
+-- rule: request-lines
 pub record AnswersLines {A : Type 0} (b : Shelf) (opening : Option Micros)
     (bytes empty full : Option Bytes) (old new : Seen) (result : Result A LinesFault) : Type 0 where
+  -- rule: request-lines
   pub answered : new.clean → OnOk result (IfSome bytes (λ stream. ForEachList b old.tables
       (IsAnswered b opening stream empty full new.tables)))
+  -- rule: request-lines
   pub begun : new.clean → OnErr result (IfSome bytes (λ stream. ForEachList b old.tables
       (AreLinesBegun b opening stream empty full new.tables)))
+  -- rule: request-lines
   pub stopped : (fault : StoreFault) → result ≡ Err (Store fault) → new.clean →
       IfSome bytes (λ stream. ForEachList b old.tables
       (IsStopped b opening stream empty full new.tables))
@@ -187,6 +195,7 @@ pub record AnswersLines {A : Type 0} (b : Shelf) (opening : Option Micros)
   pub untold : (fault : StreamFault) → result ≡ Err (Write fault) → new.clean →
       IfSome bytes (λ stream. ForEachList b old.tables
       (IsUntold b opening stream empty full new.tables))
+  -- rule: request-lines
   pub continued : new.clean → Continues b old.tables new.tables
   pub cleanness : new.clean → old.clean
   pub failures : old.failed ≤ new.failed
@@ -197,6 +206,7 @@ pub record AnswersLines {A : Type 0} (b : Shelf) (opening : Option Micros)
 -- ---- whatever a keeper holds
 
 -- each line of a stream is answered its fault or an answer, and none is left out
+-- rule: request-lines
 pub record TellsLines (old new : Option Bytes) (stream : Bytes) : Type 0 where
   pub answers : List Answer
   pub all : length answers ≡ length (requests_in stream)

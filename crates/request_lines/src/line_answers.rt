@@ -38,6 +38,7 @@ use units::Money;
 /// answers before that are written. `Both` where writing those failed too: then a beginning of them
 /// is written. `Write` where all requests were run, and memory ran out for an answer's text or the
 /// writer failed: then a beginning of the answers is written.
+// rule: request-lines
 pub fn lines<K: Keeper, R: Read, W: Write>(
     alloc: Global,
     keeper: &mut K,

@@ -26,6 +26,7 @@ fn parted(line: &[u8]) -> Option<DatedLine<'_>>
 /// # Errors
 /// The first fault: `NotRequest` where the line isn't UTF-8, or isn't a moment of 1 to 10 digits, a
 /// space and a body, then those of `read_request`; `Memory` where a growth was refused.
+// rule: dated-lines.line-request
 pub fn read_line(
     alloc: Global,
     line: &[u8],

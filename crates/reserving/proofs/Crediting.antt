@@ -140,6 +140,7 @@ IsSoundLedger-credited t kind from until scope amount ledger sound = record {
   free = λ n p le. omega (arith, sound.free n p (omega (arith, le)));
 }
 
+-- rule: credit
 pub IsRowsOf-credited : (ledger : Ledger) (a : AccountRows) (t : ℕ) (kind : BucketKind)
     (from until : ℕ) (scope : Option ℕ)
     (amount : ℕ) → IsAccount a → IsRowsOf ledger a → a.as_of ≤ t →

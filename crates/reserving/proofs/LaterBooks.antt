@@ -112,6 +112,7 @@ has_same from f h g c (d ∷ older) agree before =
 -- ---- the rows of a ledger
 
 -- with the books that began before the moment and others from it on
+-- rule: later-books.leave-the-same
 pub rows_go_on : (from : ℕ) (ledger : Ledger) (a : AccountRows) (u : Shelf) →
     GoesOnFrom from a.shelf u → IsBefore from ledger → IsRowsOf ledger a →
     IsRowsOf ledger (record a { shelf = u })

@@ -136,6 +136,7 @@ module _ (from : ℕ) (b u : Shelf) (on : GoesOnFrom from b u) (t : ℕ) (early 
         + allowance g t (rows_same i)
 
     -- a report has one price
+    -- rule: later-books.leave-the-same
     pub price_same : (session : List ℕ) (g : ℕ) (used_parts : List UsedPart) →
         report_price b t session g used_parts ledger ≡ report_price u t session g used_parts ledger
     price_same session g used_parts =
@@ -164,6 +165,7 @@ module _ (from : ℕ) (b u : Shelf) (on : GoesOnFrom from b u) (t : ℕ) (early 
         (due_of r) rows) rows) ++ ledger
 
     -- and one settlement
+    -- rule: later-books.leave-the-same
     pub settled_same : (session : List ℕ) (g : ℕ) (used_parts : List UsedPart) →
         settled_by b t session g used_parts ledger ≡ settled_by u t session g used_parts ledger
     settled_same session g [] = refl
@@ -179,6 +181,7 @@ module _ (from : ℕ) (b u : Shelf) (on : GoesOnFrom from b u) (t : ℕ) (early 
         (price_same session g (p ∷ ps) i).blocks (next_charge ledger)
 
     -- what is granted, and the ledger with the grant
+    -- rule: later-books.leave-the-same
     pub grant_same : (g used_before : ℕ) (requested : Option ℕ) →
         grant_for b t g used_before requested ledger ≡ grant_for u t g used_before requested ledger
     grant_same g used_before requested =

@@ -68,6 +68,7 @@ long_take zero xs h = refl
 long_take (suc m) [] h = absurd (omega (arith, h))
 long_take (suc m) (x ∷ xs) h = ap suc (long_take m xs (omega (arith, h)))
 
+-- rule: database-writes.quiet-at
 pub moved_all : {A : Type 0} (first count : ℕ) (old new : List A) → first + count ≤ length old
     → AreMoved first count old new → take count new ≡ take count (drop first old)
 moved_all first count old [] within m = at count within m
@@ -114,6 +115,7 @@ one_at n [] d h = absurd (omega (arith, h))
 one_at zero (x ∷ xs) d h = refl
 one_at (suc n) (x ∷ xs) d h = one_at n xs d (omega (arith, h))
 
+-- rule: database-writes.quiet-at
 pub own_at : (s : List ℕ) (place : ℕ) (xs : List Session)
     → AreApart (λ x y. is_session x.id y) xs → position (is_session s) xs ≡ Some place
     → take 1 (drop place xs) ≡ own_sessions s xs

@@ -181,6 +181,7 @@ taken s (suc m) (y ∷ ys) none its others le =
     (sym (texts_ties y.session s ∙ between (order y.session s) (none zero y (omega arith))
     (unlater (is_later s y) (its zero y (omega arith)))))
 
+-- rule: database-writes.quiet-at
 pub own_found : (s : List ℕ) (xs rest mine : List SessionGroup) (n m : ℕ) → n ≤ length xs
     → rest ≡ slice_range xs n (length xs)
     → IsPartitionPoint (λ r. is_earlier s r ≡ true) (λ r. is_earlier s r ≡ false) xs n

@@ -363,6 +363,7 @@ quota_allowed a s g t requested units grant q = by_tariff (tariff_at a.shelf t g
         omega (arith, none)
     by_tariff (Some x) e = (q.greatest x e).allowed
 
+-- rule: grant-held, grant-covers
 pub grant_is : (ledger : Ledger) (a middle after : AccountRows) (s : List ℕ) (g t : ℕ)
     (requested : Option ℕ) (wanted : ℕ) (grant : Grant) (at : Option ℕ) (validity : ℕ)
     (fewer : Bool) →

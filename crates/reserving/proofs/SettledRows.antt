@@ -425,6 +425,7 @@ same_cycle f group g c = same_tests (is_cycle group (f group) g c) (group == g &
     (λ q. (λ i. is_cycle group (f (cycle_group group (f g) g c q i)) g c) ∙ q)
 
 -- the counters of a ledger with one use more
+-- rule: counters, use-counts
 pub counters_used : (cycle_of : ℕ → ℕ → ℕ) (t group blocks : ℕ) (ledger after : Ledger)
     (rows : List Counter) →
     ((f : ℕ → ℕ) (g c : ℕ) →
@@ -828,6 +829,7 @@ price_in_is ledger a s g used_parts account rows live =
     (used_in_is ledger a s g rows i) (count_in_is ledger a g (cycle_at a.shelf g a.as_of) rows i)
     (coverable_in_is ledger a s g account rows live i) used_parts
 
+-- rule: settle-order
 pub IsRowsOf-settled_by : (ledger : Ledger) (a : AccountRows) (session : List ℕ) (group : ℕ)
     (used_parts : List UsedPart) →
     IsAccount a → IsRowsOf ledger a → is_live (validity_of a.shelf) a.as_of ledger session ≡ true →

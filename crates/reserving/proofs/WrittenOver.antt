@@ -146,6 +146,7 @@ held_same r (x ∷ xs) rows b h =
     (other_kept r x rows h.0) in
     omega (arith, one, held_same r xs rows b h.1)
 
+-- rule: database-writes.rows-written
 pub held_written : (named rows : List SessionGroup) (b : BucketRow) →
     AreApart (λ x y. is_of x.session x.group y) named →
     held_by (λ s. true) (groups_written named rows) b + held_before named rows b
@@ -249,6 +250,7 @@ order_there named rows old new e groups h =
 
 -- ---- all of it
 
+-- rule: database-writes.rows-written
 pub writable_told : (w v : StoredRows) → IsSound w.buckets → IsStoredInOrder v →
     is_writable w v ≡ true → IsStoredInOrder (rows_written w v)
 writable_told w v sound kept e =

@@ -48,6 +48,7 @@ pub record Tells {T : Type 0} (t : Moment) (a : AccountRows) (given by_rows : T)
     (by_ledger : Ledger → T) : Type 0 where
   pub rows : given ≡ by_rows
   pub ledger : (ledger : Ledger) → IsRowsOf ledger a → given ≡ by_ledger ledger
+  -- rule: database-loads, database-loads.with
   pub left : (ledger : Ledger) (left : LeftRows) → IsWith ledger left t a →
       given ≡ by_ledger ledger
 
@@ -131,12 +132,14 @@ pub record Credits (kind : BucketKind) (from until : Moment) (scope : Option Gro
 -- ---- settlements
 
 -- a report is settled within the limits and its reservation ends; at an error nothing has changed
+-- rule: database-loads
 pub record Settles (session : SessionName) (group : GroupId) (used_parts : List UsedPart)
     (t : Moment) (before after : AccountRows) (result : Result Settled AccountFault) : Type 0 where
   pub rows : OnOk result ((ledger : Ledger) → IsRowsOf ledger before →
       IsRowsOf (settled_by before.shelf t session group used_parts ledger) after)
   pub left : OnOk result ((ledger : Ledger) (left : LeftRows) → IsWith ledger left t before →
       IsWith (settled_by before.shelf t session group used_parts ledger) left t after)
+  -- rule: grant-units.passes-in
   pub by_rows : OnOk result (after ≡ settled_by_rows session group used_parts (advanced t before))
   pub as_of : OnOk result (after.as_of ≡ t)
   pub tariff : after.shelf ≡ before.shelf
@@ -155,6 +158,7 @@ pub record Settles (session : SessionName) (group : GroupId) (used_parts : List 
       IsWith ledger left t before →
       passes_limit before.shelf t session group used_parts ledger ≡ true
   pub within_rows : OnOk result (passes_in session group t used_parts before ≡ false)
+  -- rule: grant-units.passes-in
   pub limit_rows : result ≡ Err Limit → passes_in session group t used_parts before ≡ true
   pub ended : used_parts ≡ [] → IsOk result
   pub free : OnOk result (reservation_in session group after.groups ≡ None)
@@ -166,6 +170,7 @@ pub record Settles (session : SessionName) (group : GroupId) (used_parts : List 
 
 -- an event's units are charged, where they are covered and stay within the limits; else nothing has
 -- changed
+-- rule: database-loads.with
 pub record Debits (session : SessionName) (group : GroupId) (units : UnitCount) (t : Moment)
     (before after : AccountRows) (result : Result (Option Settled) AccountFault) : Type 0 where
   pub debit : IfOk result (λ s. (ledger : Ledger) → IsRowsOf ledger before →
@@ -181,6 +186,7 @@ pub record Debits (session : SessionName) (group : GroupId) (units : UnitCount) 
       group_in session group left.groups ≡ None → IsWith ledger left t before →
       (is_covered before.shelf t group units ledger ≡ true) ×
       (debit_passes before.shelf t session group units ledger ≡ true)
+  -- rule: grant-units.passes-in
   pub covered_rows : IfOk result (λ s. is_some s ≡ is_covered_in group units t before)
   pub within_rows : IfOk result
       (λ s. IfSome s (λ given. debit_passes_in session group units t before ≡ false))
@@ -202,6 +208,7 @@ pub record Debits (session : SessionName) (group : GroupId) (units : UnitCount) 
 -- ---- reservations
 
 -- as much is reserved as the funds cover; at an error, which is lack of memory, nothing has changed
+-- rule: database-loads.with
 pub record Reserves (session : SessionName) (group : GroupId) (requested : Option UnitCount)
     (t : Moment) (before after : AccountRows) (result : Result Granted AccountFault) : Type 0 where
   pub rows : IfOk result (λ granted. (ledger : Ledger) → IsRowsOf ledger before →
@@ -223,6 +230,7 @@ pub record Reserves (session : SessionName) (group : GroupId) (requested : Optio
 
 -- the rows that may still change at a moment are loaded, on the shelf that placed their
 -- reservations
+-- rule: database-loads
 pub record Loads (shelf : Shelf) (t : Moment) (others : List Counter) (w : StoredRows)
     (result : Result AccountRows LoadFault) : Type 0 where
   pub rows : IfOk result (λ account. account ≡ live_part shelf t others w)

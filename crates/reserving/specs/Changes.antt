@@ -51,6 +51,7 @@ lapse_group keeps r = if keeps r.session then r else record r { reservation = No
 abbrev pub lapsed_in : (SessionName → Bool) → List SessionGroup → BucketRow → BucketAmount
 lapsed_in keeps groups b = held_by (λ s. not (keeps s)) groups b
 
+-- rule: going-on.advanced-alike
 abbrev pub advanced : Moment → AccountRows → AccountRows
 advanced t a = record a {
   as_of = t;
@@ -147,6 +148,8 @@ price_in s g t used_parts a =
     (count_in g (cycle_at a.shelf g t) a.counters) (coverable_in s g t a) used_parts
 
 -- a stored number would pass its limit, by the rows
+-- rule: grant-units.passes-in: limits, what is covered and what is granted, of any account's rows,
+--   also of no ledger
 abbrev pub passes_in : SessionName → GroupId → Moment → List UsedPart → AccountRows → Bool
 passes_in s g t [] a = false
 passes_in s g t (p ∷ ps) a =
@@ -172,11 +175,13 @@ abbrev pub rest_price_in : GroupId → UnitCount → Moment → AccountRows → 
 rest_price_in g units t a = event_price_in g (allowance g t (advanced t a).buckets) units t a
 
 -- the eligible buckets have this price
+-- rule: grant-units.passes-in
 abbrev pub is_covered_in : GroupId → UnitCount → Moment → AccountRows → Bool
 is_covered_in g units t a =
     nat_le (rest_price_in g units t a).amount.0 (funds g t (advanced t a).buckets)
 
 -- a stored number would pass its limit
+-- rule: grant-units.passes-in
 abbrev pub debit_passes_in : SessionName → GroupId → UnitCount → Moment → AccountRows → Bool
 debit_passes_in s g units t a =
     passes (used_in s g a.groups) units (count_in g (cycle_at a.shelf g t) a.counters)
@@ -205,6 +210,7 @@ debited_account s g units blocks due a = record a {
 -- ---- reservation
 
 -- what a session would be granted, by the rows
+-- rule: grant-units.passes-in
 abbrev pub granted_in : SessionName → GroupId → Moment → Option UnitCount → AccountRows → Grant
 granted_in s g t requested a =
     grant_with (tariff_at a.shelf t g) (periods_at a.shelf t) (used_in s g a.groups)

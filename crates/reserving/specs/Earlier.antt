@@ -23,6 +23,7 @@ own_stored s r = record r {
 }
 
 -- the rows of all sessions, or of one alone where no other may change
+-- rule: database-writes.quiet-at
 abbrev pub earlier_of : Option SessionName → StoredRows → StoredRows
 earlier_of None r = r
 earlier_of (Some s) r = own_stored s r

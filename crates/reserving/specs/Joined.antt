@@ -20,6 +20,7 @@ use Rattle.reserving.specs.Rows.{AccountRows}
 use Rattle.reserving.specs.Left.{LeftRows, NotLeft, IsJoined}
 
 -- `advance`
+-- rule: database-loads.joined
 abbrev pub StaysAdvanced : Type 0
 StaysAdvanced = (ledger : Ledger) (left : LeftRows) (t : Moment) (a : AccountRows) → a.as_of ≤ t →
     IsJoined ledger left a → IsJoined ledger left (advanced t a)
@@ -70,6 +71,7 @@ StaysCredited = (ledger : Ledger) (left : LeftRows) (t : Moment) (a : AccountRow
     (advanced t (credited_account kind from until scope amount a))
 
 -- `funds` and `allowance`
+-- rule: database-loads.joined
 pub record IsReadJoined (ledger : Ledger) (left : LeftRows) (t : Moment) (a : AccountRows)
     : Type 0 where
   pub funds_are : (g : GroupId) →

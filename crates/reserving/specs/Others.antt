@@ -36,6 +36,7 @@ other_rows s a = record {
 }
 
 -- nothing of them ends by a moment
+-- rule: database-writes.quiet-at
 pub record AreStill (t : Moment) (rows : OtherRows) : Type 0 where
   pub sessions : EachIn (λ r. lapse (validity_of rows.shelf) t r ≡ r) rows.sessions
   pub groups : EachIn
@@ -50,6 +51,7 @@ own_sessions s rows = filter (is_session s) rows
 -- where groups are in the order of their keys, its own are behind those of earlier sessions and
 -- before those of later ones
 
+-- rule: database-writes.quiet-at
 abbrev pub own_groups : SessionName → List SessionGroup → List SessionGroup
 own_groups s rows = filter (λ r. is_same r.session s) rows
 
@@ -62,6 +64,7 @@ is_later s r = is_gt (slice_cmp nat_cmp r.session s)
 -- ---- what calls leave
 
 -- a call on a session at a moment leaves the others' rows as they are, where nothing of them ends
+-- rule: database-writes.quiet-at
 abbrev pub OthersStay : SessionName → Moment → AccountRows → AccountRows → Type 0
 OthersStay s t before after = AreStill t (other_rows s before) →
     other_rows s after ≡ other_rows s before

@@ -37,6 +37,7 @@ pub record IsSettlementOf (b : Shelf) (t : Moment) (session : SessionName) (grou
 -- ---- grants
 
 -- units that are granted: their price is held
+-- rule: final-units
 pub record IsGrantOf (b : Shelf) (t : Moment) (session : SessionName) (group : GroupId)
     (requested : Option UnitCount) (ledger : Ledger) (after : AccountRows) (given : UnitCount)
     (at : Option Moment) (seconds : Seconds) (final : Bool) : Type 0 where
@@ -81,6 +82,7 @@ pub record IsGrantIn (session : SessionName) (group : GroupId) (t : Moment)
       ≡ reserved_account session group (held_due (granted_in session group t requested before))
       (advanced t before)
 
+-- rule: grant-units.passes-in
 abbrev pub GivesGrantIn : SessionName → GroupId → Moment → Option UnitCount → AccountRows →
     AccountRows → Granted → Type 0
 GivesGrantIn session group t requested before after Nothing =

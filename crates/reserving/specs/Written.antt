@@ -31,6 +31,8 @@ abbrev pub counters_written : List Counter → List Counter → List Counter
 counters_written = written counter_before (λ x y. is_counter x.group x.cycle y)
 
 -- an account's rows once these are written over them; the buckets are all given
+-- rule: database-writes.rows-written: rows are written over those of their keys, and what is
+--   reserved is held as before
 abbrev pub rows_written : StoredRows → StoredRows → StoredRows
 rows_written w v = record w {
   counters = counters_written w.counters v.counters;
@@ -62,6 +64,7 @@ are_held_on named rows (x ∷ xs) (y ∷ ys) =
     is_held_on named rows x y && are_held_on named rows xs ys
 
 -- the rows that are written are in the order of their keys, and keep what is held
+-- rule: database-writes.rows-written
 abbrev pub is_writable : StoredRows → StoredRows → Bool
 is_writable w v =
     are_keys_ascending w && are_in_range w

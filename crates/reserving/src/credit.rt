@@ -20,6 +20,7 @@ impl<'b> Account<'b> {
     /// # Errors
     /// `Limit` exactly where the bucket's number would pass 4,294,967,295, else `Memory`: a growth
     /// was refused. Then the account is unchanged.
+    // rule: credit
     pub fn credit(
         &mut self,
         from: Moment,
@@ -42,6 +43,7 @@ impl<'b> Account<'b> {
     /// # Errors
     /// `Limit` exactly where the bucket's number would pass 4,294,967,295, else `Memory`: a growth
     /// was refused. Then the account is unchanged.
+    // rule: allowance
     pub fn allow(
         &mut self,
         from: Moment,

@@ -24,6 +24,7 @@ impl<'b> Account<'b> {
     /// What the units of an event cost: they start blocks from no use on, at the period of the
     /// moment (RFC 8506 section 6.1; TS 32.296, rating function). It takes no memory and changes
     /// nothing.
+    // rule: event-price, check, enquiry
     pub fn quote(&self, group: u32, units: Units, moment: Moment) -> Amount
         ensures { Tells moment self.now result.0
             (event_price_in group 0 units.0 moment self.now).amount.0
@@ -45,6 +46,7 @@ impl<'b> Account<'b> {
 
     /// The blocks that an event's units start, and what those cost that the allowance doesn't
     /// cover.
+    // rule: event-price
     fn rest_price(&self, group: u32, units: Units, moment: Moment) -> Rated
         requires { self.now.as_of ≤ moment }
         ensures value { result ≡ rest_price_in group units.0 moment self.now }
@@ -85,6 +87,7 @@ impl<'b> Account<'b> {
     /// `Limit` only where the price is covered and the session's use, the group's counter or the
     /// number of the charge would pass its limit, else `Memory`: a growth was refused. Then the
     /// account is unchanged.
+    // rule: grant-units.passes-in, debit, database-loads.with
     pub fn debit(
         &mut self,
         session: &SessionId,

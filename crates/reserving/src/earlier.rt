@@ -70,6 +70,7 @@ impl<'b> Account<'b> {
     ///
     /// # Errors
     /// Out of memory.
+    // rule: database-writes.quiet-at
     pub fn earlier(&self, own: Option<&SessionId>) -> Result<EarlierRows, AllocError>
         ensures { IfOk result
             (λ rows. rows ≡ earlier_of (option_copied own.entry) (stored self.now)) }

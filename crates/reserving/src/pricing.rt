@@ -33,6 +33,7 @@ pub(crate) struct GrantWindow {
 }
 
 /// The validity of a grant of this moment.
+// rule: switch.switch-by, validity
 pub(crate) fn window_at(book: &TariffBook, moment: Moment) -> GrantWindow
     ensures periods { result.periods ≡ periods_by book.now moment }
     ensures of_book { AreOfBook book.now result.periods }
@@ -88,6 +89,7 @@ fn reach(book: &TariffBook, moment: Moment) -> u32
 }
 
 /// The prices of a rating group by the terms of a grant.
+// rule: report-book, report-period
 pub(crate) fn prices_by(shelf: &TariffShelf, group: u32, terms: Terms) -> Option<Prices<'_>>
     requires { AreOfShelf shelf.now terms }
     ensures { result
@@ -125,6 +127,7 @@ pub(crate) struct Tally {
 }
 
 /// Counts the units of a report's parts.
+// rule: report-order
 pub(crate) fn tally_of(parts: &[UsedPart]) -> Tally
     ensures untagged { result.untagged ≡ units_of None parts.now }
     ensures before { result.before ≡ units_of (Some UnitBeforeTariffChange) parts.now }
@@ -187,6 +190,7 @@ fn part(side: Side, units: u128) -> Part
 
 /// What a report costs by the prices of its group, after a use so far and from a place of the
 /// counter on, where its first blocks are covered.
+// rule: report-order
 pub(crate) fn price(prices: &Prices, used: u64, place: u64, covered: Blocks, tally: &Tally) -> Rated
     requires { tally.now.untagged + tally.now.before + tally.now.indeterminate + tally.now.after
         < 2 ^ 64 }
@@ -206,6 +210,7 @@ pub(crate) fn price(prices: &Prices, used: u64, place: u64, covered: Blocks, tal
 
 /// The units that are wanted of a group: what is requested, or its slice, and never more than its
 /// greatest grant.
+// rule: wanted
 pub(crate) fn wanted_of(tariff: &Tariff, requested: Option<Units>) -> u64
     ensures value { result ≡ wanted_units tariff.now (option_map (λ u. u.0) requested) }
     ensures most { result ≤ tariff.now.max_grant }

@@ -62,6 +62,7 @@ impl<'b> Account<'b> {
     ///
     /// # Errors
     /// `Memory` and no other: a growth was refused. Then the account is unchanged.
+    // rule: grant-terms.terms-at, grant-units.passes-in, grant-held, database-loads.with
     pub fn reserve(
         &mut self,
         session: &SessionId,
@@ -132,6 +133,7 @@ impl<'b> Account<'b> {
     }
 
     /// The greatest grant that the funds cover at a moment, after a use.
+    // rule: grant-held, grant-covers
     fn quota_after(
         &self,
         used: u64,

@@ -82,6 +82,7 @@ impl<'b> Account<'b> {
     /// `Limit` only where the session's use, the group's counter or the number of the charge would
     /// pass its limit, else `Memory`: a growth was refused. Then the account is unchanged. A report
     /// without parts has no error.
+    // rule: settle-order, use-counts, grant-units.passes-in, database-loads
     pub fn settle(
         &mut self,
         session: &SessionId,
@@ -122,6 +123,7 @@ impl<'b> Account<'b> {
 
     /// Whether `settle` would answer `Limit` to a report, after so many other settlements with a
     /// charge, of other groups of the session. It takes no memory and changes nothing.
+    // rule: stored-limits
     pub fn would_pass(
         &self,
         session: &SessionId,
@@ -163,6 +165,7 @@ impl<'b> Account<'b> {
     }
 
     /// The cycle of the counter of a group at a moment.
+    // rule: counters.cycle-at
     pub(crate) fn cycle_at(&self, group: u32, moment: Moment) -> u32
         ensures { result ≡ cycle_at self.now.shelf group moment }
     {
@@ -170,6 +173,7 @@ impl<'b> Account<'b> {
     }
 
     /// The blocks that the counter of a group has counted in the cycle of a moment.
+    // rule: counters
     pub(crate) fn place_at(&self, group: u32, moment: Moment) -> u64
         ensures { result ≡ count_in group (cycle_at self.now.shelf group moment) self.now.counters }
     {
@@ -217,6 +221,7 @@ impl<'b> Account<'b> {
     }
 
     /// A use that is rated; None where a stored number would pass its limit.
+    // rule: stored-limits
     pub(crate) fn within_limits(
         &self,
         session: &SessionId,
@@ -254,6 +259,7 @@ impl<'b> Account<'b> {
     }
 
     /// The blocks that may cover a report: those that its reservation holds, and the allowance.
+    // rule: covered
     fn coverable(&self, session: &SessionId, group: u32, moment: Moment) -> Blocks
         requires { self.now.as_of ≤ moment }
         ensures { result.0 ≡ coverable_in session.now group moment self.now }
@@ -274,6 +280,7 @@ impl<'b> Account<'b> {
 
     /// What a report costs: by the terms of its grant, without one by the book and the period at
     /// the moment. A group that this book doesn't have costs nothing.
+    // rule: report-period
     fn price(
         &self,
         session: &SessionId,
@@ -306,6 +313,7 @@ impl<'b> Account<'b> {
     }
 
     /// The terms that price a report: those of its grant, or what prices one without a grant.
+    // rule: report-book
     fn terms(&self, session: &SessionId, group: u32, moment: Moment) -> Terms
         ensures value { result
             ≡ unwrap_or (terms_in session.now group self.now.groups)

@@ -37,6 +37,7 @@ impl StoredAccount {
     /// number is in its range, no bucket is new or gone, and of each as much is reserved as is held
     /// of it from then on. They are an account's rows then. Rows that are named aren't compared
     /// with any other.
+    // rule: database-writes.rows-written
     pub fn is_writable(&self, rows: &GivenRows) -> bool
         ensures value { result ≡ is_writable (given rows.now) self.now }
         ensures kept { result ≡ true → IsStoredInOrder (rows_written (given rows.now) self.now) }
@@ -51,6 +52,7 @@ impl StoredAccount {
     ///
     /// # Errors
     /// A growth was refused. Then the account is unchanged.
+    // rule: database-writes.rows-written
     pub fn write(&mut self, rows: GivenRows) -> Result<(), AllocError>
         requires { IsStoredInOrder (rows_written (given rows) self.old) }
         ensures ok { OnOk result (self.new ≡ rows_written (given rows) self.old) }

@@ -12,6 +12,7 @@ use Rattle.service.specs.Over.{Comes, IsOpenedIn}
 use Rattle.service.proofs.OverLemmas.{comes_from}
 
 -- what is so of a keeper whose store is clean is so of the tables of that database
+-- rule: database-words.opened-in
 pub clean_from : {D A E : Type 0} {g : disk.Ghosts D} (image : Image)
     (old : KeeperState (FileStore D g)) (s : Shelf) (r : Result A E)
     (keeper : A → KeeperState (FileStore D g)) (says : Shelf → Tables → Tables → Type 0) →

@@ -21,6 +21,7 @@ writes_more [] ys a b c h k = subst (λ (w : Option (List ℕ)). WritesFaults ys
 writes_more (x ∷ xs) ys a b c h k = (h.0, h.1, writes_more xs ys h.0 b c h.2 k)
 
 -- and then more
+-- rule: port
 pub faults_more : (m n : ℕ) (a b c : Option (List ℕ)) → TellsFaults m a b → TellsFaults n b c →
     TellsFaults (m + n) a c
 faults_more m n a b c h k = record {
@@ -32,6 +33,7 @@ faults_more m n a b c h k = record {
 }
 
 -- what is written stays over a flush
+-- rule: port.listening-line
 pub written_kept : (a b c : Option (List ℕ)) (text : List ℕ) → Appends a b text → Keeps b c →
     Appends a c text
 written_kept None b c text h k = tt

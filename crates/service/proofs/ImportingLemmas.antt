@@ -31,6 +31,7 @@ module _ (b : Shelf) (t : ℕ) (old new : Tables) (before after : Option (List �
   imported rows (Some text) says told = record { rows = rows; says = says; imported = told }
 
   -- the store or the writer failed
+  -- rule: import
   pub not_told : {A : Type 0} (rows : List VoucherAddition) (r : Option (List ℕ))
       (given : Result A OfficeFault) (f : OfficeFault) → given ≡ Err f →
       IfSome r (λ text. vouchers_in text ≡ Ok rows) →

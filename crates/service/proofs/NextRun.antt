@@ -35,6 +35,7 @@ told_once Older told = absurd (∥∥₁_elim told (λ x. absurd x)
     (no_stores Older (λ is. let no : Older ≡ Store = is in cc)
     (λ is. let no : Older ≡ Memory = is in cc)))
 
+-- rule: stop, stop-process
 pub found_by_next : {D E : Type 0} (g : Ghosts D) (e : Ghosts E)
     → AreSettled (over_files {g = g}) → IsFoundByNext g e
 found_by_next g e law old keeper held clean image may shown opens found =

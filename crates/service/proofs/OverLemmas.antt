@@ -41,6 +41,7 @@ use Rattle.service.specs.declared.fault.DatabaseFault.{DatabaseFault}
 use Rattle.service.specs.declared.fault.DatabaseFault.TheVariants.{Office}
 
 -- what was opened over the files is what they held
+-- rule: database-words.opened-in
 pub opened_in : {D : Type 0} {g : disk.Ghosts D} (image : Image) (c : Held (FileStore D g))
     (k : KeeperState (FileStore D g)) (shelf : Shelf) →
     (HasCleanDisk (file_state c) → IsNewlyOpened c) →
@@ -65,6 +66,7 @@ held_by image c new found db held =
     ap (λ (d : Database). d.trees) new.0.clean ∙ found.holds db held
 
 -- a database that was made over the files
+-- rule: database-words.opened-in
 pub made_in : {D : Type 0} {g : disk.Ghosts D} (image : Image) (text bytes : List ℕ)
     (c : Held (FileStore D g)) (k : KeeperState (FileStore D g)) (shelf : Shelf) → text ≡ bytes →
     (HasCleanDisk (file_state c) → IsNewlyOpened c) →
@@ -87,6 +89,7 @@ made_in image text bytes c k shelf same new found created clean =
     })
 
 -- and one that was migrated over them
+-- rule: database-words.opened-in
 pub migrated_in : {D : Type 0} {g : disk.Ghosts D} (image : Image) (c : Held (FileStore D g))
     (k : KeeperState (FileStore D g)) (shelf : Shelf) →
     (HasCleanDisk (file_state c) → IsNewlyOpened c) →
@@ -119,6 +122,7 @@ pub migrated_fresh : {D : Type 0} {g : disk.Ghosts D} (c : Held (FileStore D g))
 migrated_fresh c k shelf migrated = migrated.fresh
 
 -- it has the shelf of that database, and its tables
+-- rule: database-words.opened-in
 pub same_office : {D : Type 0} {g : disk.Ghosts D} (image : Image)
     (k : KeeperState (FileStore D g)) (s : Shelf) → IsOpenedIn image k s →
     HasCleanDisk (file_state k.connection) → (db : Trees) (text : List ℕ) (shelf : Shelf) →
@@ -138,6 +142,7 @@ same_office image k s opened clean db text shelf held left is =
     )
 
 -- and what is so of a keeper's shelf and tables is so of those of the database
+-- rule: database-words.opened-in
 pub comes_from : {D : Type 0} {g : disk.Ghosts D} (image : Image)
     (old new : KeeperState (FileStore D g)) (s : Shelf) (says : Shelf → Tables → Tables → Type 0) →
     IsOpenedIn image old s → HasCleanDisk (file_state old.connection) →

@@ -13,6 +13,7 @@ of_adding (Ok unit) = Ok unit
 of_adding (Err fault) = Err (adding_fault fault)
 
 -- this is so of the keeper's answer, which is reported
+-- rule: database-words
 pub record IsOfAdding (says : Result (Unit {0}) AddFault → Type 0)
     (result : Result (Unit {0}) DatabaseFault) : Type 0 where
   pub answer : Result (Unit {0}) AddFault
@@ -27,6 +28,7 @@ IsAddingFault (Office (Store fault)) = Unit {0}
 IsAddingFault _ = ⊥
 
 -- or of a file, of the tables of its database, or of memory
+-- rule: database-words
 abbrev pub IsAdditionFault : DatabaseFault → Type 0
 IsAdditionFault File = Unit {0}
 IsAdditionFault (Open fault) = Unit {0}

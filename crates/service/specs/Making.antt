@@ -9,6 +9,7 @@ use Rattle.service.specs.declared.fault.DatabaseFault.{DatabaseFault}
 use Rattle.service.specs.declared.fault.DatabaseFault.TheVariants.{File, Book, Open, Memory}
 
 -- the fault is the book's: memory was refused, or it is the first of the text
+-- rule: database-words
 abbrev pub IsTextFault : BookText → DatabaseFault → Type 0
 IsTextFault text (Book fault) = IsBookFault text fault
 IsTextFault text _ = ⊥
@@ -22,6 +23,8 @@ IsInitFault Memory = Unit {0}
 IsInitFault _ = ⊥
 
 -- this is so of why the tables weren't made, which is reported as the fault
+-- rule: database-words: a database is made, opened, brought to the latest version, or has a book
+--   added
 pub record IsNotMade (left : CreateFault → Type 0) (fault : DatabaseFault) : Type 0 where
   pub made : CreateFault
   pub is : fault ≡ making_fault made

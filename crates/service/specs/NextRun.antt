@@ -23,6 +23,8 @@ IsOfConnection h =
 -- A keeper over files is stopped at any moment, and a later process connects to files with contents
 -- that the stop may have left. If it opens them, it has the rows that the stop left, under the text
 -- and the books of the keeper that was stopped; if not, no row is why.
+-- rule: stop-process: the next process finds in the files what a stop left
+-- rule: stop
 abbrev pub IsFoundByNext : {D E : Type 0} → Ghosts D → Ghosts E → Type 0
 IsFoundByNext {D} {E} g e =
     (old : KeeperState (FileStore D g)) → IsKeeper over_files old

@@ -10,12 +10,14 @@ use Rattle.service.specs.declared.fault.DatabaseFault.TheVariants.{File, Clock, 
 use Rattle.service.specs.declared.fault.DatabaseFault.TheVariants.{Memory, Office}
 
 -- this is so of why the tables weren't opened, which is reported as the fault
+-- rule: database-words
 pub record IsNotFound (left : OpenFault → Type 0) (fault : DatabaseFault) : Type 0 where
   pub opened : OpenFault
   pub is : fault ≡ Open opened
   pub was : left opened
 
 -- one of a file, of the tables of its database, or of memory
+-- rule: database-words
 abbrev pub IsUnopened : DatabaseFault → Type 0
 IsUnopened File = Unit {0}
 IsUnopened (Open fault) = Unit {0}

@@ -49,6 +49,8 @@ use Rattle.service.specs.declared.importing.ImportFault.{ImportFault}
 -- ---- what is opened
 
 -- a keeper and its shelf are those of a database that the files held: its rows are there, whole
+-- rule: database-words.opened-in: what words leave of the database that a file held, and what they
+--   print
 pub record IsOpenedIn {D : Type 0} {g : disk.Ghosts D} (image : Image)
     (k : KeeperState (FileStore D g)) (shelf : Shelf) : Type 0
   where
@@ -62,6 +64,7 @@ pub record IsOpenedIn {D : Type 0} {g : disk.Ghosts D} (image : Image)
 
 -- a keeper has the tables of the book of a text, with no row but what is kept once: what database
 -- the files held, if any, had no table
+-- rule: database-words.opened-in
 pub record IsMadeIn {D : Type 0} {g : disk.Ghosts D} (image : Image) (text : BookText)
     (k : KeeperState (FileStore D g)) : Type 0 where
   pub blank : (db : Trees) → HoldsDatabase image db →
@@ -71,6 +74,7 @@ pub record IsMadeIn {D : Type 0} {g : disk.Ghosts D} (image : Image) (text : Boo
 
 -- a keeper has the tables of the latest version, and what the files held of a database of the same
 -- or of an older one
+-- rule: database-words.opened-in
 pub record IsMigratedIn {D : Type 0} {g : disk.Ghosts D} (image : Image)
     (k : KeeperState (FileStore D g)) (shelf : Shelf) : Type 0
   where
@@ -84,6 +88,7 @@ pub record IsMigratedIn {D : Type 0} {g : disk.Ghosts D} (image : Image)
         trees_in over_files k ≡ db
 
 -- the last book of a shelf is that of a text, from a moment on
+-- rule: database-words
 pub record EndsWith (text : BookText) (from : Moment) (shelf : Shelf) : Type 0 where
   pub before : Shelf
   pub book : Book
@@ -94,12 +99,14 @@ abbrev pub EndsWithSome : Moment → Shelf → Type 0
 EndsWithSome from shelf = (text : BookText) × EndsWith text from shelf
 
 -- the book of a text was added behind those of a shelf, which had no fault of it, and to its tables
+-- rule: database-words
 pub record IsAddedBehind (text : BookText) (from : Moment) (before after : Shelf)
     (old new : Trees) : Type 0 where
   pub added : IsAdded text from (last_in (tables_content old).meta) before after
   pub becomes : BecomesDated (suc (count before)) from text old new
 
 -- so it was to the shelf of the database that the files held, and to its tables
+-- rule: database-words
 abbrev pub IsAddedIn : {D : Type 0} → {g : disk.Ghosts D} → Image → BookText → Moment →
     KeeperState (FileStore D g) → Shelf → Type 0
 IsAddedIn image text from k shelf = (db : Trees) (first : BookText) (before : Shelf) →
@@ -114,6 +121,7 @@ ForLeft image says = (db : Trees) (text : BookText) (shelf : Shelf) → HoldsDat
     says shelf (tables_of (shelf_names shelf) (tables_content db))
 
 -- so it is of the tables that were found and of those that the keeper has then
+-- rule: database-words.opened-in
 abbrev pub Comes : {D : Type 0} → {g : disk.Ghosts D} → Image → KeeperState (FileStore D g) →
     (Shelf → Tables → Tables → Type 0) → Type 0
 Comes image k says = ForLeft image (λ shelf found. says shelf found (tables_in over_files k))
@@ -121,6 +129,7 @@ Comes image k says = ForLeft image (λ shelf found. says shelf found (tables_in 
 -- ---- what the words say
 
 -- the moment of a command: the one that they say, or one of the clock
+-- rule: clock: the moment of a command without `--at`
 abbrev pub IsMomentOf : Option Moment → Moment → Type 0
 IsMomentOf (Some at) t = t ≡ at
 IsMomentOf None t = t < no_end
@@ -131,6 +140,7 @@ query_of words = record { account = words.account; month = words.month; csv = wo
 -- ---- what becomes of them
 
 -- their command was carried out: its line is written, and the status is its answer's
+-- rule: database-words.opened-in
 pub record IsCommandDone (words : OfficeWords) (before after : Option Bytes) (status : Status)
     (shelf : Shelf) (old new : Tables) : Type 0 where
   pub moment : Moment
@@ -139,6 +149,7 @@ pub record IsCommandDone (words : OfficeWords) (before after : Option Bytes) (st
       (λ answer. (status ≡ status_of answer) × Appends before after (answer_line answer))
 
 -- their month is written, or that there is no such account, and no row has changed
+-- rule: database-words.opened-in
 pub record IsMonthDone (words : StatementWords) (before after : Option Bytes) (status : Status)
     (shelf : Shelf) (old new : Tables) : Type 0 where
   pub moment : Moment
@@ -147,6 +158,7 @@ pub record IsMonthDone (words : StatementWords) (before after : Option Bytes) (s
   pub same : new ≡ old
 
 -- the vouchers of a text were added, and the line of their counts is written
+-- rule: database-words.opened-in
 pub record IsImportDone (words : ImportWords) (text : Bytes) (before after : Option Bytes)
     (shelf : Shelf) (old new : Tables) : Type 0 where
   pub moment : Moment

@@ -25,10 +25,12 @@ use Rattle.service.specs.declared.fault.DatabaseFault.TheVariants as database
 -- ---- lines, with their line feeds
 
 -- a port is listened to
+-- rule: port.listening-line: a port that is listened to is reported, or why it isn't
 abbrev pub listening_line : ℕ → Bytes
 listening_line port = codes "listening 127.0.0.1:" ++ (decimal port ++ codes "\n")
 
 -- a connection's fault: a socket's is the network's
+-- rule: port
 abbrev pub connection_line : ServeFault → Bytes
 connection_line Memory = codes "ocs: memory fault\n"
 connection_line Read = codes "ocs: net fault\n"
@@ -44,6 +46,7 @@ WritesFaults (fault ∷ faults) old new =
     × WritesFaults faults between new
 
 -- so many faults are
+-- rule: port: connections of a port are served, and their faults reported
 pub record TellsFaults (count : ℕ) (old new : Option Bytes) : Type 0 where
   pub faults : List ServeFault
   pub count_is : length faults ≡ count
@@ -52,6 +55,7 @@ pub record TellsFaults (count : ℕ) (old new : Option Bytes) : Type 0 where
 -- ---- before the first connection
 
 -- a fault of the database, of the port, or of the line that reports it
+-- rule: port.listening-line
 abbrev pub IsServeFault : DatabaseFault → Type 0
 IsServeFault database.File = Unit {0}
 IsServeFault (database.Open fault) = Unit {0}
@@ -82,6 +86,7 @@ pub record Listens {A O E : Type 0} (contents : O → Option Bytes) (faults : E 
   pub begun : OnErr result
       (WritesBeginning (contents old) (contents new) (listening_line words.port))
   pub unwritten : IfErr result (λ fault. IsUnlistened fault → new ≡ old)
+  -- rule: port
   pub told : IfOk result (λ r. TellsFaults (failed r) (faults before) (faults after))
   pub bounded : IfOk result (λ r. failed r ≤ words.connections)
   pub untold : OnErr result (after ≡ before)
@@ -92,6 +97,7 @@ pub record ListensOver {D O E : Type 0} {g : disk.Ghosts D} (image : Image)
     (contents : O → Option Bytes) (faults : E → Option Bytes) (words : ServeWords) (old new : O)
     (before after : E) (result : Result (ℕ × KeeperState (FileStore D g)) DatabaseFault)
     : Type 0 where
+  -- rule: port
   pub continued : IfOk result (λ r. IsClean (file_state r.1.connection) →
       Comes image r.1 Continues)
   pub listening : OnOk result (Appends (contents old) (contents new) (listening_line words.port))
@@ -105,6 +111,7 @@ pub record ListensOver {D O E : Type 0} {g : disk.Ghosts D} (image : Image)
 
 -- so many connections at most end in a fault, each of which is reported; what was accepted is what
 -- the tables go on by
+-- rule: port
 pub record ServesConnections {E : Type 0} (faults : E → Option Bytes)
     (b : Shelf) (connections : ℕ) (old new : Seen) (before after : E) (result : ℕ) : Type 0 where
   pub told : TellsFaults result (faults before) (faults after)

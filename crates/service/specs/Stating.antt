@@ -35,6 +35,7 @@ pub record IsOfOffice (says : Result Status OfficeFault → Type 0)
 -- ---- what is printed, whatever a database holds
 
 -- the month of words by the books of some shelf, or that there is no such account: it ends so
+-- rule: statement.month-told
 pub record PrintsMonthOf (words : StatementWords) (old new : Option Bytes) (status : Status)
     : Type 0 where
   pub shelf : Shelf
@@ -46,6 +47,7 @@ pub record BeginsSomeMonth (words : StatementWords) (old new : Option Bytes) : T
   pub begun : WritesMonth shelf (query_of words) (WritesBeginning old new)
 
 -- or of the line; it may be empty
+-- rule: statement.month-told
 abbrev pub BeginsMonthOf : StatementWords → Option Bytes → Option Bytes → Type 0
 BeginsMonthOf words old new =
     BeginsSomeMonth words old new ⊎ WritesBeginning old new unknown_line

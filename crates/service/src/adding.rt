@@ -25,6 +25,7 @@ use units::Moment;
 ///
 /// # Errors
 /// In this order: `File` or `Memory` where the book's file can't be read; then as `add_over`.
+// rule: database-words
 pub fn add_book(
     rt: &HostRuntime,
     words: &BookWords,
@@ -42,6 +43,7 @@ pub fn add_book(
 /// # Errors
 /// In this order: `File`, `Open` or `Memory`, as `open_office`; then as `add_text`, `Book` also
 /// where the bytes are no text: the database is as it was.
+// rule: database-words
 pub fn add_over<S: Start>(
     rt: &HostRuntime,
     words: &BookWords,
@@ -69,6 +71,7 @@ pub fn add_over<S: Start>(
 /// # Errors
 /// `Book`, why the text is none; `Shelf`, why the book may not follow; `Office` where the store
 /// failed, or memory was refused.
+// rule: database-words
 pub fn add_text<S: Alter>(
     keeper: &mut SqlKeeper<S>,
     shelf: &mut TariffShelf,

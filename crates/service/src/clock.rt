@@ -10,6 +10,7 @@ use std::time::{SystemTime, UNIX_EPOCH};
 use units::Moment;
 
 /// The machine's moment; None where its clock doesn't answer, or gives none of a command.
+// rule: clock
 pub fn machine_moment(rt: &HostRuntime) -> Option<Moment>
     ensures { IfSome result (λ t. t < no_end) }
 {
@@ -22,6 +23,7 @@ pub fn machine_moment(rt: &HostRuntime) -> Option<Moment>
 ///
 /// # Errors
 /// `Clock` where the machine is asked and has none.
+// rule: clock
 pub fn command_moment(rt: &HostRuntime, at: Option<Moment>) -> Result<Moment, DatabaseFault>
     ensures { GivesMoment at result }
 {

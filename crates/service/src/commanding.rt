@@ -56,6 +56,7 @@ pub fn command_office<O: Write>(
 ///
 /// # Errors
 /// As `command_office`.
+// rule: database-words.opened-in
 pub fn command_over<S: Start, O: Write>(
     rt: &HostRuntime,
     words: OfficeWords,

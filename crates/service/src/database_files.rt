@@ -125,6 +125,7 @@ fn options(rt: &HostRuntime) -> Result<Options, Error>
 ///
 /// # Errors
 /// `CannotOpen`, their log is damaged or can't be read; `OutOfMemory`.
+// rule: stop-log
 fn check_log<D: Disk>(alloc: Global, files: &mut Files<D>) -> Result<(), Error>
     requires log_usable { IsTrue (D.Disk.is_usable files.old.log) }
     requires db_usable { IsTrue (D.Disk.is_usable files.old.db) }
@@ -149,6 +150,7 @@ fn check_log<D: Disk>(alloc: Global, files: &mut Files<D>) -> Result<(), Error>
 /// `CannotOpen` where the path is `:memory:`, or the log is one that no stop can have left: then
 /// nothing is written. Else the file or its log can't be opened or made, another process has it, it
 /// isn't a database, or memory is refused.
+// rule: stop-log
 pub fn open_database<S: Start>(
     rt: &HostRuntime,
     path: &str,

@@ -97,6 +97,7 @@ pub fn import_office<O: Write>(
 /// # Errors
 /// In this order: `Database` where the clock has no moment (`Clock`), and `File`, `Open` or
 /// `Memory`, as `open_office`; then as `import_file`.
+// rule: database-words.opened-in
 pub fn import_over<S: Start, R: Read + Drop, O: Write>(
     rt: &HostRuntime,
     words: &ImportWords,
@@ -144,6 +145,7 @@ fn add_over<S: Alter + Drop, R: Read + Drop, O: Write>(
 /// `Vouchers`, the first fault of the file, or why it wasn't read to its end: then nothing has
 /// changed. `Database` where the store failed, then a beginning of the vouchers was added; or where
 /// the output failed, then all were.
+// rule: import
 pub fn import_file<K: Keeper, R: Read + Drop, O: Write>(
     alloc: Global,
     keeper: &mut K,

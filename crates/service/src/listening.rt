@@ -26,12 +26,13 @@ use texts::{StreamFault, write_whole};
 
 /// Serves the connections of the words over their database, one after another, and answers how many
 /// of them ended in a fault. Once the port of 127.0.0.1 is listened to, `output` gets a line that
-/// says so; each connection's fault is a line on `errors`, and the next one is served. Nothing is
-/// supposed of a write of the database that was torn.
+/// says so; each connection's fault is a line on `errors`, and the next one is served. A torn
+/// write may have left any bytes of the database (`Wary`).
 ///
 /// # Errors
 /// In this order, each before the first connection: as `open_office`; `Net` where the port can't be
 /// listened to; `Memory` or `File` where the line that says so isn't written.
+// rule: port.listening-line
 pub fn serve_database<O: Write, E: Write>(
     rt: &HostRuntime,
     words: &ServeWords,
@@ -50,6 +51,7 @@ pub fn serve_database<O: Write, E: Write>(
 ///
 /// # Errors
 /// As `serve_database`.
+// rule: database-words.opened-in
 pub fn serve_over<S: Start, O: Write, E: Write>(
     rt: &HostRuntime,
     words: &ServeWords,

@@ -43,6 +43,7 @@ pub fn make_database(
 /// # Errors
 /// In this order: as `book_text`; `File` or `Memory` where the database can't be opened as one;
 /// then as `make_tables`.
+// rule: database-words.opened-in
 pub fn make_over<S: Start>(
     rt: &HostRuntime,
     path: &FilePath,
@@ -80,6 +81,7 @@ pub fn book_text(alloc: Global, bytes: &[u8]) -> Result<&str, DatabaseFault>
 /// # Errors
 /// The connection is given back, and nothing is changed. `Book`, why the text is none of a book;
 /// `Open`, a table is there already (`Foreign`), the store failed, or memory was refused.
+// rule: database-words
 pub fn make_tables<S: Alter + Drop>(
     alloc: Global,
     connection: Connection<S>,

@@ -25,6 +25,7 @@ use std::alloc::Global;
 /// # Errors
 /// As `open_office`, but that the tables may be those of an older version: then what was there is
 /// as it was.
+// rule: database-words
 pub fn migrate_database(
     rt: &HostRuntime,
     words: &MigrateWords,
@@ -40,6 +41,7 @@ pub fn migrate_database(
 ///
 /// # Errors
 /// As `migrate_database`.
+// rule: database-words.opened-in
 pub fn migrate_over<S: Start>(
     rt: &HostRuntime,
     words: &MigrateWords,
@@ -61,6 +63,7 @@ pub fn migrate_over<S: Start>(
 /// The connection is given back, and nothing is changed. `Open`: the tables aren't this system's,
 /// their version isn't known, a rowid comes twice or a row that is read is out of its rules, the
 /// store failed, or memory was refused.
+// rule: database-words
 pub fn migrate_tables<S: Alter + Drop>(
     alloc: Global,
     connection: Connection<S>,

@@ -31,6 +31,7 @@ pub struct Office<S: Alter + Drop> {
 /// # Errors
 /// `File` or `Memory` where it can't be opened as a database; `Open`, there is no file or an empty
 /// one (`Foreign`), or as `open_tables`.
+// rule: database-words.opened-in
 pub fn open_office<S: Start>(
     rt: &HostRuntime,
     path: &FilePath,
@@ -57,6 +58,7 @@ pub(crate) fn fault_alone<S: Alter + Drop>(left: (DatabaseFault, Connection<S>))
 /// The connection is given back. `Open`: the tables aren't this system's, their version isn't
 /// known, a rowid comes twice or a row is out of the rules of its table, the store failed, or
 /// memory was refused.
+// rule: database-words
 pub fn open_tables<S: Alter + Drop>(
     alloc: Global,
     connection: Connection<S>,

@@ -23,6 +23,7 @@ pub struct Connections<'a> {
 /// answers how many of them ended in a fault. A connection's fault is one line on `errors`, as far
 /// as that can be written, and the next connection is served; one that the listener couldn't hand
 /// over counts as one whose socket failed.
+// rule: port
 pub fn serve_connections<K: ChargeSource, C: Clock, E: Write>(
     rt: &HostRuntime,
     connections: Connections<'_>,

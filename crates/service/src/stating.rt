@@ -33,6 +33,7 @@ use units::Moment;
 /// # Errors
 /// In this order: `Clock`; `File`, `Open` or `Memory`, as `open_office`: then nothing is written;
 /// `Office` where the store or the output failed: then a beginning of the text is written.
+// rule: statement.month-told
 pub fn state_office<O: Write>(
     rt: &HostRuntime,
     words: StatementWords,
@@ -49,6 +50,7 @@ pub fn state_office<O: Write>(
 ///
 /// # Errors
 /// As `state_office`.
+// rule: database-words.opened-in
 pub fn state_over<S: Start, O: Write>(
     rt: &HostRuntime,
     words: StatementWords,

@@ -58,6 +58,7 @@ become text code terms t last ruled old new turns = record {
 }
 
 -- so it is where the moment alone is put, or is there already
+-- rule: database-voucher
 pub become_added : (text code : List ℕ) (terms : VoucherTerms) (t : ℕ) → t ≤ 4_102_488_000
     → is_ruled_addition code terms t ≡ true → (is_there : Bool) (old : State)
     → Stands is_there (meta_at text t) old → HasCleanDisk old → IsTrue old.is_open → (db : Trees)

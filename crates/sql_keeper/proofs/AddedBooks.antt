@@ -39,12 +39,14 @@ use Rattle.sql_keeper.proofs.Whole.{commits_after, handed_on, leaves_after, refu
 
 -- ---- one shelf
 
+-- rule: book-added
 pub behind : {A E : Type 0} (from : ℕ) (b : Book) (last : ℕ) (old new : Shelf) (r : Result A E)
     → OnOk r (new ≡ with_book old from b) → OnOk r (shelf_fault old from b last ≡ None)
     → IsShelf new → OnOk r (IsBehind from b last old new)
 behind from b last old new (Ok x) more free is = record { free = free; shelf = more; is = is }
 behind from b last old new (Err e) more free is = tt
 
+-- rule: book-added
 pub fault_told : {A : Type 0} (o : Option ShelfFault) (r : Result A ShelfFault)
     → IfSome o (λ e. r ≡ Err e) → (o ≡ None → OnErr r (r ≡ Err Memory))
     → IfErr r (λ f. ¬ (f ≡ Memory) → o ≡ Some f)

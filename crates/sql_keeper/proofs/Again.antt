@@ -57,6 +57,7 @@ alone_shelf text rows s is alone read none = record {
   none = λ n other. none n;
 }
 
+-- rule: database-opened.left
 pub left_again : AreLeftAgain
 left_again = record {
   made = λ text new utf8 shelf b. record {
@@ -97,6 +98,7 @@ left_again = record {
 }
 
 -- what is left has none of these faults
+-- rule: database-opened.not-opened
 pub no_fault : (text : List ℕ) (db : Database) (fault : OpenFault) → IsLeft text db.trees
     → db.schema ≡ book_schema → ¬ HasFault fault db
 no_fault text db Foreign left same h = h latest latest_known same

@@ -78,6 +78,7 @@ held_as text text' shelf shelf' last last' old new t s l is held =
     (subst (λ x. IsHeld x shelf last old) (sym t) held)))
 
 -- a keeper is one still
+-- rule: database-reads.held
 pub keeper_after : {S : Type 0} (g : Ghosts S) (old new : KeeperState S) → IsKeeper g old
     → OnlyReads (state g old.connection) (state g new.connection)
     → Survives (state g old.connection) (state g new.connection) (λ _. ⊥)

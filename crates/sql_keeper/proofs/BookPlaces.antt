@@ -47,6 +47,7 @@ books_ascend (x ∷ y ∷ ys) h =
       rest,
     )
 
+-- rule: database-loads.group-of
 pub book_at : (s : List ℕ) (g place : ℕ) (rows : List SessionBook) (d : SessionBook)
     → position (is_book s g) rows ≡ Some place
     → book_of s g rows ≡ Some ((get_or rows place d).columns.book)

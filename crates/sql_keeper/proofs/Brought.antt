@@ -231,6 +231,7 @@ module _ (v : ℕ) (known : IsVersion v) (less : v < latest) (old mid : State)
       ∙ meta_at v known less old.now.trees)
 
   -- what is kept once wasn't read
+  -- rule: database-migrated.ruled-version
   pub no_meta : (new : State) (e : OpenFault)
       → ReadsWithin {A = MetaColumns} {E = OpenFault}
       (λ trees m. (tables_content trees).meta ≡ Some (meta_of m)) mid new (Err e)
@@ -325,6 +326,7 @@ module _ (v : ℕ) (known : IsVersion v) (less : v < latest) (old mid : State) (
     (items : List BookColumns) (read : HasRows v old mid m items) (version : m.version ≡ v)
     (text : List ℕ) (text_is : text ≡ string_bytes m.book) where
   -- there is no shelf of them
+  -- rule: database-migrated.ruled-version
   pub no_shelf : (e : OpenFault) → (e ≡ Rules → IsNoShelf text (map book_at items))
       → (¬ (e ≡ Rules) → e ≡ Memory) → BringsToLatest v old mid (Err e)
   no_shelf e rules either =
@@ -428,6 +430,7 @@ module _ (v : ℕ) (known : IsVersion v) (less : v < latest) (old mid : State) (
     }
 
   -- it isn't put
+  -- rule: database-migrated.ruled-version
   pub not_put : {A : Type 0} (does : State → State → Type 0) (new : State) (e : OpenFault)
       (f : ReadFault) → Attempts {A = A} {E = ReadFault} does mid new (Err f)
       → IsNoVersion e → ¬ (e ≡ Foreign) → (e ≡ Rules → f ≡ reading.Rules)
@@ -478,6 +481,7 @@ asks_not_made v old new e f store failed =
 
 module _ (v : ℕ) (known : IsVersion v) (less : v < latest) (old mid : State) where
   -- what is kept once wasn't read
+  -- rule: database-migrated.older
   pub asks_no_meta : {A : Type 0} → HasMade v old mid → (new : State) (e : OpenFault)
       → ReadsWithin {A = MetaColumns} {E = OpenFault}
       (λ trees m. (tables_content trees).meta ≡ Some (meta_of m)) mid new (Err e)
@@ -488,6 +492,7 @@ module _ (v : ℕ) (known : IsVersion v) (less : v < latest) (old mid : State) w
       (omega (arith, reads.still.survives.clean, clean)) (finds.rules clean is))
 
   -- it was
+  -- rule: database-migrated.older
   pub asks_meta : {A : Type 0} (m : MetaColumns) → HasMeta v old mid m → (u : A)
       → m.version ≡ v → m.last ≤ 4_102_488_000 → AsksVersion {A = A} v old mid (Ok u)
   asks_meta m read u version last = record {

@@ -98,6 +98,7 @@ module _ {E : Type 0} (a : List ℕ) (first : ℕ) where
 
 -- ---- from the number that the head has
 
+-- rule: database-writes.numbers-free
 pub from_head : {E : Type 0} (a : List ℕ) (xs : List BucketRow) (o : Option HeadColumns)
     (first : ℕ) (old mid new : State) (r : Result ⊤ E) → first ≡ first_bucket o
     → Gathers {A = Option HeadColumns} {E = E} (λ trees p. p ≡ (rows_in trees a).head) old mid

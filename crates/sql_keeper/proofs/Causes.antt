@@ -95,6 +95,7 @@ rules_older db h k =
     let low : k.version < 3 = k.older in
     omega (arith, same, top, low)
 
+-- rule: database-opened.fault
 pub causes_apart : AreCausesApart
 causes_apart db Foreign Foreign h k = refl
 causes_apart db Foreign Version h k = absurd (h k.version k.known k.schema)

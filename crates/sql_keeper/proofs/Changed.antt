@@ -521,6 +521,7 @@ module _ (names : Names) (m : Meta) (change : Change) (texts : Option Kept) (c :
               else c.count + 1;
         })
 
+-- rule: database-writes.tables-of
 pub changes_read : AreChangesRead
 changes_read names m change texts c named may told last =
     change_read names m change texts c named may told last

@@ -188,6 +188,7 @@ module _ (names : Names) (text : List ℕ) (change : Change) (texts : Option Kep
     plain = turns.plain;
   }
 
+  -- rule: database-writes.commits-change
   pub become_at : (known : Known) (old mid : State) → OnlyReads old mid
       → (HasCleanDisk mid → IsTrue mid.is_open
       → IsTested names change (rows_in old.now.trees change.number) known.are_new)
@@ -208,6 +209,7 @@ module _ (names : Names) (text : List ℕ) (change : Change) (texts : Option Kep
 -- ---- the numbers that it takes
 
 -- of what was tested, and of what was put where no charge was
+-- rule: database-writes.numbers-free
 pub free_at : (names : Names) (text : List ℕ) (change : Change) → IsNamed change.rows
     → (known : Known) (old mid : State) → OnlyReads old mid
     → (HasCleanDisk mid → IsTrue mid.is_open

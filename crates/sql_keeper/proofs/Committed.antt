@@ -37,6 +37,7 @@ stays_survived old new P stays survives clean none =
     go before (inr more) = absurd (none_more old.faults new.faults before none more)
 
 -- the law of a commit
+-- rule: database-writes.commits-change
 pub committed : {S A : Type 0} (g : Ghosts S) (old : KeeperState S) (conn : Held S) (text : List ℕ)
     (change : Change)
     → IsKeeper g old → (r : Result A StoreFault)
@@ -59,6 +60,7 @@ added_law g old conn text code terms t keeper (Ok x) commits clean =
 added_law g old conn text code terms t keeper (Err e) commits clean = tt
 
 -- the law of a sweep
+-- rule: database-sweep.sweeps-accounts
 pub swept_law : {S A : Type 0} (g : Ghosts S) (old : KeeperState S) (conn : Held S)
     (text : List ℕ) (shelf : Shelf) (t : ℕ) → IsKeeper g old → (r : Result A StoreFault)
     → CommitsWhole (BecomesSwept (names_in old) text shelf t) (state g old.connection)
@@ -110,6 +112,7 @@ module _ {S A : Type 0} (g : Ghosts S) (old new : KeeperState S)
       λ i. tables_of (shelf_names (shelf i)) (tables_content ((still.now_is i).trees))
 
   -- it is one still, whatever becomes of its shelf
+  -- rule: database-reads.held
   pub becomes_keeper : (r : Result A StoreFault) → CommitsIn r
       → (HasCleanDisk (state g old.connection) → HasCleanDisk (state g new.connection)
       → (db : Trees) → (state g new.connection).may_leave db
@@ -187,6 +190,7 @@ module _ {S A : Type 0} (g : Ghosts S) (old new : KeeperState S)
 -- what a stop leaves
 module _ {S : Type 0} (g : Ghosts S) (old new : KeeperState S)
     (Become : List ℕ → Trees → Trees → Type 0) (text : List ℕ) (keeper : IsKeeper g old) where
+  -- rule: database-sweep.sweeps-accounts
   pub whole : Leaves g old new (Become text) → text ≡ old.text
       → IsCommitWhole g old new (Become old.text (trees_in g old))
   whole leaves is = record {

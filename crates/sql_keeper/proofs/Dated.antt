@@ -68,6 +68,7 @@ dated_tables names more n from text c some known = λ i. record (tables_of names
   };
 }
 
+-- rule: book-added
 pub become_dated : (n from : ℕ) (text : List ℕ) (old new : Trees)
     → Turns (with_dated n from text) old new → BecomesDated n from text old new
 become_dated n from text old new turns = record {

@@ -103,6 +103,7 @@ none_kept : (a : List ℕ) (k : Key) → answer_in a k nothing ≡ None
 none_kept a (Request s n) = refl
 none_kept a (Reference x) = refl
 
+-- rule: database-made.new-tables-empty
 pub new_empty : AreNewTablesEmpty
 new_empty names =
     ap (tables_of names) nothing_stored
@@ -140,6 +141,7 @@ ruled_nothing shelf a = record {
   covered = λ n blocks e. absurd (cc e);
 }
 
+-- rule: stop-ruled
 ruled_new : (shelf : Shelf) (text : List ℕ)
     → IsInRules shelf (with_meta (first_meta text) no_content)
 ruled_new shelf text = record {
@@ -190,6 +192,7 @@ new_book text old new e lists turns = record {
   plain = turns.plain (plain_empty old e);
 }
 
+-- rule: database-made
 pub builds_book : {A B D E : Type 0} (text : List ℕ) (first : ℕ) → first ≡ 0 →
     (a b c : State) (u : A) (v : B) (w : D)
     → Attempts {A = A} {E = E} BuildsAll a b (Ok u)

@@ -81,6 +81,7 @@ module _ (names : Names) (sessions : List Session) (ws : List SessionGroup)
 
 -- ---- a change
 
+-- rule: database-loads.keeps
 pub grants_written : (names : Names) (m : Meta) (change : Change) (texts : Option Kept)
     (c : TablesContent) → IsNamed change.rows → MayBeMade names change (c.rows change.number)
     → AreTexts change.number change.kept texts

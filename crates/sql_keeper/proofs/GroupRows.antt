@@ -265,6 +265,7 @@ held_if true o amount = refl
 held_if false o amount = refl
 
 -- all that the open sessions have
+-- rule: database-loads.live-groups, database-loads.group-of
 pub live_groups : (names : Names) (rows : TableRows) (buckets : List BucketRow)
     (held : List SessionHold)
     (books : List SessionBook) (cs : List OpenGroupAt) (xs : List SessionGroup)

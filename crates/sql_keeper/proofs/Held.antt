@@ -84,6 +84,7 @@ there : (text : List ℕ) (trees : Trees) → IsLeftRuled text trees →
     is_some (tables_content trees).meta ≡ true
 there text trees left = ap is_some left.left.kept.is
 
+-- rule: stop-ruled
 pub left_ruled_again : AreLeftRuledAgain
 left_ruled_again = record {
   made = λ text new utf8 shelf b. record {
@@ -137,6 +138,7 @@ no_row text db left fits h =
     h.unruled (rows_ruled h.shelf db.trees fits left.left.stored (left.rules h.shelf is) left.plain
     (there text db.trees left))
 
+-- rule: stop-ruled, database-opened.not-opened
 pub found_again : {S : Type 0} (g : Ghosts S) (old new : Held S) (text : List ℕ) (fault : OpenFault)
     → IsFoundAgain g old new text fault
 found_again g old new text fault left sound clean refused =
@@ -166,6 +168,7 @@ held_committed text shelf last change old new held b = record {
 }
 
 -- what is kept once is there with the text, and as a command leaves it that is at the last moment
+-- rule: database-reads.held
 pub held_stands : (text : List ℕ) (shelf : Shelf) (last : ℕ) (given : List ℕ) (t : ℕ) (told : Bool)
     (trees : Trees) → given ≡ text → told ≡ (last == t) → IsHeld text shelf last trees
     → IsKeptOnce told (meta_at given t) (tables_content trees).meta

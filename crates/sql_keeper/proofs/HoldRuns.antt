@@ -177,6 +177,7 @@ module _ (s : List ℕ) (xs rest : List SessionHold) (n : ℕ) (within : n ≤ l
           beyond m ys j d (omega (arith, le)) less
           (λ k e low high. all (suc k) e (omega (arith, low)) (omega (arith, high)))
 
+  -- rule: database-loads.group-of
   pub held_from : held_for s rest ≡ held_for s xs
   held_from = ap (held_for s) from_point
       ∙ skipped s n xs (λ j d less. point.0 j d (omega arith) less)

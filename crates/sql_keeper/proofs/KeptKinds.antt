@@ -184,6 +184,7 @@ module _ (a : List ℕ) (kept : Option KeptRows) (h : HeadColumns) (xs : List Bu
       at None = refl
       at (Some g) = sym (ap (c.rows a).allowances here) ∙ stand b k
 
+  -- rule: database-writes.counted
   pub all_counted_are : with_all_counted_over a kept xs (with_account a h c)
       ≡ with_all_counted a xs (with_account a h c)
   all_counted_are =
@@ -229,6 +230,7 @@ kept_alike there row (Some y) b is e = told_alike there row b
     (subst (λ p. is_alike_in p b ≡ true)
     (sym (passing (λ x. not (is_dead x)) (option_map (content.bucket_in there) row) y (sym is))) e)
 
+-- rule: database-writes.counted
 pub keeps_counted : (names : Names) (kept : Option KeptRows) (trees : Trees) (a : List ℕ)
     (b : BucketRow) → Keeps names kept trees → is_counted kept a b ≡ true
     → IsCountedIn (rows_in trees a) b

@@ -100,6 +100,7 @@ copied names r x y same =
     same.purse same.sessions same.groups
 
 -- what is loaded
+-- rule: database-loads.keeps
 pub kept_loaded : (names : Names) (shelf : Shelf) (t : ℕ) (a : List ℕ) (trees : Trees)
     (l : Loaded) (x : KeptRows) → IsOf l x → IsLoadStored names shelf t a (rows_in trees a) (Some l)
     → Keeps names (Some x) trees
@@ -137,6 +138,7 @@ fresh_seen (Some x) a trees sees s e =
         (subst (IsUnknown (rows_in trees x.account)) (name_from z s f) (sees.unknown z k))
 
 -- the rows of the account that is kept, with those of the change over them
+-- rule: database-loads.keeps
 pub kept_changed : (names : Names) (text : List ℕ) (change : Change) (old new : Trees)
     (seen : Option SeenAccount) (x : KeptRows) (y : LiveRows)
     → true ≡ same_name x.account change.number → BecomesOver names text change old new

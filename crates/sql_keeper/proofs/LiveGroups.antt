@@ -79,6 +79,7 @@ loaded_holds names false book o amount =
     ap (λ t. if t then held_in (false && is_reserved o) amount else 0)
     (sym (none_reserved names book o))
 
+-- rule: database-loads.told-groups
 pub open_loaded : AreOpenGroupsLoaded
 open_loaded names rows xs told = record {
   groups = λ s g.

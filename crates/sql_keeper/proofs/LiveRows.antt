@@ -104,6 +104,7 @@ uncounted names rows x head live none shelf t = (
   (λ g c. ap (counter_in g c) none ∙ either_none (c == cycle_at shelf g t) None refl),
 )
 
+-- rule: database-loads.live-account
 pub live_loaded : AreLiveRowsLoaded
 live_loaded names shelf t rows w (head, told, counters) =
     let groups = open_loaded names rows w.groups told.groups in
@@ -119,6 +120,7 @@ live_loaded names shelf t rows w (head, told, counters) =
       counters = counters;
     }
 
+-- rule: database-loads.load
 pub load_made : {E : Type 0} (names : Names) (shelf : Shelf) (t : ℕ) (a : List ℕ)
     (rows : TableRows) (o : Option StoredRows) (r : Result (Option Loaded) E)
     → IfOk r (IsLoadOf shelf a o) → IsLiveAccount names shelf t rows o
@@ -148,6 +150,7 @@ fault_or d (Ok x) = d
 fault_or d (Err e) = e
 
 -- a load without the rows once more is a view
+-- rule: database-loads.load
 pub viewed : (old new : Seen)
     (shelf : Shelf) (t : ℕ) (a : List ℕ) (rows : Rows) (r : Result (Option Loaded) StoreFault)
     (q : Result (Option AccountRows) StoreFault) → IsAccountOf r q

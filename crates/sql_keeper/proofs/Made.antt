@@ -60,6 +60,7 @@ module _ {S : Type 0} (g : Ghosts S) (law : AreSettled g) (h : Held S) (r : Read
         moment = it.read.last;
       }
 
+  -- rule: database-reads.held
   pub keeper_made : IsKeeper g (record {
     connection = h;
     shelf = r.own;

@@ -64,6 +64,7 @@ meta_read_within v old new o reads (Err e) kept = record {
 }
 
 -- what its version says
+-- rule: database-migrated.older
 pub meta_told : (v : ℕ) (old new : State) (o : Option MetaColumns)
     → (HasCleanDisk new → IsRead v old.now.trees o) → IfSome o (λ m. m.version ≡ v)
     → (r : Result MetaColumns OpenFault) → IfOk r (λ m. o ≡ Some m)
@@ -111,6 +112,7 @@ meta_unread_within v old new f reads e = record {
   };
 }
 
+-- rule: database-migrated.older
 pub meta_untold : (v : ℕ) (old new : State) (f : ReadFault)
     → (HasCleanDisk new → f ≡ reading.Rules → IsRefusedMeta v (tables_content old.now.trees).meta)
     → (e : OpenFault) → IsNoVersion e → ¬ (e ≡ Foreign) → (e ≡ Rules → f ≡ reading.Rules)

@@ -219,6 +219,7 @@ module _ (v : ℕ) (known : IsVersion v) (less : v < latest) (old mid new : Tree
   meta_after : (tables_content new).meta ≡ Some (record m { version = latest })
   meta_after = ap (λ (c : TablesContent). c.meta) after
 
+  -- rule: database-migrated
   pub becomes_latest : BecomesLatest v old new
   becomes_latest = record {
     tables = λ names. ap (tables_of names) after
@@ -243,6 +244,7 @@ module _ (v : ℕ) (known : IsVersion v) (less : v < latest) (old mid new : Tree
     stored = turns.stored;
   }
 
+  -- rule: database-migrated
   pub left_latest : (own : Shelf) → m.last ≤ 4_102_488_000 → IsUtf8 m.book
       → IsShelfOf m.book (content_at v old).books own → IsLeft m.book new
   left_latest own last utf8 shelf = record {

@@ -86,6 +86,7 @@ module _ (shelf : Shelf) (old mid : Trees) where
       ]
 
   -- those of each older version
+  -- rule: database-migrated.ruled-version
   pub ruled_since : (v : ℕ) → IsVersion v → v < latest → AreKept v old mid → AreRuled shelf v old →
       AreRuled shelf latest mid
   ruled_since zero known less kept all = absurd (omega (arith, known.0))
@@ -145,6 +146,7 @@ granted_meta false c = refl
 
 module _ (shelf : Shelf) (v : ℕ) (mid new : Trees) (m : Meta) (all : AreRuled shelf latest mid)
     (is : (tables_content mid).meta ≡ Some m) (turns : Turns (with_latest v m) mid new) where
+  -- rule: database-migrated.ruled-version
   pub latest_ruled : Fits book_schema mid → IsInRules shelf (tables_content new)
   latest_ruled fits =
       let held = content_ruled shelf mid fits all in

@@ -143,6 +143,7 @@ module _ {S : Type 0} (g : Ghosts S) (old begun : Held S)
           })) ends)
 
       -- it is committed
+      -- rule: database-migrated
       pub migrated : (HasCleanDisk new → IsTrue mid.in_transaction
           × Shows mid new mid.now mid.now false) → MigratesTables v (state g old) new (Ok r)
       migrated committed = record {

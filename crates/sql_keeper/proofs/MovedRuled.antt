@@ -69,6 +69,7 @@ pub record HasTested (v : ℕ) (old mid : State) : Type 0 where
   pub ruled : HasCleanDisk mid → AreRowsRuled v mid.now.trees
   pub survives : Survives old mid (λ _. ⊥)
 
+-- rule: database-migrated.ruled-version
 pub tested : {A : Type 0} (v : ℕ) (old mid new : State) (r : ReadBooks) (u : A)
     → HasAsked v old mid r → Tells (AreRuled r.own v) mid new (Ok u) → HasTested v old new
 tested v old mid new r u has tells = record {
@@ -176,6 +177,7 @@ unasked v old mid new r e idle finds store spares stops = record {
   survives = nothing_left v old new (nothing_then old mid new finds.survives stops);
 }
 
+-- rule: database-migrated.ruled-version
 pub untested_rows : {A : Type 0} (v : ℕ) (old mid new : State) (r : ReadBooks) (e : OpenFault)
     → HasIdleAt v old → HasAsked v old mid r → Tells {A = A} (AreRuled r.own v) mid new (Err e)
     → MigratesRuled v old new (Err e)

@@ -85,6 +85,7 @@ module _ (a : List ℕ) (x : ChargeRow) where
         (λ i. with_new_blocks a (number i) (some i)) two)
 
     -- there was no charge of its number
+    -- rule: database-writes.numbers-free
     pub charged_free : added ≡ true → Survives q r (λ _. ⊥)
         → WasSo {A = B} {E = E} (λ trees. LacksCharge a (tables_content trees) x) p r z
     charged_free new stops = λ clean. on_ok z (is_none_is _ (not-true _
@@ -258,6 +259,7 @@ pub record HaveLacked (a : List ℕ) (xs : List ChargeRow) (old now : State) : T
 pub none_lacked : (a : List ℕ) (s : State) → HaveLacked a [] s s
 none_lacked a s = record { lacks = λ clean. tt; back = λ clean n e. e }
 
+-- rule: database-writes.numbers-free
 pub next_lacked : {A E : Type 0} (a : List ℕ) (xs : List ChargeRow) (i : ℕ) (x : ChargeRow)
     (old mid now : State) (u : A) → i < length xs → x ≡ get_or xs i x
     → HaveLacked a (take i xs) old mid

@@ -58,6 +58,7 @@ same_shelf text rows s t h k =
     one_later rows 2 s.later t.later h.later k.later (ends text rows s h) (ends text rows t k) in
     λ i. record { first = first i; later = later i }
 
+-- rule: database-opened.shelves-one
 pub one_shelf : AreShelvesOne
 one_shelf trees text more s t kept again h k =
     let row : kept.row ≡ again.row =

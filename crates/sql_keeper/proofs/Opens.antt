@@ -104,6 +104,7 @@ module _ {S : Type 0} (g : Ghosts S) (k : KeeperState S) (conn : Held S) (shelf 
         );
       }
 
+  -- rule: database-made.created
   pub created : {A E : Type 0} (old : Held S) (u : A) → IsAlone text own
       → old.schema ≡ stage 0 → old.in_transaction ≡ false
       → CreatesBook {A = A} {E = E} text (state g old) (state g conn) (Ok u)
@@ -133,6 +134,7 @@ module _ {S : Type 0} (g : Ghosts S) (k : KeeperState S) (conn : Held S) (shelf 
         (sym connection) c.survives;
   }
 
+  -- rule: database-opened
   pub opened : (old : Held S) → (HasCleanDisk (state g conn) → IsKept (state g conn).now.trees bytes
       × IsShelfOf bytes (tables_content (state g conn).now.trees).books own
       × IsStill (state g old) (state g conn) × IsTrue (state g conn).is_open)
@@ -163,6 +165,7 @@ module _ {S : Type 0} (g : Ghosts S) (k : KeeperState S) (conn : Held S) (shelf 
       is_open = subst (λ h. HasCleanDisk (state g h) → IsTrue (state g h).is_open)
           (sym connection) (λ clean. (found clean).3)
 
+-- rule: database-made.created
 pub not_created : {S A E : Type 0} (g : Ghosts S) (text : List ℕ) (old new : Held S)
     (fault : CreateFault) (e : E)
     → IsCreateFault text old.schema fault → new.in_transaction ≡ old.in_transaction
@@ -195,6 +198,7 @@ module _ (v : ℕ) (old mid new : State) (found : HasCleanDisk mid → IsFound v
       }
 
   -- what the keeper goes by
+  -- rule: database-opened
   pub finds_books : v ≡ latest → (r : Result ReadBooks OpenFault) → ReadsBooks mid new r
       → FindsBooks old new r
   finds_books same (Ok b) reads = record {
@@ -274,6 +278,7 @@ finds_none old new e told means still survives = record {
 }
 
 -- an older version was found
+-- rule: database-opened
 pub finds_older : (v : ℕ) (old mid new : State) (e : OpenFault) → ¬ (v ≡ latest)
     → (HasCleanDisk mid → IsFound v old mid) → Survives old mid (λ _. ⊥)
     → IsNotLatest v mid new e → FindsBooks old new (Err e)

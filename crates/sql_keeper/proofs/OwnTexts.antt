@@ -55,6 +55,7 @@ texts_under kind name number a c x content answer own is so of read again key =
     (own_content kind name number a c content is of read key))
     (own_answer x answer so again)
 
+-- rule: rows-ruled.under
 pub own_texts : (a : List ℕ) (c : Content) (x : Answer) (t : Kept)
     → is_account_number a ≡ true → t.content ≡ content_text c → t.answer ≡ answer_text x
     → account_of c ≡ a → content_of (account_of c) t.content ≡ Ok c → answer_of t.answer ≡ Ok x

@@ -76,6 +76,7 @@ plain_group shelf r h =
 
 -- ---- the tables
 
+-- rule: stop-ruled
 pub rows_plain : (shelf : Shelf) (trees : Trees) → AreRuled shelf latest trees → ArePlain trees
 rows_plain shelf trees all = record {
   heads = λ key cells e.

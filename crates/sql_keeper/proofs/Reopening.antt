@@ -37,12 +37,14 @@ module _ {S : Type 0} (g : Ghosts S) (law : AreSettled g) (old : KeeperState S)
   shows_old : HasCleanDisk (state g shown) → ShowsStopped g old.connection shown
   shows_old = subst (λ h. HasCleanDisk (state g shown) → ShowsStopped g h shown) same shows
 
+  -- rule: stop-opened
   pub found_stopped : (new : KeeperState S) (shelf : Shelf) → IsOpened g shown new shelf
       → HasCleanDisk (state g new.connection) → IsFoundAfter g g old new shelf
   found_stopped new shelf o clean =
       let it = shows_old (omega (arith, o.survives.clean, clean)) in
       (opened_again g g law old shown keeper it.honest it.may it.sound).0 new shelf o clean
 
+  -- rule: stop-opened
   pub refused_stopped : (left : Held S) (fault : OpenFault) → IsNotOpened g shown left fault
       → HasCleanDisk (state g left) → IsStores fault
   refused_stopped left fault refused clean =
@@ -88,6 +90,7 @@ module _ {S : Type 0} (g : Ghosts S) (law : AreSettled g) (change : Change)
       (subst (λ t. IsShelfOf t (tables_content (trees_in g new)).books shelf)
       (sym found.text ∙ text_stays) found.books)) held.books
 
+  -- rule: stop-command
   pub changed_whole : {A : Type 0} (r : Result A StoreFault)
       → (HasCleanDisk (state g mid.connection) → OnOk r (IsClean (state g mid.connection)))
       → (IsClean (state g mid.connection)

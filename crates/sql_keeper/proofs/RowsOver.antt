@@ -422,6 +422,7 @@ nothing_told names r s none = record {
     not_held true = refl
     not_held false = refl
 
+-- rule: database-loads.keeps
 pub live_over : (names : Names) (fresh : List ℕ → Bool) (old new : TableRows) (w : StoredRows)
     (x y : LiveRows) → AreOf names old x → AreReplaced fresh w x y
     → ((s : List ℕ) → fresh s ≡ true → IsUnknown old s)

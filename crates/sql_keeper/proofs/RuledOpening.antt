@@ -101,6 +101,7 @@ module _ (old mid new : State) (r : ReadBooks) (finds : FindsBooks old mid (Ok r
         (λ clean db no'. no') finds.survives two
 
     -- why it isn't said whether each row is in its rules
+    -- rule: database-opened
     pub rows_refused : (e : OpenFault) → (HasCleanDisk new → IsRowFault e old.now)
         → (HasCleanDisk new → Spares mid new) → FindsRuled old new (Err e)
     rows_refused e cause spares = record {
@@ -161,6 +162,7 @@ rows_unasked old mid e finds = record {
 }
 
 -- each row was read
+-- rule: rows-ruled.opened
 pub rows_told : {A : Type 0} (old mid new : State) (r : ReadBooks) (u : A)
     → FindsBooks old mid (Ok r) → Tells (AreRuled r.own latest) mid new (Ok u)
     → FindsRuled old new (Ok r)
@@ -169,6 +171,7 @@ rows_told old mid new r u finds tells =
     tells.survives tells.found
 
 -- they weren't, or one is out of its rules
+-- rule: rows-ruled.opened
 pub rows_untold : {A : Type 0} (old mid new : State) (r : ReadBooks) (e : OpenFault)
     → FindsBooks old mid (Ok r) → Tells {A = A} (AreRuled r.own latest) mid new (Err e)
     → FindsRuled old new (Err e)
@@ -186,6 +189,7 @@ ruled_schema old mid r finds clean = (finds.idle clean (finds.found clean).2).bo
 
 -- ---- of a database that has a fault no row is reported
 
+-- rule: rows-ruled.opened
 pub rows_apart : AreRowsApart
 rows_apart db Foreign h k = h latest latest_known k.schema
 rows_apart db Version h k =

@@ -327,6 +327,7 @@ module _ (shelf : Shelf) where
   none_there true e f = absurd (cc f)
   none_there false e f = absurd (cc e)
 
+  -- rule: rows-ruled.ruled-change
   pub change_kept : (m : Meta) (change : Change) (texts : Option Kept) (c : TablesContent)
       → m.last ≡ change.moment → is_ruled_change (shelf_names shelf) change ≡ true
       → are_ruled_texts change.number change.kept texts ≡ true
@@ -348,6 +349,7 @@ module _ (shelf : Shelf) where
 
   -- ---- a voucher, a sweep
 
+  -- rule: rows-ruled.ruled-change
   pub addition_kept : (text code : List ℕ) (terms : VoucherTerms) (t : ℕ) (c : TablesContent)
       → is_ruled_addition code terms t ≡ true → is_some c.meta ≡ true → IsInRules shelf c
       → IsInRules shelf (with_addition text code terms t c)
@@ -357,6 +359,7 @@ module _ (shelf : Shelf) where
       (meta_kept shelf c in' (meta_at text t) parts.0
       (λ none. none_there (is_some c.meta) there none)) code (voucher_row (unspent terms)) parts.1
 
+  -- rule: rows-ruled.ruled-change
   pub sweep_kept : (text : List ℕ) (t : ℕ) (xs : List SweptAccount) (c : TablesContent)
       → is_ruled_sweep (shelf_names shelf) t xs ≡ true
       → EachIn (MayBePut (shelf_names shelf)) xs → is_some c.meta ≡ true → IsInRules shelf c
@@ -434,6 +437,7 @@ module _ (shelf : Shelf) (from : ℕ) (b : Book) where
     covered = in'.covered;
   }
 
+  -- rule: rows-ruled.ruled-change
   pub dated_kept : (n : ℕ) (text : List ℕ) (c : TablesContent)
       → is_book n (record { starts = from; content = text }) ≡ true → IsInRules shelf c
       → IsInRules (with_book shelf from b) (with_dated n from text c)

@@ -46,6 +46,7 @@ use Rattle.sql_keeper.proofs.Overlays.{name_from, number_from, number_itself}
 -- ---- over a call
 
 -- what was seen is seen still after a call that only reads
+-- rule: database-writes.seen
 pub seen_after : (o : Option SeenAccount) (old new : State) → AreSeen o old → OnlyReads old new
     → AreSeen o new
 seen_after o old new seen only clean on =
@@ -217,6 +218,7 @@ grant_stored r l s y grants there =
           (one_held n y.bucket told.reservation.holds told.bucket apart);
     }
 
+-- rule: database-writes.seen
 pub load_seen : (names : Names) (shelf : Shelf) (t : ℕ) (a : List ℕ) (trees : Trees) (l : Loaded)
     (o : Option SeenAccount) → IfSome o (IsSeenOf l.number l.before)
     → IsLoadStored names shelf t a (rows_in trees a) (Some l) → Sees o trees
@@ -275,6 +277,7 @@ alone_seen a s (Some x) h trees known =
           (unknown_of (rows_in trees a) s false refl known);
     })
 
+-- rule: database-writes.seen
 pub noted : (x y : SeenAccount) (a s : List ℕ) → IsSeenWith s x y → true ≡ same_name x.account a
     → (trees : Trees) → IsSeen (rows_in trees x.account) x → IsKnown (rows_in trees a) s false
     → IsSeen (rows_in trees y.account) y

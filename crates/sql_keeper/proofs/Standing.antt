@@ -65,6 +65,7 @@ module _ {S : Type 0} (g : Ghosts S) (old new : KeeperState S) (keeper : IsKeepe
       record { keeper = keeper; db = db; may = may; is = named_before t db is }
 
   -- a call that reads
+  -- rule: database-reads.tables-of, database-reads.find-answer
   pub asked : {T : Type 0} (told : Trees → T → Type 0) (Found : T → Type 0)
       (read : Result T ReadFault) (result : Result T StoreFault) → Asks told before after read
       → IsHanded read result → HasCause old.failures new.failures result
@@ -135,6 +136,7 @@ module _ {S : Type 0} (g : Ghosts S) (old new : KeeperState S) (keeper : IsKeepe
         (err_handed (new.last ≡ old.last) made r e last) shelf same plain bounded
 
     -- a stop leaves what it left before, or all that is written
+    -- rule: stop-commit
     pub standing_whole : text ≡ old.text → IsCommitWhole g old new
         (Become old.text (trees_in g old))
     standing_whole of_text =

@@ -151,6 +151,7 @@ weaker_shut : (old new : State) → Survives old new (λ _. ⊥)
 weaker_shut old new s = survives_weaker old new (λ _. ⊥) (λ _. old.is_open ≡ false)
     (λ clean db no. absurd no) s
 
+-- rule: stop-commit
 pub committed_standing : {A B E F : Type 0} (Become : Trees → Trees → Type 0) (old mid new : State)
     (u : B) (r : Result A E) → IsStillOpen {A = B} {E = F} old mid (Ok u)
     → CommitsWhole Become mid new r → CommitsStanding Become old new r

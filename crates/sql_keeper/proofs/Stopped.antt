@@ -78,6 +78,7 @@ module _ {S T : Type 0} (g : Ghosts S) (e : Ghosts T) (law : AreSettled g) (old 
       rests = at_rest_now;
     }
 
+-- rule: stop-opened
 pub opened_again : {S T : Type 0} (g : Ghosts S) (e : Ghosts T) → AreSettled g
     → AreOpenedAgain g e
 opened_again g e law old shown keeper clean may sound = (
@@ -86,6 +87,7 @@ opened_again g e law old shown keeper clean may sound = (
       (keeper.found clean (state e shown).now.trees may) sound after refused,
 )
 
+-- rule: stop, stop-command
 pub stopped_whole : {S T : Type 0} (g : Ghosts S) (e : Ghosts T) → AreSettled g
     → (old mid : KeeperState S) (new : KeeperState T) (shelf : Shelf) (Written : Trees → Type 0)
     → IsStoppedWhole g e old mid new shelf Written

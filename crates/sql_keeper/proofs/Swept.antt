@@ -55,6 +55,7 @@ module _ (names : Names) (shelf : Shelf) (t : ℕ) (rows : TableRows) where
       at false e = absurd (true≢false (sym e))
 
   -- what was loaded and brought on, where it differs, written over what was there
+  -- rule: sweep.brought-to
   listed_one : (w : StoredRows) → AreSweptRows names shelf t rows w
       → AreBroughtTo shelf t (told_rows names rows) (told_rows names (over_stored names w rows))
   listed_one w s v are kept early =
@@ -363,5 +364,6 @@ module _ (names : Names) (text : List ℕ) (shelf : Shelf) (t : ℕ) (c : Tables
   pub swept_books : (with_sweep names text t xs c).books ≡ c.books
   swept_books = books_after names xs (with_meta (meta_at text t) c) may
 
+-- rule: database-sweep
 pub sweeps_read : AreSweepsRead
 sweeps_read names text shelf t c xs ranges all = swept names text shelf t c xs ranges all

@@ -107,6 +107,7 @@ none_yet c = record { found = λ a. refl; apart = tt }
 module _ (c : TablesContent) (last : Option (List ℕ)) (numbers : List (List ℕ))
     (front : IsFront c last numbers) where
   -- with the one that follows
+  -- rule: database-sweep
   pub front_more : (x : List ℕ) → IsFollowing c last x → IsFront c (Some x) (numbers ++ x ∷ [])
   front_more x next = record {
     found = λ a. found_more (λ n. same_name n a) numbers x
@@ -285,6 +286,7 @@ module _ (names : Names) (text : List ℕ) (shelf : Shelf) (t : ℕ) where
     module _ (none : HasCleanDisk mid → IsNextAccount (tables_content now.now.trees) last None)
       where
         -- these are all
+        -- rule: database-sweep
         all_met : HasCleanDisk mid → AreAccounts (tables_content old.now.trees) h.numbers
         all_met clean =
             let made = h.swept.made (now_clean clean) in

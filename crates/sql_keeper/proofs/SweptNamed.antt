@@ -211,6 +211,7 @@ module _ (names : Names) (shelf : Shelf) (t : ℕ) (r : TableRows) (w : StoredRo
       (settled_named names before after r there own apart swept.kept.may free alone)
 
   -- it reads as if all were written
+  -- rule: database-sweep
   pub read_swept : told_rows names (over_stored names w r) ≡ over after (told_rows names r)
   read_swept =
       rows_read names after.sessions w r settled_swept opens_swept

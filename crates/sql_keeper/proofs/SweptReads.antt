@@ -83,6 +83,7 @@ module _ (names : Names) (shelf : Shelf) (t : ℕ) where
 -- ---- an account, within a transaction
 
 -- what is read of it and put
+-- rule: database-sweep
 pub one_swept : {B C E F : Type 0} (names : Names) (shelf : Shelf) (t : ℕ) (a : List ℕ)
     (old mid new : State) (o : Option StoredRows) (x : SweptAccount) (u : B) (v : C)
     → HaveWithin old mid
@@ -212,6 +213,7 @@ module _ (names : Names) (text : List ℕ) (shelf : Shelf) (t : ℕ) where
       rows : d.rows x.number ≡ c.rows x.number
       rows = ap d.rows one.number_is ∙ at_a ∙ ap c.rows (sym one.number_is)
 
+  -- rule: database-sweep
   pub more_each : {A E : Type 0} (numbers : List (List ℕ)) (a : List ℕ) (u : A) (old mid new : State)
       → HasSweptEach numbers old mid
       → Attempts {A = A} {E = E} (SweepsOne names shelf t a) mid new (Ok u) → HasRules new
@@ -332,6 +334,7 @@ swept_whole names text shelf t ranges last ruled old db all =
     }) (and_from (is_moment t) (list_all (is_ruled_swept names) xs) ruled all.each.ruled)
     all.each.turns
 
+-- rule: database-sweep.sweeps-accounts
 pub sweep_written : {A E : Type 0} (names : Names) (text : List ℕ) (shelf : Shelf) (t : ℕ)
     → IsShelf shelf → t ≤ 4_102_488_000 → is_moment t ≡ true → (old new : State) (r : Result A E)
     → TransactsSweep names text shelf t old new r

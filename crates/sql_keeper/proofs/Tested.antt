@@ -294,6 +294,7 @@ change_unsettled {E} names change o z old new is reads =
     })
 
 -- the sessions and groups are those of the change
+-- rule: database-writes.writable
 pub change_found : {E : Type 0} (names : Names) (change : Change) (o : Option HeadColumns)
     (xs : List Session) (ys : List SessionGroup) (y z : NamedSessions) (old mid new : State) →
     xs ≡ change.rows.sessions → ys ≡ change.rows.groups →
@@ -356,6 +357,7 @@ beside_at s idle live a clean on =
     ForeignKey) a
 
 -- of a change that passed, whose new buckets have free numbers
+-- rule: database-writes.writable
 pub tested : {E : Type 0} (names : Names) (change : Change) (xs : List BucketRow)
     (y : NamedSessions) (u : ⊤) (r : Result Bool E) (old mid new : State)
     → xs ≡ change.rows.buckets → IfOk r (λ b. IsTrue y.are_settled × (b ≡ y.are_new)) →

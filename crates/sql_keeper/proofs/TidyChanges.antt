@@ -39,6 +39,7 @@ ends_settled w r settled s g none = at (r.groups s g) refl
       | inr free ↦ not_both (sym reserved ∙ ap is_some free)
     ]
 
+-- rule: tidy-rows
 pub tidy_change : (names : Names) (m : Meta) (change : Change) (texts : Option Kept)
     (c : TablesContent)
     → IsNamed change.rows → MayBeMade names change (c.rows change.number)
@@ -55,6 +56,7 @@ tidy_change names m change texts c named may told t =
 
 -- ---- a voucher
 
+-- rule: tidy-rows
 pub tidy_addition : (names : Names) (text code : List ℕ) (terms : VoucherTerms) (t : ℕ)
     (c : TablesContent) → IsTidy names c → IsTidy names (with_addition text code terms t c)
 tidy_addition names text code terms t c tidy =
@@ -96,6 +98,7 @@ terms_still names more book (Some x) k = at x.periods k
         and_parts (is_some (period_named own p.before)) (is_some (period_named own p.after)) k in
         rw (named p.before parts.0, named p.after parts.1) refl
 
+-- rule: tidy-rows
 pub tidy_dated : (names : Names) (more : List (List ℕ)) (n from : ℕ) (text : List ℕ)
     (c : TablesContent)
     → IsTidy names c → IsTidy (names ++ more ∷ []) (with_dated n from text c)

@@ -49,6 +49,7 @@ module _ (names : Names) (shelf : Shelf) (t : ℕ) (a : List ℕ) (r : TableRows
 
 -- ---- all accounts
 
+-- rule: tidy-rows
 pub tidy_sweep : (names : Names) (text : List ℕ) (shelf : Shelf) (t : ℕ) (c : TablesContent)
     (xs : List SweptAccount) → IsShelf shelf → AreAllSwept names shelf t c xs → IsTidy names c
     → IsTidy names (with_sweep names text t xs c)

@@ -63,6 +63,7 @@ module _ (change : TablesContent → TablesContent) (Become : Trees → Trees �
       (λ clean db shut on. absurd (not_shut old.is_open on shut))
       (λ clean db t on. become (omega (arith, s.clean, clean)) t.0 db t.1) stops s
 
+  -- rule: stop-commit
   pub written : {A B E F : Type 0} (u : A) (v : B) → Transacts {A = A} {E = E} change mid new (Ok u)
       → CommitsWhole {A = B} {E = F} Become old new (Ok v)
   written u v t = record {
@@ -167,6 +168,7 @@ module _ (Become : Trees → Trees → Type 0) (old mid new : State) (only : Onl
       ]
 
 -- what isn't written
+-- rule: stop-commit
 pub refused : {A E : Type 0} (Become : Trees → Trees → Type 0) (old new : State) (e : E)
     → OnlyReads old new → Survives old new (λ _. old.is_open ≡ false)
     → CommitsWhole {A = A} {E = E} Become old new (Err e)

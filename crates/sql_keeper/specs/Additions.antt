@@ -32,6 +32,7 @@ with_addition_put is_there code terms t c =
 
 -- the tables hold the voucher; they would be found again: the catalog is the same, and so are the
 -- version and the books, no rowid comes twice, and the moment is in the range of moments
+-- rule: database-voucher: a voucher is added whole or not at all, also over a stop
 pub record BecomesAdded (text : BookText) (code : VoucherCode) (terms : VoucherTerms) (t : Moment)
     (old new : Trees) : Type 0 where
   pub tables : (names : Names)

@@ -48,6 +48,7 @@ AreBooksKnown n c = (a : AccountName) (s : SessionName) (g : GroupId) (m : BookN
 -- the tables hold what they held, by the names of the books with those of the new one, if each
 -- reservation goes by a book that was there; they would be found again: the catalog and what is
 -- kept once are the same, and no rowid comes twice
+-- rule: book-added
 pub record BecomesDated (n : BookNumber) (from : Moment) (text : BookText) (old new : Trees)
     : Type 0 where
   pub tables : (names : Names) (more : List (List ℕ)) → 1 ≤ length names
@@ -81,6 +82,7 @@ pub record MayFollow (text more : BookText) (n : BookNumber) (from : Moment) (tr
 
 -- the tables with the book, which may follow the keeper's books and begins before the end of all
 -- moments; the shelf had as many
+-- rule: book-added
 pub record BecomesBehind (own before : Shelf) (from : Moment) (text : BookText) (old new : Trees)
     : Type 0 where
   pub becomes : BecomesDated (suc (count before)) from text old new
@@ -107,6 +109,7 @@ IsAddFault text from s last (OfShelf fault) = (b : Book) × IsBookOf text b
 IsAddFault text from s last (OfStore fault) = (b : Book) × IsBookOf text b
 
 -- the book of the text is behind those of the shelf
+-- rule: book-added
 pub record IsAdded (text : BookText) (from last : Moment) (old new : Shelf) : Type 0 where
   pub book : Book
   pub read : IsBookOf text book
@@ -194,6 +197,7 @@ pub record AddsToAll {A E : Type 0} (from : Moment) (text : BookText) (b : Book)
 
 -- a book is added to the shelf, to what the keeper knows of it and to the tables, or to none of
 -- them; a stop leaves the rows before it or with the book
+-- rule: book-added: a book is added to the shelf and the tables, or to neither
 pub record AddsBook {S A : Type 0} (g : Ghosts S) (text : BookText) (from : Moment)
     (old new : KeeperState S) (before after : Shelf) (result : Result A AddFault) : Type 0 where
   pub added : clean_in g new →

@@ -33,6 +33,7 @@ use Rattle.sql_keeper.specs.Sweeps.{BecomesSwept}
 
 -- a new book is left, and what a commit, an addition or a sweep makes of tables that are left is
 -- left again; so is what a book more makes of them
+-- rule: database-opened.left
 pub record AreLeftAgain : Type 0 where
   pub made : (text : BookText) (new : Trees) → IsUtf8 text → HasOneBook text → IsNewBook text new →
       IsLeft text new
@@ -50,6 +51,7 @@ pub record AreLeftAgain : Type 0 where
 -- the rows of a new book are in their rules; those that a commit, an addition or a sweep makes of
 -- rows in their rules are so again, by the names of the same books; so are those that a book more
 -- makes of them, which begins before the end of all moments
+-- rule: stop-ruled
 pub record AreLeftRuledAgain : Type 0 where
   pub made : (text : BookText) (new : Trees) → IsUtf8 text → HasOneBook text → IsNewBook text new →
       IsLeftRuled text new
@@ -68,6 +70,8 @@ pub record AreLeftRuledAgain : Type 0 where
 
 -- the rows of a database are those of one shelf, so whoever opens it again finds the one that was
 -- answered before
+-- rule: database-opened.shelves-one: the rows of a database are those of one shelf at most, so an
+--   open finds the shelf that was answered before
 abbrev pub AreShelvesOne : Type 0
 AreShelvesOne = (trees : Trees) (text more : BookText) (s t : Shelf) → IsKept trees text
     → IsKept trees more → IsShelfOf text (tables_content trees).books s
@@ -75,6 +79,7 @@ AreShelvesOne = (trees : Trees) (text more : BookText) (s t : Shelf) → IsKept 
 
 -- the connection that was opened shows what was left, and each row in its rules, so no fault is
 -- reported of it but the store's or memory's
+-- rule: stop-ruled, database-opened.not-opened
 abbrev pub IsFoundAgain : {S : Type 0} → Ghosts S → Held S → Held S → BookText → OpenFault → Type 0
 IsFoundAgain g old new text fault = IsLeftRuled text (state g old).now.trees
     → IsDatabase (state g old).now → HasCleanDisk (state g new) → IsNotOpened g old new fault
@@ -85,6 +90,7 @@ IsFoundAgain g old new text fault = IsLeftRuled text (state g old).now.trees
 -- a keeper that was made after a stop of an older one shows what that stop left, with the text of
 -- the older one and the shelf of both, and no failure yet; where the older one was clean, with all
 -- that it knew
+-- rule: stop-opened
 pub record IsFoundAfter {S T : Type 0} (g : Ghosts S) (e : Ghosts T) (old : KeeperState S)
     (new : KeeperState T) (shelf : Shelf) : Type 0 where
   pub honest : HasCleanDisk (state g old.connection)
@@ -99,6 +105,8 @@ pub record IsFoundAfter {S T : Type 0} (g : Ghosts S) (e : Ghosts T) (old : Keep
 
 -- what a stop of a keeper leaves is opened again: whoever opens a connection that shows it finds
 -- it, and refuses it for no row
+-- rule: stop-opened: what a stop leaves is opened again, with its rows, under the same text and
+--   books, and is refused for no row
 abbrev pub AreOpenedAgain : {S T : Type 0} → Ghosts S → Ghosts T → Type 0
 AreOpenedAgain {S} {T} g e =
     (old : KeeperState S) (shown : Held T) → IsKeeper g old → HasCleanDisk (state g old.connection)
@@ -118,6 +126,10 @@ IsStoppedWhole g e old mid new shelf Written =
     → (trees_in e new ≡ trees_in g old) ⊎ Written (trees_in e new)
 
 -- so is a change, a voucher, a sweep and a book
+-- rule: stop: a command that was answered is found again after a stop, and one that was being
+--   written is there whole or not at all
+-- rule: stop-command: a command that is stopped at its exit and opened again is whole, and there
+--   if it was answered
 pub record AreStoppedWhole {S T : Type 0} (g : Ghosts S) (e : Ghosts T) : Type 0 where
   pub changed : (old mid : KeeperState S) (new : KeeperState T) (shelf : Shelf) (change : Change)
       → IsStoppedWhole g e old mid new shelf
@@ -161,6 +173,7 @@ IsRefusedAfter g fault (Some left) = HasCleanDisk (state g left) → IsStores fa
 
 -- after a change that was stopped at its exit the rows are those before it or with it, whole, under
 -- the same text and shelf; with it, if it was acknowledged
+-- rule: stop-command
 pub record IsChangedWhole {S A : Type 0} (g : Ghosts S) (change : Change) (old new : KeeperState S)
     (answered : Result A StoreFault) : Type 0 where
   pub either : (trees_in g new ≡ trees_in g old)

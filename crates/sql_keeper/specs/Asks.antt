@@ -44,6 +44,7 @@ abbrev pub is_memory : Error → Bool
 is_memory (SqliteFailure OutOfMemory) = true
 is_memory _ = false
 
+-- rule: store-faults.cause
 abbrev pub told_fault : ReadFault → StoreFault
 told_fault ReadFault.Memory = StoreFault.Memory
 told_fault (ReadFault.Store e) = if is_memory e then StoreFault.Memory else StoreFault.Store
@@ -55,6 +56,7 @@ counted_once n StoreFault.Memory = n
 counted_once n StoreFault.Store = min (n + 1) max_failures
 
 -- of what was read nothing counts, and a fault counts once
+-- rule: store-faults.cause
 abbrev pub IsCounted : {A : Type 0} → ℕ → ℕ → Result A ReadFault → Result A StoreFault → Type 0
 IsCounted old new (Ok x) (Ok y) = new ≡ old
 IsCounted old new (Ok x) (Err f) = ⊥

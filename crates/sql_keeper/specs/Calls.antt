@@ -33,6 +33,7 @@ pub record StoresChange {S T : Type 0} (g : Ghosts S) (change : Tables → Table
   pub whole : IsCommitWhole g old new becomes
 
 -- a change is committed so, and no number that it takes was taken
+-- rule: database-writes.numbers-free
 pub record StoresCommit {S T : Type 0} (g : Ghosts S) (change : Change)
     (becomes : Trees → Type 0) (old new : KeeperState S) (result : Result T StoreFault)
     : Type 0 where

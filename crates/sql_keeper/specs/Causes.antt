@@ -46,6 +46,7 @@ IsForeign db = (v : TablesVersion) → IsVersion v → ¬ (db.schema ≡ schema_
 
 -- the tables are those of a version, no rowid of theirs twice, and another version is kept, whatever
 -- else is kept beside it
+-- rule: database-migrated.older
 pub record IsOtherVersion (db : Database) : Type 0 where
   pub version : TablesVersion
   pub known : IsVersion version
@@ -55,6 +56,9 @@ pub record IsOtherVersion (db : Database) : Type 0 where
 
 -- the tables are those of a version before the latest, no rowid of theirs twice, and that version
 -- is kept
+-- rule: database-migrated.older: a database is reported as an older one if its tables are of that
+--   version and keep it; one that keeps another version is reported by its version, whatever else
+--   it keeps
 pub record IsOlder (db : Database) : Type 0 where
   pub version : TablesVersion
   pub known : IsVersion version
@@ -72,6 +76,7 @@ pub record IsUnruled (db : Database) : Type 0 where
   pub unruled : AreStoredAt version db.trees → AreUnruled version db.trees
 
 -- what a fault says of a database that has it; those of the store and of memory say nothing of it
+-- rule: database-opened.fault: a database has at most one of the faults 1, 2, 3 and 6
 abbrev pub HasFault : OpenFault → Database → Type 0
 HasFault Foreign db = IsForeign db
 HasFault Version db = IsOtherVersion db
@@ -84,6 +89,7 @@ abbrev pub IsStores : OpenFault → Type 0
 IsStores fault = (fault ≡ Store) ⊎ (fault ≡ Memory)
 
 -- a database has one fault at most
+-- rule: database-opened.fault
 abbrev pub AreCausesApart : Type 0
 AreCausesApart =
     (db : Database) (one two : OpenFault) → HasFault one db → HasFault two db → one ≡ two

@@ -32,6 +32,7 @@ pub record Transacts {A E : Type 0} (change : TablesContent → TablesContent) (
 -- the tables hold the change and nothing else; they would be found again: the catalog is the same,
 -- and so are the version and the books, no rowid comes twice, and the moment is in the range of
 -- moments
+-- rule: tidy-rows, database-writes.commits-change, rows-ruled.ruled-change
 pub record Becomes (names : Names) (text : BookText) (change : Change) (old new : Trees)
     : Type 0 where
   pub tables : tables_of names (tables_content new) ≡
@@ -60,12 +61,14 @@ pub record CommitsWhole {A E : Type 0} (Become : Trees → Trees → Type 0) (ol
   pub survives : Survives old new (λ db. IsTrue old.is_open → Become old.now.trees db)
 
 -- the same over a connection that may be shut: where it is, a stop leaves what it left before
+-- rule: stop-commit
 pub record CommitsStanding {A E : Type 0} (Become : Trees → Trees → Type 0) (old new : State)
     (result : Result A E) : Type 0 where
   pub commits : CommitsWhole Become old new result
   pub survives : Survives old new (λ db. IsTrue old.is_open × Become old.now.trees db)
 
 -- so a change is
+-- rule: database-writes.commits-change: a commit into a database is made whole or not at all
 abbrev pub CommitsChange : {A E : Type 0} → Names → BookText → Change → State → State → Result A E →
     Type 0
 CommitsChange names text change = CommitsWhole (Becomes names text change)

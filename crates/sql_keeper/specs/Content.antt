@@ -168,6 +168,11 @@ abbrev pub last_in : Option Meta → Moment
 last_in None = 0
 last_in (Some m) = m.last
 
+-- rule: database-writes.tables-of: what a commit writes into a database reads as the change
+-- rule: database-reads.tables-of: a keeper over a database finds what its tables hold, and asking
+--   changes nothing
+-- rule: database-reads.find-answer: a keeper over a database finds kept answers, vouchers and dead
+--   buckets
 abbrev pub tables_of : Names → TablesContent → Tables
 tables_of names c = record {
   last = last_in c.meta;

@@ -24,6 +24,7 @@ first_meta text = record { version = latest; book = text; last = 0 }
 
 -- the tables of this book before any command: the database lists them, no rowid comes twice, and
 -- there is no other book
+-- rule: database-made
 pub record IsNewBook (text : BookText) (trees : Trees) : Type 0 where
   pub lists : Lists (trees catalog_tree) book_schema
   pub stored : AreStored trees
@@ -44,6 +45,7 @@ pub record BuildsBook (text : BookText) (old new : State) : Type 0 where
 
 -- outside a transaction: the tables are made, or nothing is changed, and a stop leaves what was
 -- left before or the tables
+-- rule: database-made: the tables of a new book are made whole or not at all
 pub record CreatesBook {A E : Type 0} (text : BookText) (old new : State) (result : Result A E)
     : Type 0 where
   pub done : HasCleanDisk new →

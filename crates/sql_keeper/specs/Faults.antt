@@ -18,6 +18,7 @@ create_fault_number Store = 4
 create_fault_number Memory = 5
 
 -- when a fault is reported of a text and a database: first the book's, then that a table is there
+-- rule: database-made.created
 abbrev pub IsCreateFault : BookText → Schema → CreateFault → Type 0
 IsCreateFault text schema (Book fault) = IsBookFault text fault
 IsCreateFault text schema Present = IsBookText text × (has_ours schema ≡ true)

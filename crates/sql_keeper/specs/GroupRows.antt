@@ -117,6 +117,7 @@ IsReservationOf names buckets held number g (Some p) (Some r) =
     AreTermsOf names number p r.terms × AreHoldsOf buckets held g r.holds
 
 -- what a session has of a rating group is that of the row
+-- rule: database-loads.group-of: what an open session's groups hold is read with them
 pub record IsGroupOf (names : Names) (buckets : List BucketRow) (held : List SessionHold)
     (books : List SessionBook) (c : OpenGroupAt) (x : SessionGroup) : Type 0 where
   pub session : x.session ≡ c.session

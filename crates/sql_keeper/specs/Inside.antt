@@ -42,6 +42,7 @@ keeper_code {S} store =
     (λ _. refl)
 
 -- the disk has returned what was written, and where it failed a call the connection is open still
+-- rule: database-reads.tables-of
 pub record IsClean (s : State) : Type 0 where
   pub disk : HasCleanDisk s
   pub open_still : (s.faults ≡ 0) ⊎ IsTrue s.is_open
@@ -53,6 +54,7 @@ StaysOpen s = HasCleanDisk s → s.faults ≡ 0 → IsTrue s.is_open
 -- what a keeper keeps between calls: no transaction is open, and the tables are there; an open
 -- would find them again with its text, its shelf and its last moment, and an open after a stop,
 -- also after a failure that shut the connection, with its text; no row is why it would be refused
+-- rule: database-reads.tables-of, database-reads.held, stop-ruled
 pub record IsKeeper {S : Type 0} (g : Ghosts S) (k : KeeperState S) : Type 0 where
   pub bounded : k.failures ≤ max_failures
   pub plain : k.connection.in_transaction ≡ false

@@ -14,6 +14,8 @@ is_alike_in None b = false
 is_alike_in (Some y) b = is_some y.scope && is_alike y.kind b.kind
 
 -- whether the rows that are kept are of an account, and their bucket of this number is such a one
+-- rule: database-writes.counted: what is kept of an account says of a bucket what it counts, so
+--   that the row beside it isn't written
 abbrev pub is_counted : Option KeptRows → AccountName → BucketRow → Bool
 is_counted None a b = false
 is_counted (Some x) a b =

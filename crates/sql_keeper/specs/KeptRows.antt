@@ -38,6 +38,8 @@ use Rattle.sql_keeper.specs.declared.seen.SeenAccount.{SeenAccount}
 abbrev pub AreOf : Names → TableRows → LiveRows → Type 0
 AreOf names r x = AreLiveRows names r x.purse x.sessions.items x.groups.items
 
+-- rule: database-loads.keeps: the rows of one account are kept from one command to the next as the
+--   tables have them, and a load of it copies them
 abbrev pub Keeps : Names → Option KeptRows → Trees → Type 0
 Keeps names None trees = Unit {0}
 Keeps names (Some x) trees = AreOf names (rows_in trees x.account) x.rows
@@ -137,6 +139,7 @@ abbrev pub is_known : (SessionName → Bool) → List Session → Session → Bo
 is_known fresh ss x = not (is_open x.state) || (is_some (session_in x.id ss) || fresh x.id)
 
 -- the rows with those of the change: of a session that is opened nothing was there
+-- rule: database-loads.keeps
 pub record AreReplaced (fresh : SessionName → Bool) (w : StoredRows) (old new : LiveRows)
     : Type 0 where
   pub named : IsNamed w
@@ -158,6 +161,7 @@ pub record AreGrantsOver (ws : List SessionGroup) (old new : TableRows) : Type 0
       → new.holds s g n ≡ old.holds s g n
 
 -- the tables become those with a change, and reservations are stored so
+-- rule: database-loads.keeps
 pub record BecomesOver (names : Names) (text : BookText) (change : Change) (old new : Trees)
     : Type 0 where
   pub becomes : Becomes names text change old new

@@ -18,6 +18,7 @@ use Rattle.sql_keeper.specs.declared.swept_rows.SweptAccount.{SweptAccount}
 
 -- the rows that a change writes, put one after another, read as the change over the tables that
 -- were there
+-- rule: database-writes.tables-of
 abbrev pub AreChangesRead : Type 0
 AreChangesRead =
     (names : Names) (m : Meta) (change : Change) (texts : Option Kept) (c : TablesContent)
@@ -35,5 +36,6 @@ AreSweepsRead =
     → IsSwept shelf t (tables_of names c) (tables_of names (with_sweep names text t xs c))
 
 -- tables without rows hold nothing
+-- rule: database-made.new-tables-empty: tables without rows hold nothing
 abbrev pub AreNewTablesEmpty : Type 0
 AreNewTablesEmpty = (names : Names) → tables_of names (tables_content (λ t. [])) ≡ no_tables

@@ -28,6 +28,7 @@ pub record IsKept (trees : Trees) (text : BookText) : Type 0 where
 -- the tables of a book as they are found again: the database lists ours, no rowid comes twice
 -- there, and it keeps their version with the text, which is one of characters and a book's; the
 -- other books that it keeps may follow it
+-- rule: database-opened.left: what is made, committed or swept is left as it is found again
 pub record IsLeft (text : BookText) (trees : Trees) : Type 0 where
   pub lists : Lists (trees catalog_tree) book_schema
   pub stored : AreStored trees
@@ -37,6 +38,8 @@ pub record IsLeft (text : BookText) (trees : Trees) : Type 0 where
 
 -- and as the commands of this system leave them: each row is in its rules, by the books of the
 -- text, and as the statements write it
+-- rule: stop-ruled: what a keeper holds and what a stop of it leaves is in its rules, and is
+--   refused for no row; what the commands leave of rows in their rules is so again
 pub record IsLeftRuled (text : BookText) (trees : Trees) : Type 0 where
   pub left : IsLeft text trees
   pub rules : (shelf : Shelf) → IsShelfOf text (tables_content trees).books shelf
@@ -44,6 +47,8 @@ pub record IsLeftRuled (text : BookText) (trees : Trees) : Type 0 where
   pub plain : ArePlain trees
 
 -- the tables would be found again with this text, with this shelf and with this last moment
+-- rule: database-reads.held: a keeper over a database knows the text, the books and the last
+--   moment that are kept there, from one command to the next
 pub record IsHeld (text : BookText) (shelf : Shelf) (last : Moment) (trees : Trees) : Type 0 where
   pub left : IsLeftRuled text trees
   pub books : IsShelfOf text (tables_content trees).books shelf

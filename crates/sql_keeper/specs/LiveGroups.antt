@@ -47,6 +47,7 @@ AreGrantsStored rows xs =
 
 -- what the open sessions have of rating groups, and what their reservations hold: all of it, and of
 -- no other session
+-- rule: database-loads.told-groups: open groups and what they hold are what a load asks for
 pub record AreToldGroups (names : Names) (rows : TableRows) (xs : List SessionGroup) : Type 0 where
   pub groups : (s : SessionName) (g : GroupId) → option_map group_row (group_in s g xs) ≡
       (if is_open_row (rows.sessions s)
@@ -57,17 +58,21 @@ pub record AreToldGroups (names : Names) (rows : TableRows) (xs : List SessionGr
       then held_in (is_reserved (rows.groups s g)) (rows.holds s g n) else 0)
 
 -- and how their reservations are stored
+-- rule: database-loads.live-groups: what open sessions have of rating groups is read from a
+--   database
 pub record AreLiveGroups (names : Names) (rows : TableRows) (xs : List SessionGroup) : Type 0 where
   pub told : AreToldGroups names rows xs
   pub grants : AreGrantsStored rows xs
 
 -- the open sessions, and what they have of rating groups
+-- rule: database-loads.live-groups
 pub record AreOpenSessions (names : Names) (rows : TableRows) (ss : List Session)
     (xs : List SessionGroup) : Type 0 where
   pub sessions : AreSessions (λ x. is_open x.state) rows ss
   pub groups : AreLiveGroups names rows xs
 
 -- of an account's rows, what is loaded of groups and holds
+-- rule: database-loads.told-groups
 pub record AreLoadedGroups (r : Rows) (xs : List SessionGroup) : Type 0 where
   pub groups : (s : SessionName) (g : GroupId) → option_map group_row (group_in s g xs) ≡
       (if is_loaded r s g then r.groups s g else None)

@@ -45,6 +45,7 @@ pub record AreToldRows (names : Names) (rows : TableRows) (bs : List BucketRow) 
   pub groups : AreToldGroups names rows xs
 
 -- and how the reservations among them are stored
+-- rule: database-loads.live-account
 pub record AreLiveRows (names : Names) (rows : TableRows) (bs : List BucketRow) (ss : List Session)
     (xs : List SessionGroup) : Type 0 where
   pub told : AreToldRows names rows bs ss xs
@@ -73,12 +74,15 @@ IsReadAccount names shelf t rows (Some x) =
     × AreCountersAt shelf t rows x.counters.items
 
 -- the account, with all of it that may still change at the moment
+-- rule: database-loads.live-account
 abbrev pub IsToldAccount : Names → Shelf → Moment → TableRows → StoredRows → Type 0
 IsToldAccount names shelf t rows w =
     (rows.head ≡ Some (head_columns_of w)) × AreToldRows names rows w.buckets w.sessions w.groups
     × AreCountersAt shelf t rows w.counters
 
 -- and how its reservations are stored; there is none where it has no head
+-- rule: database-loads.live-account: what may still change of an account is read from a database
+-- rule: database-loads.load: what is read of an account is loaded and viewed
 abbrev pub IsLiveAccount : Names → Shelf → Moment → TableRows → Option StoredRows → Type 0
 IsLiveAccount names shelf t rows None = rows.head ≡ None
 IsLiveAccount names shelf t rows (Some w) =

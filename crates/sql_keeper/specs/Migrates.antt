@@ -64,6 +64,7 @@ AreGranted v old new = (a : AccountName) (s : SessionName) (g : GroupId)
 
 -- the tables of a version become those of the latest, and hold what they held: no row of theirs is
 -- lost, the books are the same, and each reservation has its book
+-- rule: database-migrated
 pub record BecomesLatest (v : TablesVersion) (old new : Trees) : Type 0 where
   pub tables : (names : Names) →
       tables_of names (tables_content new) ≡ tables_of names (content_at v old)
@@ -77,6 +78,7 @@ pub record BecomesLatest (v : TablesVersion) (old new : Trees) : Type 0 where
   pub stored : AreStored new
 
 -- a database that is left as one of the latest version by a migration of one of this version
+-- rule: database-migrated
 pub record IsLeftLatest (v : TablesVersion) (old new : Trees) : Type 0 where
   pub becomes : BecomesLatest v old new
   pub text : BookText
@@ -92,6 +94,9 @@ pub record IsRuledByVersion (v : TablesVersion) (trees : Trees) (row : Meta) : T
 
 -- a database of a version in the rules of who migrates it: no rowid comes twice, what is kept once
 -- is there, and where it keeps that version, all is in the rules of it
+-- rule: database-migrated.ruled-version: a migration reads each row of a database once before it
+--   writes; what it refuses is out of the rules of its version, and what it leaves is in those of
+--   the latest
 pub record IsRuledVersion (v : TablesVersion) (trees : Trees) : Type 0 where
   pub stored : AreStoredAt v trees
   pub row : Meta
@@ -205,6 +210,7 @@ pub record MigratesTables (v : TablesVersion) (old new : State)
   pub survives : Survives old new (IsLeftLatest v old.now.trees)
 
 -- the same where each row was tested before; a fault is of the shelf, of a row or of the migration
+-- rule: database-migrated.ruled-version
 pub record MigratesRuled (v : TablesVersion) (old new : State)
     (result : Result ReadBooks OpenFault) : Type 0 where
   pub moved : IfOk result (λ r. MigratesTables v old new (Ok r))
@@ -218,6 +224,10 @@ pub record MigratesRuled (v : TablesVersion) (old new : State)
 
 -- the version that the database had is one that there is, and so the keeper holds what it held; one
 -- of the latest is left as it is
+-- rule: database-migrated: a database of an older version is brought to the latest whole or not at
+--   all, also over a stop; its tables hold what they held, and a connection that is given back
+--   shows what it showed while it is open
+-- rule: database-migrated.ruled-version
 pub record IsMigrated {S : Type 0} (g : Ghosts S) (old : Held S) (k : KeeperState S)
     (shelf : Shelf) : Type 0
   where
@@ -238,6 +248,7 @@ pub record IsMigrated {S : Type 0} (g : Ghosts S) (old : Held S) (k : KeeperStat
 
 -- a stop leaves what it left before, or the whole migration; while the connection is open it shows
 -- what it showed
+-- rule: database-migrated, database-migrated.ruled-version
 pub record FindsNone (old new : State) (fault : OpenFault) : Type 0 where
   pub survives : Survives old new (λ db. (v : TablesVersion) × IsVersion v ×
       IsLeftLatest v old.now.trees db)

@@ -22,6 +22,7 @@ WasSo so old new result = HasCleanDisk new → OnOk result (so old.now.trees)
 -- ---- charges
 
 -- an account has no charge of this one's number
+-- rule: database-writes.numbers-free
 abbrev pub LacksCharge : AccountName → TablesContent → ChargeRow → Type 0
 LacksCharge a c x = (c.rows a).charges x.number ≡ None
 
@@ -42,6 +43,7 @@ first_bucket None = 0
 first_bucket (Some h) = h.next_bucket
 
 -- a bucket that is new has a number under which there is none
+-- rule: database-writes.numbers-free
 abbrev pub IsFree : BucketNumber → TableRows → BucketRow → Type 0
 IsFree first r b = first ≤ b.number → r.buckets b.number ≡ None
 
@@ -52,6 +54,8 @@ AreFree first r bs = EachIn (IsFree first r) bs
 
 -- of an account's charges and of its buckets from its next number on none is there that a change
 -- names
+-- rule: database-writes.numbers-free: a commit writes no charge over another, and no bucket that
+--   is new over one that is there
 pub record AreNumbersFree (change : Change) (r : TableRows) : Type 0 where
   pub charges : EachIn (λ (x : ChargeRow). r.charges x.number ≡ None) change.charges.items
   pub buckets : AreFree (first_bucket r.head) r change.rows.buckets

@@ -20,6 +20,7 @@ pub record AsksVersion {A : Type 0} (v : TablesVersion) (old new : State)
   pub survives : Survives old new (λ _. ⊥)
 
 -- outside it: the fault of a database of a version before the latest; nothing is written
+-- rule: database-migrated.older
 pub record IsNotLatest (v : TablesVersion) (old new : State) (fault : OpenFault) : Type 0 where
   pub older : HasCleanDisk new → fault ≡ Older → KeepsVersion v old.now.trees
   pub version : HasCleanDisk new → fault ≡ Version → IsOtherThan v old.now.trees

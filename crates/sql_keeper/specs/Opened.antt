@@ -32,6 +32,8 @@ pub record IsFresh {S : Type 0} (k : KeeperState S) (shelf : Shelf) : Type 0 whe
 -- ---- made
 
 -- the tables were made in a database that had none, and hold nothing but what is kept once
+-- rule: database-made.created: a keeper over a new database holds nothing; a fault of the book is
+--   reported before a table that is already there
 pub record IsCreated {S : Type 0} (g : Ghosts S) (text : BookText) (old : Held S)
     (k : KeeperState S) (shelf : Shelf) : Type 0 where
   pub fresh : IsFresh k shelf
@@ -49,6 +51,7 @@ pub record IsCreated {S : Type 0} (g : Ghosts S) (text : BookText) (old : Held S
   pub survives : Survives (state g old) (state g k.connection) (IsNewBook text)
 
 -- nothing is changed; a stop leaves what it left before, or the new tables
+-- rule: database-made.created
 pub record IsNotCreated {S : Type 0} (g : Ghosts S) (text : BookText) (old new : Held S)
     (fault : CreateFault) : Type 0 where
   pub told : IsCreateFault text old.schema fault
@@ -60,6 +63,10 @@ pub record IsNotCreated {S : Type 0} (g : Ghosts S) (text : BookText) (old new :
 -- ---- opened
 
 -- the keeper holds what was there, each row is in its rules, and nothing was written
+-- rule: database-opened: a keeper that is opened holds what was there, and opening writes nothing;
+--   a connection that is given back shows what it showed while it is open
+-- rule: rows-ruled.opened: an opening reads each row of a database once, and reports one that is
+--   out of its rules as fault 3, after the faults of its tables, its version and its books
 pub record IsOpened {S : Type 0} (g : Ghosts S) (old : Held S) (k : KeeperState S)
     (shelf : Shelf) : Type 0
   where
@@ -74,11 +81,14 @@ pub record IsOpened {S : Type 0} (g : Ghosts S) (old : Held S) (k : KeeperState 
     pub survives : Survives (state g old) (state g k.connection) (λ _. ⊥)
 
 -- while the connection is open it shows what it showed
+-- rule: database-opened
 abbrev pub LeavesStill : {S : Type 0} → Ghosts S → Held S → Held S → Type 0
 LeavesStill g old new = HasCleanDisk (state g new) → IsTrue (state g new).is_open →
     IsStill (state g old) (state g new)
 
 -- nothing was written; the fault is the store's or memory's, or the database has it, or a row
+-- rule: database-opened.not-opened: what is left is opened without faults 1, 2, 3 and 6
+-- rule: database-opened, rows-ruled.opened
 pub record IsNotOpened {S : Type 0} (g : Ghosts S) (old new : Held S)
     (fault : OpenFault) : Type 0 where
   pub survives : Survives (state g old) (state g new) (λ _. ⊥)

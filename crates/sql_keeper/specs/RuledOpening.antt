@@ -22,6 +22,7 @@ use Rattle.sql_keeper.specs.declared.books.ReadBooks.{ReadBooks}
 
 -- the tables are those of the latest version, no rowid of theirs twice, and they keep that version
 -- with the texts of a shelf; but a row is out of the rules of its table
+-- rule: rows-ruled.opened
 pub record HasUnruledRow (db : Database) : Type 0 where
   pub schema : db.schema ≡ schema_at latest
   pub stored : AreStoredAt latest db.trees
@@ -31,10 +32,12 @@ pub record HasUnruledRow (db : Database) : Type 0 where
   pub unruled : ¬ AreRuled shelf latest db.trees
 
 -- the fault is the store's or memory's, or the database has it, or a row of the database
+-- rule: rows-ruled.opened
 abbrev pub IsRowFault : OpenFault → Database → Type 0
 IsRowFault fault db = IsStores fault ⊎ (HasFault fault db ⊎ ((fault ≡ Rules) × HasUnruledRow db))
 
 -- of a database that has a fault no row is reported
+-- rule: rows-ruled.opened
 abbrev pub AreRowsApart : Type 0
 AreRowsApart = (db : Database) (fault : OpenFault) → HasFault fault db → ¬ HasUnruledRow db
 

@@ -76,6 +76,8 @@ abbrev pub is_ruled_charge : ChargeRow → Bool
 is_ruled_charge x = is_charge x && nat_le x.covered.0 most_blocks
 
 -- all of a change but its texts
+-- rule: rows-ruled.ruled-change: if each row was in its rules, each still is after a change, a
+--   voucher, a sweep or a book more; what would be out of them isn't written
 abbrev pub is_ruled_change : Names → Change → Bool
 is_ruled_change names change =
     is_moment change.moment && are_ruled_rows names change.number change.rows
@@ -83,10 +85,12 @@ is_ruled_change names change =
     && is_ruled_kept change.kept
 
 -- a voucher that is added, at a moment
+-- rule: rows-ruled.ruled-change
 abbrev pub is_ruled_addition : VoucherCode → VoucherTerms → Moment → Bool
 is_ruled_addition code terms t = is_moment t && is_voucher code (voucher_row (unspent terms))
 
 -- an account as a sweep leaves it
+-- rule: rows-ruled.ruled-change
 abbrev pub is_ruled_swept : Names → SweptAccount → Bool
 is_ruled_swept names x = are_ruled_rows names x.number x.rows
 

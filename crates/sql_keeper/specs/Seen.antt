@@ -100,6 +100,8 @@ standing_in x s =
     if is_name s x.unknown then Some Unknown else (if is_name s x.live then Some Open else None)
 
 -- it is what the account's rows are
+-- rule: database-writes.seen: what was read of an account before its change isn't read again for
+--   its tests, while nothing is written
 pub record IsSeen (r : TableRows) (x : SeenAccount) : Type 0 where
   pub head : (h : HeadColumns) → x.head ≡ Some h → r.head ≡ Some h
   pub live : (s : SessionName) → x.live ≡ Some s → is_open_row (r.sessions s) ≡ true
@@ -127,6 +129,7 @@ Stands told m s = HasCleanDisk s → IsTrue s.is_open →
     IsKeptOnce told m (tables_content s.now.trees).meta
 
 -- what a keeper keeps between calls, with what it has seen, and the rows that it keeps
+-- rule: database-writes.seen
 pub record IsSeeing {S : Type 0} (g : Ghosts S) (k : KeeperState S) (o : Option SeenAccount)
     (p : Option KeptRows) : Type 0 where
   pub keeper : IsKeeper g k

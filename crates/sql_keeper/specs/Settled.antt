@@ -25,6 +25,7 @@ open_still s stays clean = go clean.open_still
     go (inl none) = stays clean.disk none
     go (inr on) = on
 
+-- rule: stop-between
 pub at_rest : {S : Type 0} (g : Ghosts S) → AreSettled g → (k : KeeperState S) → IsAtRest g k
 at_rest g law k keeper clean db may =
     let on = open_still (state g k.connection) keeper.stays clean in

@@ -43,6 +43,8 @@ as_seen g k = record {
 
 -- a stop at the exit of a call leaves what it left before the call, or all that the call writes,
 -- also where the connection is shut
+-- rule: stop-commit: a stop at the exit of a commit leaves the rows before it or with it, also of
+--   a connection that the disk shut
 pub record IsCommitWhole {S : Type 0} (g : Ghosts S) (old new : KeeperState S)
     (Written : Trees → Type 0) : Type 0
   where
@@ -50,6 +52,7 @@ pub record IsCommitWhole {S : Type 0} (g : Ghosts S) (old new : KeeperState S)
         → MayLeave g old db ⊎ Written db
 
 -- between two calls a stop leaves the rows as they are
+-- rule: stop-between: a stop between two calls leaves what was committed last
 abbrev pub IsAtRest : {S : Type 0} → Ghosts S → KeeperState S → Type 0
 IsAtRest g k =
     IsKeeper g k → IsClean (state g k.connection) → (db : Trees) → MayLeave g k db

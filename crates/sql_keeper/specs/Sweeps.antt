@@ -40,6 +40,7 @@ abbrev pub rows_at : Shelf → Moment → StoredRows → StoredRows
 rows_at shelf t w = if nat_le w.as_of t then advanced_stored shelf t w else w
 
 -- those of an account's rows that differ at the moment
+-- rule: database-sweep
 abbrev pub differing_at : Shelf → Moment → StoredRows → StoredRows
 differing_at shelf t before = named_rows before (rows_at shelf t before)
 
@@ -87,6 +88,8 @@ pub record AreSweptOf (names : Names) (shelf : Shelf) (t : Moment) (c : TablesCo
   pub each : EachIn (IsSweptOf names shelf t c) xs
 
 -- all accounts, each once
+-- rule: database-sweep: a sweep of a database brings all accounts to the moment, and writes of
+--   each the rows that differ alone
 pub record AreAllSwept (names : Names) (shelf : Shelf) (t : Moment) (c : TablesContent)
     (xs : List SweptAccount) : Type 0 where
   pub all : AreAccounts c (map (λ (x : SweptAccount). x.number) xs)
@@ -106,6 +109,7 @@ abbrev pub with_accounts : Names → List SweptAccount → TablesContent → Tab
 with_accounts names = with_each (with_swept names)
 
 -- and the moment
+-- rule: database-sweep
 abbrev pub with_sweep : Names → BookText → Moment → List SweptAccount → TablesContent →
     TablesContent
 with_sweep names text t xs c = with_accounts names xs (with_meta (meta_at text t) c)
@@ -130,6 +134,8 @@ pub record SweepsEach (names : Names) (text : BookText) (shelf : Shelf) (t : Mom
   pub turns : Turns (with_sweep names text t accounts) old new
 
 -- each account is, and no other
+-- rule: database-sweep.sweeps-accounts: a sweep of a database is made whole or not at all, also
+--   over a stop
 pub record SweepsAccounts (names : Names) (text : BookText) (shelf : Shelf) (t : Moment)
     (old new : Trees) : Type 0 where
   pub numbers : List AccountName
@@ -164,6 +170,7 @@ pub record TransactsSweep {A E : Type 0} (names : Names) (text : BookText) (shel
 -- each account is brought to the moment; the tables would be found again: the catalog is the same,
 -- and so are the version and the books, no rowid comes twice, and the moment is in the range of
 -- moments
+-- rule: database-sweep.sweeps-accounts
 pub record BecomesSwept (names : Names) (text : BookText) (shelf : Shelf) (t : Moment)
     (old new : Trees) : Type 0 where
   pub tables : IsSwept shelf t (tables_of names (tables_content old))

@@ -46,11 +46,13 @@ abbrev pub MayStand : Names → List Session → SessionName → Option Reservat
 MayStand names sessions s None = Unit {0}
 MayStand names sessions s (Some r) = IsWritable names sessions s r
 
+-- rule: database-writes.writable: a commit writes only what passes its tests
 abbrev pub AreWritable : Names → List Session → List SessionGroup → Type 0
 AreWritable names sessions groups =
     EachIn (λ r. MayStand names sessions r.session r.reservation) groups
 
 -- charges numbered one after another, from one number to below another
+-- rule: database-writes.writable
 abbrev pub AreNumbered : ChargeNumber → ChargeNumber → List ChargeRow → Type 0
 AreNumbered from next [] = from ≡ next
 AreNumbered from next (c ∷ cs) = (c.number ≡ from) × AreNumbered (from + 1) next cs
@@ -71,6 +73,7 @@ abbrev pub is_as : Session → Bool → Bool
 is_as x before = if is_open x.state then before else not before
 
 -- of a session that is opened or ended no group that isn't named has a reservation
+-- rule: database-writes.writable
 abbrev pub AreSettled : List Session → List SessionGroup → TableRows → Type 0
 AreSettled sessions groups r =
     (s : SessionName) (g : GroupId) (y : Group) → r.groups s g ≡ Some y →
@@ -98,6 +101,7 @@ pub record IsFound (groups : List SessionGroup) (r : TableRows) (x : Session)
   pub new : IsTrue y.are_new → IsUnknown r x.id
 
 -- the sessions have no row, and nothing of rating groups
+-- rule: database-writes.writable
 abbrev pub AreUnknown : TableRows → List Session → Type 0
 AreUnknown r sessions = EachIn (λ (x : Session). IsUnknown r x.id) sessions
 

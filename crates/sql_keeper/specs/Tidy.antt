@@ -59,6 +59,8 @@ pub record AreTidyRows (names : Names) (a : AccountName) (r : TableRows) : Type 
       → r.answers kind name number ≡ Some k
       → (is_key kind number ≡ true) × (is_some (kept_in a k) ≡ true)
 
+-- rule: tidy-rows: what a keeper over a database writes leaves no row without a meaning, if there
+--   was none before: a change, a voucher, a sweep, a book more
 pub record IsTidy (names : Names) (c : TablesContent) : Type 0 where
   -- what is kept once is there, and is there once
   pub there : is_some c.meta ≡ true

@@ -150,6 +150,7 @@ abbrev pub with_all_counted : AccountName → List BucketRow → TablesContent �
 with_all_counted a = with_each (with_counted a)
 
 -- the same of a bucket of which it may be kept what it counts: the row beside it stays then
+-- rule: database-writes.counted
 abbrev pub with_counted_over : AccountName → Option KeptRows → BucketRow → TablesContent →
     TablesContent
 with_counted_over a kept b c =
@@ -228,6 +229,7 @@ AreTexts a (Some k) (Some t) = kept_in a t ≡ Some k
 abbrev pub texts_fault : AccountName → Content → ReadFault
 texts_fault a c = if same_name (account_of c) a then Memory else Rules
 
+-- rule: rows-ruled.ruled-change
 abbrev pub IsTextsFault : AccountName → Option KeptAnswer → ReadFault → Type 0
 IsTextsFault a None fault = ⊥
 IsTextsFault a (Some k) fault = fault ≡ texts_fault a k.content
@@ -268,6 +270,7 @@ with_change_put names known change texts c =
     (with_changed_rows names known change (with_moment_put known.is_there change.moment c)))
 
 -- all of a change
+-- rule: database-writes.tables-of
 abbrev pub with_change : Names → Meta → Change → Option Kept → TablesContent → TablesContent
 with_change names m change texts c =
     with_redeemed change.redeemed (with_kept change.number change.kept texts

@@ -69,6 +69,7 @@ fn write_addition<S: Alter>(
 
 /// Adds a voucher, in one transaction: the tables become those with it, or at a fault they are as
 /// before. Whatever a stop leaves is one of the two.
+// rule: database-voucher
 fn make_addition<S: Alter>(
     conn: &mut Connection<S>,
     text: &str,
@@ -120,6 +121,7 @@ impl<S: Alter> SqlKeeper<S> {
     ///
     /// # Errors
     /// Lack of memory; a fault of the store, which is counted, as is a moment that no command has.
+    // rule: database-voucher
     pub fn add_voucher(
         &mut self,
         code: VoucherCode,

@@ -200,6 +200,7 @@ fn write_last<S: Alter>(
 ///
 /// # Errors
 /// A fault of the store; `Rules` where the shelf isn't the keeper's.
+// rule: book-added
 fn add_to_all<S: Alter>(
     conn: &mut Connection<S>,
     shelf: &mut TariffShelf,
@@ -253,6 +254,7 @@ impl<S: Alter> SqlKeeper<S> {
     /// - `Store`, lack of memory or a fault of the store, which is counted. So is a shelf that
     ///   isn't this keeper's, and a moment from the end of all moments on. Where the store can't be
     ///   asked any more, it comes before `Shelf`.
+    // rule: book-added
     pub fn add_book(
         &mut self,
         shelf: &mut TariffShelf,

@@ -84,6 +84,7 @@ impl<S: Alter> SqlKeeper<S> {
     ///
     /// # Errors
     /// A fault of the store, which is counted, or lack of memory.
+    // rule: database-reads.tables-of
     pub fn last(&mut self) -> Result<Moment, StoreFault>
         ensures { AsksTables S.Store (λ t moment. moment ≡ t.last) self.old self.new result }
     {
@@ -95,6 +96,7 @@ impl<S: Alter> SqlKeeper<S> {
     ///
     /// # Errors
     /// A fault of the store, which is counted, or lack of memory.
+    // rule: database-reads.tables-of
     pub fn has_account(&mut self, account: &AccountNumber) -> Result<bool, StoreFault>
         ensures { AsksTables S.Store (λ t there. there ≡ is_some (t.rows account.now).head)
             self.old self.new result }
@@ -107,6 +109,7 @@ impl<S: Alter> SqlKeeper<S> {
     ///
     /// # Errors
     /// A fault of the store, which is counted, or lack of memory.
+    // rule: database-reads.tables-of
     pub fn knows_session(
         &mut self,
         account: &AccountNumber,

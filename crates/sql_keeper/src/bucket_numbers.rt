@@ -28,6 +28,7 @@ fn first_bucket(head: &Option<HeadColumns>) -> u64
 }
 
 /// Tests a bucket: from this number on it is new, and has none of its number beside it.
+// rule: database-writes.numbers-free
 fn test_bucket<S: Alter>(
     conn: &mut Connection<S>,
     account: &AccountNumber,
@@ -71,6 +72,7 @@ fn test_buckets<S: Alter>(
 ///
 /// # Errors
 /// `Store` where the store failed, `Rules` where a number is taken or a row is out of its rules.
+// rule: database-writes.numbers-free
 pub(crate) fn test_bucket_numbers<S: Alter>(
     conn: &mut Connection<S>,
     seen: &Option<SeenAccount>,

@@ -59,6 +59,7 @@ fn write_change<S: Alter>(
 
 /// Tests a change, and writes it in one transaction if it may be written: the tables become those
 /// with the change, or at a fault they are as before. Whatever a stop leaves is one of the two.
+// rule: database-writes.commits-change
 #[tactic(auto, using(crate::proofs::Whole::refused))]
 fn make_change<S: Alter>(
     conn: &mut Connection<S>,
@@ -132,6 +133,7 @@ impl<S: Alter> SqlKeeper<S> {
     /// # Errors
     /// Lack of memory; a fault of the store, which is counted, as is a change that may not be
     /// written, or has a number that is taken.
+    // rule: tidy-rows, database-writes.numbers-free, database-writes.commits-change, stop-commit
     pub fn commit(&mut self, change: Change) -> Result<(), StoreFault>
         ensures { StoresCommit S.Store change
             (Becomes (names_in self.old) self.old.text change (trees_in S.Store self.old))

@@ -116,6 +116,7 @@ fn put_counted_row<S: Alter>(
 ///
 /// # Errors
 /// As of `put_counted`.
+// rule: database-writes.counted
 pub(crate) fn put_counted_over<S: Alter>(
     tx: &mut Transaction<'_, S>,
     account: &AccountNumber,

@@ -25,6 +25,7 @@ fn put_book<S: Alter>(tx: &mut Transaction<'_, S>, text: &str) -> Result<(), Err
 }
 
 /// Makes the tables of a book in a database that has none, in one transaction.
+// rule: database-made
 pub(crate) fn create_book<S: Alter>(conn: &mut Connection<S>, text: &str) -> Result<(), Error>
     requires plain { conn.old.in_transaction ≡ false }
     requires blank { HasCleanDisk (state S.Store conn.old) →

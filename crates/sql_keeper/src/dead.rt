@@ -58,6 +58,7 @@ impl<S: Alter> SqlKeeper<S> {
     ///
     /// # Errors
     /// A fault of the store, which is counted, as is a row out of its rules; lack of memory.
+    // rule: database-reads.find-answer
     pub fn dead_buckets(&mut self, account: &AccountNumber) -> Result<Vec<Bucket>, StoreFault>
         ensures { AsksTables S.Store (λ t found. AreDeadOf (t.rows account.now) found.items)
             self.old self.new result }

@@ -139,6 +139,7 @@ impl<S: Alter> SqlKeeper<S> {
     /// # Errors
     /// A fault of the store, which is counted, as are texts that aren't those of a command and its
     /// answer; lack of memory.
+    // rule: database-reads.find-answer
     pub fn find_answer(
         &mut self,
         account: &AccountNumber,

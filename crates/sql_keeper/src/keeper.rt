@@ -20,6 +20,7 @@ use units::Moment;
 ///
 /// Its store is clean while the disk returns what was written; where the disk failed a call, it is
 /// clean as long as the connection is open still. Nothing but a failure of the disk shuts it.
+// rule: database-reads.held
 pub struct SqlKeeper<S: Alter> {
     pub(crate) connection: Connection<S>,
     pub(crate) shelf: TariffShelf,

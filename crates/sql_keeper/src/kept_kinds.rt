@@ -47,6 +47,7 @@ fn is_counted_in(kept: &KeptRows, account: &AccountNumber, bucket: &Bucket) -> b
 
 /// Whether the rows that are kept show that a bucket, one of one rating group, counts what it
 /// counts here: then the row beside it stays as it is.
+// rule: database-writes.counted
 pub(crate) fn is_counted(kept: &Option<KeptRows>, account: &AccountNumber, bucket: &Bucket) -> bool
     ensures { result ≡ is_counted kept.now account.now bucket.now }
 {

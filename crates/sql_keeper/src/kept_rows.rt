@@ -78,6 +78,7 @@ fn copy_if_of(alloc: Global, kept: &KeptRows, account: &AccountNumber) -> Option
 
 /// A copy of what is kept of an account; None where another is kept, or none, and for lack of
 /// memory.
+// rule: database-loads.keeps
 pub(crate) fn copy_of_kept(
     alloc: Global,
     kept: &Option<KeptRows>,
@@ -161,6 +162,7 @@ fn kept_if_loaded(
 }
 
 /// What is kept after a load. It is forgotten after a fault.
+// rule: database-loads.keeps
 pub(crate) fn kept_after(
     alloc: Global,
     kept: Option<KeptRows>,
@@ -198,6 +200,7 @@ fn kept_with(
 }
 
 /// What is kept once a change was made, or wasn't.
+// rule: database-loads.keeps
 pub(crate) fn kept_over(
     alloc: Global,
     kept: Option<KeptRows>,

@@ -58,6 +58,7 @@ pub(crate) fn is_none(sessions: &[Session]) -> bool
 /// `Rules` where a reservation has no book on the shelf, or its period isn't one of that book's.
 /// `Rules` too where it holds nothing of a bucket, or holds of one that isn't in the purse. Else a
 /// fault of the store, or lack of memory.
+// rule: database-loads.live-groups
 pub(crate) fn read_open_sessions<S: Alter>(
     conn: &mut Connection<S>,
     alloc: Global,

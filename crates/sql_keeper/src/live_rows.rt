@@ -349,6 +349,7 @@ pub(crate) fn live_account_of(
 ///
 /// # Errors
 /// `Rules` where the rows are no account's; else a fault of the store, or lack of memory.
+// rule: database-loads.live-account
 pub(crate) fn read_live_account<S: Alter>(
     conn: &mut Connection<S>,
     alloc: Global,

@@ -143,6 +143,7 @@ fn read_rows_within<S: Alter>(
 /// # Errors
 /// `Rules` where the rows are no account's; else a fault of the store, or lack of memory. Then
 /// nothing is committed.
+// rule: database-sweep
 pub(crate) fn read_uncounted_within<S: Alter>(
     tx: &mut Transaction<'_, S>,
     alloc: Global,

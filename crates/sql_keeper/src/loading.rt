@@ -158,6 +158,7 @@ impl<S: Alter> SqlKeeper<S> {
     /// # Errors
     /// A fault of the store, which is counted, as are rows that are no account's, or a reservation
     /// that has no prices on the shelf; lack of memory.
+    // rule: database-loads.load
     pub fn load<'b>(
         &mut self,
         shelf: &'b TariffShelf,
@@ -190,6 +191,7 @@ impl<S: Alter> SqlKeeper<S> {
     ///
     /// # Errors
     /// As of `load`.
+    // rule: database-loads.load
     pub fn view<'b>(
         &mut self,
         shelf: &'b TariffShelf,

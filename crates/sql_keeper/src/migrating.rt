@@ -175,6 +175,7 @@ fn put_latest<S: Alter>(
 
 /// Makes the tables that a database of an older version hasn't, reads its shelf, and brings it to
 /// the latest version, within a transaction.
+// rule: database-migrated
 fn bring_to_latest<S: Alter>(
     tx: &mut Transaction<'_, S>,
     alloc: Global,
@@ -198,6 +199,7 @@ fn bring_to_latest<S: Alter>(
 }
 
 /// Brings a database of an older version to the latest, in one transaction.
+// rule: database-migrated
 fn migrate_tables<S: Alter>(
     conn: &mut Connection<S>,
     alloc: Global,
@@ -221,6 +223,7 @@ fn migrate_tables<S: Alter>(
 
 /// Tests each row of a database of an older version, by the shelf of its texts, and brings it to
 /// the latest in one transaction.
+// rule: database-migrated.ruled-version
 fn migrate_ruled<S: Alter>(
     conn: &mut Connection<S>,
     alloc: Global,
@@ -268,6 +271,7 @@ impl<S: Alter> SqlKeeper<S> {
     /// - `Rules`, a rowid comes twice, or a row that is read is out of its rules;
     /// - `Store`, also where a transaction is open;
     /// - `Memory`.
+    // rule: database-migrated, database-migrated.ruled-version
     pub fn migrate(
         alloc: Global,
         mut connection: Connection<S>,

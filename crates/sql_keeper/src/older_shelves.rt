@@ -37,6 +37,7 @@ fn shelf_within<S: Alter>(
 }
 
 /// The shelf of a database of an older version.
+// rule: database-migrated.ruled-version
 pub(crate) fn older_shelf<S: Alter>(
     conn: &mut Connection<S>,
     alloc: Global,

@@ -14,6 +14,7 @@ use sqlite::{Alter, Connection, Transaction};
 
 /// Whether the version of the tables is kept. Statements are those of the latest version, so the
 /// tables that it has besides are made first, within a transaction that isn't committed.
+// rule: database-migrated.older
 fn ask_version<S: Alter>(tx: &mut Transaction<'_, S>, version: u32) -> Result<(), OpenFault>
     requires known { IsVersion version × (version < latest) }
     requires at { HasAt version (state S.Store tx.old.conn.now) }
@@ -27,6 +28,7 @@ fn ask_version<S: Alter>(tx: &mut Transaction<'_, S>, version: u32) -> Result<()
 }
 
 /// The fault of a database whose tables are those of an older version.
+// rule: database-migrated.older
 pub(crate) fn older_fault<S: Alter>(conn: &mut Connection<S>, version: u32) -> OpenFault
     requires known { IsVersion version × (version < latest) }
     requires plain { conn.old.in_transaction ≡ false }

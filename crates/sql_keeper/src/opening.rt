@@ -38,6 +38,7 @@ use std::alloc::Global;
 use units::Moment;
 
 /// A keeper before its first call, and the shelf that it goes by.
+// rule: database-reads.held, stop-ruled
 pub(crate) fn keeper_of<S: Alter>(
     alloc: Global,
     connection: Connection<S>,
@@ -140,6 +141,7 @@ pub(crate) fn own_meta(read: Option<MetaColumns>) -> Result<MetaColumns, OpenFau
 }
 
 /// What is kept once by the latest version. The version is looked at before the rest.
+// rule: database-migrated.older
 fn find_meta<S: Alter>(conn: &mut Connection<S>) -> Result<MetaColumns, OpenFault>
     requires idle { HasIdleBook (state S.Store conn.old) }
     ensures reads { Reads (λ trees m. (tables_content trees).meta ≡ Some (meta_of m))
@@ -206,6 +208,7 @@ impl<S: Alter> SqlKeeper<S> {
     /// The connection is given back, and nothing is changed. In this order: `Book`, why the text is
     /// no book; `Present`, a table of this system is there, exactly then; `Store`, other tables are
     /// there, a transaction is open or the store failed; `Memory`.
+    // rule: database-made.created, database-opened.not-opened
     pub fn create(
         alloc: Global,
         mut connection: Connection<S>,
@@ -243,6 +246,8 @@ impl<S: Alter> SqlKeeper<S> {
     /// - `Older`, it is that of the tables, and before the latest;
     /// - `Store`, also where a transaction is open;
     /// - `Memory`.
+    // rule: stop-ruled, database-opened, database-opened.not-opened, database-opened.fault,
+    //   rows-ruled.opened, database-migrated.older
     pub fn open(
         alloc: Global,
         mut connection: Connection<S>,

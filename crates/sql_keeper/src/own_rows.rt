@@ -49,6 +49,7 @@ fn run_of(
 }
 
 /// What is held for one session, of what is held for sessions.
+// rule: database-loads.group-of
 pub(crate) fn held_for(
     alloc: Global,
     session: &SessionId,
@@ -81,6 +82,7 @@ fn book_place(numbers: &[SessionBook], session: &SessionId, group: u32) -> Resul
 
 /// The number of the book that a session's reservation in a rating group goes by, where a row says
 /// it.
+// rule: database-loads.group-of
 pub(crate) fn number_of(numbers: &[SessionBook], session: &SessionId, group: u32) -> Option<u32>
     requires { DoBooksRise numbers.now }
     ensures { result ≡ book_of session.now group numbers.now }

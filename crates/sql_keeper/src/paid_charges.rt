@@ -57,6 +57,7 @@ fn taken() -> Error
 ///
 /// # Errors
 /// An error of the store, or that the number is taken. Then nothing is committed.
+// rule: database-writes.numbers-free
 fn put_charged<S: Alter>(
     tx: &mut Transaction<'_, S>,
     account: &AccountNumber,

@@ -194,6 +194,7 @@ fn put_rows<S: Alter>(
 /// Puts the moment of the last accepted command, where what is kept once is there. Where that
 /// moment is kept already nothing is written, so that the engine doesn't write the row again
 /// either, which has the text of the book.
+// rule: database-reads.held
 pub(crate) fn put_moment<S: Alter>(
     tx: &mut Transaction<'_, S>,
     moment: Moment,

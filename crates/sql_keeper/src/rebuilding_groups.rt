@@ -181,6 +181,7 @@ fn group_of(
 
 /// What sessions have of rating groups, of each row in turn. What is held for a session that has no
 /// row here, and the book of its reservation, are passed over.
+// rule: database-loads.group-of
 pub(crate) fn groups_of(
     alloc: Global,
     books: &TariffShelf,

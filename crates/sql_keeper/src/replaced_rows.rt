@@ -368,6 +368,7 @@ fn opens_unknown(rows: &LiveRows, seen: &Option<SeenAccount>, change: &Change) -
 ///
 /// # Errors
 /// `Rules` where a session is opened of which it wasn't seen that it has no row; lack of memory.
+// rule: database-loads.keeps
 pub(crate) fn rows_over(
     alloc: Global,
     rows: LiveRows,

@@ -38,6 +38,7 @@ pub(crate) fn test_rows<S: Alter>(
 }
 
 /// The shelf of a database of this system, of which each row is in its rules.
+// rule: rows-ruled.opened
 pub(crate) fn ruled_books_in<S: Alter>(
     alloc: Global,
     conn: &mut Connection<S>,

@@ -285,6 +285,7 @@ fn is_kept(kept: &Option<KeptAnswer>) -> bool
 
 /// Whether the rows that a change writes, but for its texts, are in the rules of their tables,
 /// where the tariff books are those of the shelf.
+// rule: rows-ruled.ruled-change
 pub(crate) fn is_ruled_change(books: &TariffShelf, change: &Change) -> bool
     ensures { result ≡ is_ruled_change (shelf_names books.now) change.now }
 {
@@ -296,6 +297,7 @@ pub(crate) fn is_ruled_change(books: &TariffShelf, change: &Change) -> bool
 }
 
 /// Whether a voucher that is added at a moment is in the rules of its table, and the moment too.
+// rule: rows-ruled.ruled-change
 pub(crate) fn is_ruled_addition(code: &VoucherCode, terms: VoucherTerms, moment: Moment) -> bool
     ensures { result ≡ is_ruled_addition code.now terms moment }
 {
@@ -305,6 +307,7 @@ pub(crate) fn is_ruled_addition(code: &VoucherCode, terms: VoucherTerms, moment:
 // ---- a sweep
 
 /// Whether the rows of an account as a sweep leaves them are in the rules of their tables.
+// rule: rows-ruled.ruled-change
 pub(crate) fn is_ruled_swept(books: &TariffShelf, account: &SweptAccount) -> bool
     ensures { result ≡ is_ruled_swept (shelf_names books.now) account.now }
 {

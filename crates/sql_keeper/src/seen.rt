@@ -220,6 +220,7 @@ fn seen_if_loaded(loaded: &Option<Loaded<'_>>) -> Option<SeenAccount>
 }
 
 /// What is seen by a load.
+// rule: database-writes.seen
 pub(crate) fn seen_in(read: &Result<Option<Loaded<'_>>, ReadFault>) -> Option<SeenAccount>
     ensures { (names : Names) (shelf : Shelf) (t : ℕ) (a : List ℕ) (trees : Trees) →
         IfOk read.now (IsLoadStored names shelf t a (rows_in trees a)) → Sees result trees }
@@ -305,6 +306,7 @@ fn noted_first(
 }
 
 /// What is seen, with what was answered of a session of an account.
+// rule: database-writes.seen
 pub(crate) fn seen_with(
     seen: Option<SeenAccount>,
     account: &AccountNumber,
@@ -359,7 +361,7 @@ fn joined_if_same(older: SeenAccount, newer: SeenAccount) -> SeenAccount
     joined(older, newer)
 }
 
-/// What is seen once more was seen; what was seen before stays where it isn't of another account.
+/// The newer note, with the absent session of the older one if both are of one account.
 pub(crate) fn seen_later(
     older: Option<SeenAccount>,
     newer: Option<SeenAccount>,
@@ -387,6 +389,7 @@ fn head_of_seen(seen: &SeenAccount, account: &AccountNumber) -> Option<HeadColum
 }
 
 /// What is kept once of an account that was seen.
+// rule: database-writes.seen
 pub(crate) fn head_seen(seen: &Option<SeenAccount>, account: &AccountNumber) -> Option<HeadColumns>
     ensures { (trees : Trees) → Sees seen.now trees →
         IfSome result (λ h. (rows_in trees account.now).head ≡ Some h) }
@@ -436,6 +439,7 @@ fn standing_of_seen(
 }
 
 /// What is known of a session of an account by what was seen, where that is known.
+// rule: database-writes.seen
 pub(crate) fn standing_seen(
     seen: &Option<SeenAccount>,
     account: &AccountNumber,

@@ -132,7 +132,7 @@ fn is_beside(groups: &[SessionGroup], session: &SessionId, row: &GroupColumns) -
     has_group(groups, session, row.group) || is_free(row)
 }
 
-/// So of each.
+/// Whether each stored group of the session is named or free.
 fn are_beside(groups: &[SessionGroup], session: &SessionId, rows: &[GroupColumns]) -> bool
     ensures { result ≡ list_all (λ r. is_beside groups.now session.now (group_at r)) rows.now }
 {
@@ -208,7 +208,7 @@ fn find_session<S: Alter>(
     })
 }
 
-/// The same of each.
+/// What is found of each session that the change names.
 fn find_sessions<S: Alter>(
     conn: &mut Connection<S>,
     alloc: Global,
@@ -295,6 +295,7 @@ fn told(found: NamedSessions) -> Result<bool, ReadFault>
 
 /// Tests a change; whether nothing is there of its sessions and groups. It is out of the rules
 /// where it may not be made, and where a bucket that is new has the number of one that is there.
+// rule: database-writes.writable
 pub(crate) fn test_change<S: Alter>(
     conn: &mut Connection<S>,
     alloc: Global,

@@ -12,6 +12,7 @@ use sqlite::{Alter, Connection};
 ///
 /// # Errors
 /// `Store` where it is shut; lack of memory.
+// rule: stop-commit
 pub(crate) fn still_open<S: Alter>(conn: &mut Connection<S>) -> Result<(), ReadFault>
     requires idle { HasIdleBook (state S.Store conn.old) }
     ensures { IsStillOpen (state S.Store conn.old) (state S.Store conn.new) result }

@@ -35,6 +35,7 @@ fn stop_fault(error: StoreError) -> OpenFault
 }
 
 /// The store of a connection that is stopped where it is, opened again.
+// rule: stop-opened
 fn stop<S: Alter + Reopen + Drop>(connection: Connection<S>) -> Result<S, OpenFault>
     ensures left { IfOk result (λ store. IsHonest (S.Store.view store) →
         IsLeftFresh S.Store connection store) }
@@ -78,6 +79,7 @@ fn stop_and_connect<S: Alter + Reopen + Drop>(
 /// # Errors
 /// `Store` or `Memory`, and for no row another one. The connection is given back where there was
 /// one.
+// rule: stop-opened
 pub fn stop_and_open<S: Alter + Reopen + Drop>(alloc: Global, keeper: SqlKeeper<S>) -> Reopened<S>
     ensures found { IfOk result (λ made. HasCleanDisk (state S.Store made.0.connection) →
         IsFoundAfter S.Store S.Store keeper made.0 made.1) }
@@ -100,6 +102,7 @@ pub fn stop_and_open<S: Alter + Reopen + Drop>(alloc: Global, keeper: SqlKeeper<
 ///
 /// # Errors
 /// First those of `commit`, then those of `stop_and_open`.
+// rule: stop-command
 pub fn commit_and_stop<S: Alter + Reopen + Drop>(
     alloc: Global,
     keeper: SqlKeeper<S>,

@@ -41,6 +41,7 @@ fn texts_of(
 ///
 /// # Errors
 /// `Rules` where the command is of another account, exactly then; `Memory`.
+// rule: rows-ruled.ruled-change
 pub fn kept_texts(
     alloc: Global,
     account: &AccountNumber,

@@ -55,6 +55,7 @@ fn put_swept<S: Alter>(
 }
 
 /// Brings an account to the moment: what may still change of it is read, and what differs is put.
+// rule: database-sweep
 fn sweep_account<S: Alter>(
     tx: &mut Transaction<'_, S>,
     alloc: Global,
@@ -83,6 +84,7 @@ fn sweep_account<S: Alter>(
 
 /// Puts the moment, and brings one account after another to it, in the order of their numbers; how
 /// many they are. What is in memory of all of them is the number of one.
+// rule: database-sweep
 fn sweep_each<S: Alter>(
     tx: &mut Transaction<'_, S>,
     alloc: Global,
@@ -136,6 +138,7 @@ fn write_sweep<S: Alter>(
 /// Brings one account after another to the moment in one transaction; how many there are. The
 /// tables become those of the sweep, or at a fault they are as before, and whatever a stop leaves
 /// is one of the two.
+// rule: database-sweep.sweeps-accounts
 fn make_sweep<S: Alter>(
     conn: &mut Connection<S>,
     alloc: Global,
@@ -197,6 +200,7 @@ impl<S: Alter> SqlKeeper<S> {
     /// # Errors
     /// Lack of memory; a fault of the store, which is counted, as are rows that are no account's or
     /// that may not be written.
+    // rule: database-sweep.sweeps-accounts
     pub fn sweep(&mut self, shelf: &TariffShelf, moment: Moment) -> Result<u64, StoreFault>
         ensures { SweepsAll S.Store shelf.now moment self.old self.new result }
     {

@@ -122,6 +122,7 @@ pub(crate) fn are_writable(
 /// the change: each reservation is in an open session that is named with it, with periods that
 /// have names in its book, the charges are numbered on, and each row is in the rules of its table.
 /// It may exactly then.
+// rule: database-writes.writable
 pub fn may_be_written(books: &TariffShelf, head: &Option<HeadColumns>, change: &Change) -> bool
     ensures reservations { IsTrue result →
         AreWritable (shelf_names books.now) change.now.rows.sessions change.now.rows.groups }

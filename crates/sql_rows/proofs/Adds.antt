@@ -218,6 +218,7 @@ module _ (at : ℕ) (table : Table) (there : slice_get book_schema.tables at ≡
       (meeting (db table.tree) s.there s.meets) in
       ap is_some (looked (db table.tree) ∙ it.1)
 
+  -- rule: statements-of-tables.tables-content
   pub adds_table : (old new : State) (r : Result ℕ Error) →
       (IsTrue old.is_open → IsBook old) → OnOk r (ExecutesInside 0 text values old new r)
       → IfOk r (AddsRow table values old new)

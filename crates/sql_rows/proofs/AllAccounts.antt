@@ -94,6 +94,7 @@ are_accounts trees fits stored xs selects = record {
 }
 
 -- the names of all rows of the table
+-- rule: statements-of-tables.tables-content
 pub all_accounts : (trees : Trees) → Fits book_schema trees → IsStored (trees 2)
     → (xs : List (List ℕ)) × AreAccounts (tables_content trees) xs
 all_accounts trees fits stored =

@@ -221,6 +221,7 @@ module _ (first second other : ℕ) (low_first : nat_le (2 ^ 31) first ≡ false
   united db rows (inr (made_one, none, more)) = absurd none
 
   -- what the text answers
+  -- rule: statements-of-tables.tables-content
   pub beside_told : (text : List ℕ) (names : List (List ℕ))
       → (command_of (understood book_schema text) ≡ Select program names)
       × (reads_listing book_schema text ≡ false) → IsPlain (understood book_schema text)

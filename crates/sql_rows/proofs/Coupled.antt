@@ -102,6 +102,7 @@ module _ (first second : ℕ) (terms project : List Term) (params : Row) (test :
       (mapped_to (output query) (pairs ss rs) env
       (flat_to (λ s. flat_map (one s) rs) ss s env it.1 (flat_to (one s) rs r env h kept))))
 
+  -- rule: statements-of-tables.open-rows
   pub both_answered : (db : Trees) (rows : List Row) → IsAnswer query db params rows →
       AreAnswered (passes test (db first)) columns (db second) rows
   both_answered db rows a =

@@ -133,6 +133,7 @@ module _ (text : List ℕ) (names : List (List ℕ)) (tree : ℕ) (terms project
     (tests : (r : Row) → list_all (holds (params ∷ r ∷ [])) terms ≡ test r)
     (keys : (r : Row) → eval_all (map (λ k. k.0) order) (params ∷ r ∷ []) ≡ key r)
     (shows : (r : Row) → eval_all project (params ∷ r ∷ []) ≡ columns r) where
+  -- rule: statements-of-tables.tables-content
   pub first_told : (old new : State) (rows : List Row) → Answers text params old new rows
       → IsFirstOf test (sorts_before order key) columns (old.now.trees tree) rows
   first_told old new rows a =

@@ -184,6 +184,7 @@ module _ (at : ℕ) (table : Table) (there : slice_get book_schema.tables at ≡
             (inserted old.now.trees old.step_limit done.0 done.1),
       )
 
+  -- rule: statements-of-tables.with-session-row
   pub inserts_row : (old new : State) (r : Result ℕ Error) → (IsTrue old.is_open → IsBook old)
       → OnOk r (ExecutesInside 0 text values old new r) → OnOk r (InsertsRow table values old new)
   inserts_row old new (Err e) has x = tt

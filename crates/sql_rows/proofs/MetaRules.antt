@@ -164,6 +164,7 @@ of_one P rows row is says None none = absurd (let no : row ∷ [] ≡ [] = sym i
 of_one P rows row is says (Some m) some =
     says m (ap (λ (l : List Row). slice_index_or l 0 row) (sym is ∙ some))
 
+-- rule: database-migrated.older
 pub one_read : (v : ℕ) (rows : List Row) (row : Row) → rows ≡ row ∷ []
     → (r : Result (Option MetaColumns) ReadFault)
     → MatchResult r (λ o. (kept : Meta) → row ≡ meta_cells kept → IsMetaRead v o (Some kept))

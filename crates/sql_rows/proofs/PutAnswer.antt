@@ -107,6 +107,7 @@ module _ (a : List ℕ) (kind : ℕ) (name : List ℕ) (number : ℕ) (k : Kept)
       (text_number_text_number a x kind l name t number m)
       ∙ apart_if (same_name a x) (nat_eq kind l && (same_name name t && nat_eq number m)) _ _))))
 
+  -- rule: answer-rows
   pub makes_answer : (params : Row) → params ≡ values
       → (old new : State) (r : Result ⊤ Error) → HasBook old
       → Attempts (HasRun put_answer_text params) old new r

@@ -101,6 +101,7 @@ module _ (n : ℕ) (x : BookRow) where
         (number_last n m) i;
   })
 
+  -- rule: book-rows
   pub makes_book : (params : Row) → params ≡ values
       → (old new : State) (r : Result ⊤ Error) → HasBook old
       → Attempts (HasRun put_book_text params) old new r

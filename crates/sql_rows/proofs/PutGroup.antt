@@ -129,6 +129,7 @@ module _ (a s : List ℕ) (g : ℕ) (row : Group) where
       (group_key x t h) (same_name a x && (same_name s t && nat_eq g h))
       (text_text_number a x s t g h) ∙ apart_if (same_name a x) (same_name s t && nat_eq g h) _ _)))
 
+  -- rule: statements-of-tables.with-session-row
   pub makes_group : (params : Row) → params ≡ values
       → (old new : State) (r : Result ⊤ Error) → HasBook old
       → Attempts (HasRun put_group_text params) old new r

@@ -77,6 +77,7 @@ module _ (a : List ℕ) (kind : ℕ) (name : List ℕ) (number : ℕ) where
   means r = agree_ties_at places r (0 ∷ 1 ∷ 2 ∷ 3 ∷ []) (answer_key a kind name number)
       (refl, (refl, (refl, (refl, tt))))
 
+  -- rule: answer-rows
   pub answer_read : (old new : State) (rows : List Row) (o : Option Kept) → Answers read_answer_text
       (answer_key a kind name number) old new rows
       → rows ≡ map answer_cells (one_or_none o)

@@ -145,6 +145,7 @@ module _ (a : List ℕ) (after last : ℕ) where
           subst (λ m. is_in m ≡ true) same (lies_told x it.0 both.1 it.3) in
           absurd (let no : true ≡ false = sym inside ∙ other in cc)
 
+  -- rule: block-rows
   pub covered_read : (old new : State) (rows : List Row) (xs : List CoveredColumns) →
       Answers read_covered_text (Text a ∷ nat after ∷ nat last ∷ []) old new rows
       → map covered_cells xs ≡ rows → AreCovered after last (rows_in old.now.trees a) xs

@@ -73,6 +73,7 @@ module _ (a s : List ℕ) where
   wanted g x r is =
       ap (λ (w : Row). is_eq (value_cmp (nat g) (column w 0))) (sym is) ∙ int_tie x.group g
 
+  -- rule: book-rows
   pub grant_books_read : (old new : State) (rows : List Row) (xs : List GrantBook)
       → Answers read_grant_books_text (Text a ∷ Text s ∷ []) old new rows
       → map grant_book_cells xs ≡ rows → AreGrantBooks (rows_in old.now.trees a) s xs

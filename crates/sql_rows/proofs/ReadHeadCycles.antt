@@ -168,6 +168,7 @@ module _ (a : List ℕ) (cycles : CycleNumbers) (db : Trees) (rows : List Row) w
         only_month (λ v k. inr (inr (inr k)))) is.3,
   )
 
+-- rule: statements-of-tables.tables-content
 pub head_cycles_read : (a : List ℕ) (cycles : CycleNumbers) (old new : State) (rows : List Row)
     (x : HeadCycles) → Answers read_head_cycles_text
     (Text a ∷ nat cycles.never ∷ nat cycles.day ∷ nat cycles.month ∷ []) old new rows

@@ -106,6 +106,7 @@ module _ (a s : List ℕ) where
       ∙ int_tie x.group g)
       (ap (λ (w : Row). is_eq (value_cmp (nat n) (column w 1))) (sym is) ∙ int_tie x.bucket n)
 
+  -- rule: statements-of-tables.with-session-row
   pub holds_read : (old new : State) (rows : List Row) (xs : List HeldColumns) → Answers read_holds_text
       (Text a ∷ Text s ∷ []) old new rows
       → map hold_cells xs ≡ rows → AreHolds (rows_in old.now.trees a) s xs

@@ -314,6 +314,7 @@ module _ (a : List ℕ) (trees : Trees) (fits : Fits book_schema trees)
       at false = refl
 
 -- a list of those rows
+-- rule: statements-of-tables.open-rows
 pub open_groups_answered : (a : List ℕ) (trees : Trees) (fits : Fits book_schema trees)
     (stored : IsStored (trees 8)) → IsStored (trees 10) → (xs : List OpenGroupAt)
     → AreAnswered (extra a trees fits stored) columns (trees 10) (map open_group_cells xs)

@@ -84,6 +84,7 @@ module _ (a s : List ℕ) where
   unfolding first_key
   means r = agree_ties_at places r (0 ∷ 1 ∷ []) (session_key a s) (refl, (refl, tt))
 
+  -- rule: statements-of-tables.with-session-row
   pub session_read : (old new : State) (rows : List Row) (o : Option Session) →
       Answers read_session_text (session_key a s) old new rows
       → rows ≡ map session_cells (one_or_none o) → o ≡ (rows_in old.now.trees a).sessions s
@@ -139,6 +140,7 @@ module _ (a s : List ℕ) (trees : Trees) (keys : Keeps ForeignKey book_schema t
       held g n None e = refl
       held g n (Some v) e = no_group g (group_of_hold trees keys a s g n v e)
 
+-- rule: statements-of-tables.with-session-row
 pub none_told : {E : Type 0} (a s : List ℕ) (trees : Trees) (r : Result (Option Session) E) →
     IfOk r (λ o. o ≡ (rows_in trees a).sessions s) → Keeps ForeignKey book_schema trees →
     IfOk r (λ o. o ≡ None → HasNoGroups (rows_in trees a) s)

@@ -123,6 +123,7 @@ module _ (a : List ℕ) (n : ℕ) where
       ∙ none_if (same_name a x && nat_eq n m) _
       ∙ apart_if (same_name a x) (nat_eq n m) _ _))
 
+  -- rule: block-rows
   pub makes_none : (params : Row) → params ≡ wanted
       → (old new : State) (r : Result ⊤ Error) → HasBook old
       → Attempts (HasRun remove_allowance_text params) old new r

@@ -413,6 +413,7 @@ module _ (table : Table) (tabled : Has book_schema.tables table)
               (updates old.now.trees stored old.step_limit done.0 done.1)),
         )
 
+    -- rule: statements-of-tables.tables-content
     pub replaces_row : (old new : State) (r : Result ℕ Error) → (IsTrue old.is_open → IsBook old)
         → OnOk r (ExecutesInside 0 text values old new r)
         → IfOk r (ReplacesRow table values old new)
@@ -527,6 +528,7 @@ module _ (stands : TablesContent → Bool) (change : TablesContent → TablesCon
   chosen_false : (c : TablesContent) → false ≡ stands c → chosen_of c ≡ c
   chosen_false c e = ap (λ b. if b then change c else c) (sym e)
 
+  -- rule: statements-of-tables.tables-content
   pub was_put : (b : Bool) → b ≡ false → (old mid new : State) (r : Result ⊤ Error)
       → ReplacesIfSome {E = Error} stands change old mid (Ok b)
       → Attempts (Makes change) mid new r → Attempts (Makes change) old new r

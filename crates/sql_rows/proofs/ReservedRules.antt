@@ -185,6 +185,7 @@ all_ruled trees ruled (x ∷ xs) h =
     )
 
 -- what was refused of the rows that were read is refused of the tables
+-- rule: database-migrated.ruled-version
 pub all_refused : (old new : State) (rows : List Row) → Answers read_reserved_text [] old new rows
     → ((xs : List ReservedAt) → rows ≡ map reserved_cells xs
     → ¬ AllByRecursion IsRuledReserved xs) → ¬ AreRuledReserved (tables_content old.now.trees)

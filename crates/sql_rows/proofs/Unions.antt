@@ -286,6 +286,7 @@ module _ (db : Trees) (params : Row) (width : ℕ) (by : List Collation) (shown 
           (shown_both cut P Q a b ab (is_p [] a (is_a Null)) (is_q (a ∷ []) b (is_b Null)) both)
           (subst (λ l. IsSureAnswer (body_at 2) (overlay db l) params rows) is sure)
 
+  -- rule: statements-of-tables.open-rows
   pub three_said : (p q r : Query) (P Q R : Row → Type 0) → IsPart db params shown p P
       → IsPart db params shown q Q → IsPart db params shown r R → (rows : List Row)
       → IsProgramAnswer (lets_of (of_three p q r)) (of_three p q r).body db params rows

@@ -146,6 +146,7 @@ module _ (table : Table) (tabled : Has book_schema.tables table)
         ])
 
   -- the same of the whole statement
+  -- rule: statements-of-tables.tables-content
   pub updates_row : (at : ℕ) → slice_get book_schema.tables at ≡ Some table
       → (old new : State) (text : List ℕ) (count : ℕ) → old.now.schema ≡ book_schema
       → Fits book_schema old.now.trees → IsStored (old.now.trees table.tree)

@@ -91,6 +91,7 @@ failed_within does told old mid new (Err f) e failed have err = record {
 }
 
 -- of two selections
+-- rule: statements-of-tables.reads-within
 pub within_both : {A B C E F G : Type 0} (P : Trees → A → Type 0) (Q : Trees → B → Type 0)
     (told : Trees → C → Type 0) (old mid new : State) (x : A) (y : B) (r : Result C G)
     → ReadsWithin {A = A} {E = E} P old mid (Ok x) → ReadsWithin {A = B} {E = F} Q mid new (Ok y)

@@ -59,6 +59,7 @@ ran_with text values old new count a x = record {
 }
 
 -- an upsert leaves tables that obey their rules
+-- rule: statements-of-tables.reads-within
 pub rules_after : {at : ℕ} {how : Conflict} {from : Source} {clauses : List Upsert}
     (text : List ℕ) (values : Row) (does : State → State → Type 0)
     → command_of (understood book_schema text) ≡ InsertOr at how from clauses

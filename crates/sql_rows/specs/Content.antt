@@ -53,6 +53,7 @@ pub record TableRows : Type 0 where
   -- the blocks of a charge that allowances paid, by its number
   pub covered : ChargeNumber → Option BlockCount
 
+-- rule: statements-of-tables.tables-content: the rows of accounts, buckets, counters and charges
 pub record TablesContent : Type 0 where
   pub meta : Option Meta
   -- how many rows there are of what is kept once
@@ -80,6 +81,7 @@ with_meta m c = record c {
 }
 
 -- the moment of the last accepted command changes, where anything is kept once
+-- rule: statements-of-tables.tables-content
 abbrev pub with_last_moment : Moment → TablesContent → TablesContent
 with_last_moment t c = record c { meta = option_map (λ (m : Meta). record m { last = t }) c.meta }
 
@@ -94,43 +96,53 @@ with_account a h c = record c {
 }
 
 -- whether an account is opened
+-- rule: statements-of-tables.tables-content
 abbrev pub has_account : AccountName → TablesContent → Bool
 has_account a c = is_some (c.rows a).head
 
+-- rule: statements-of-tables.tables-content
 abbrev pub with_bucket : BucketRow → TableRows → TableRows
 with_bucket b r = record r { buckets = λ n. if nat_eq b.number n then Some b else r.buckets n }
 
 -- whether an account has a bucket of a number
+-- rule: statements-of-tables.tables-content
 abbrev pub has_bucket : AccountName → BucketNumber → TablesContent → Bool
 has_bucket a n c = is_some ((c.rows a).buckets n)
 
+-- rule: statements-of-tables.tables-content
 abbrev pub with_counter_row : Counter → TableRows → TableRows
 with_counter_row k r = record r {
   counters = λ g c. if nat_eq k.group g && nat_eq k.cycle c then Some k else r.counters g c;
 }
 
 -- whether an account has a counter of a rating group in a cycle
+-- rule: statements-of-tables.tables-content
 abbrev pub has_counter : AccountName → GroupId → CycleNumber → TablesContent → Bool
 has_counter a g y c = is_some ((c.rows a).counters g y)
 
+-- rule: statements-of-tables.with-session-row: the rows of sessions, groups and holds
 abbrev pub with_session_row : Session → TableRows → TableRows
 with_session_row x r = record r {
   sessions = λ s. if same_name x.id s then Some x else r.sessions s;
 }
 
 -- whether an account has a session of a name, or a recorded event
+-- rule: statements-of-tables.with-session-row
 abbrev pub has_session : AccountName → SessionName → TablesContent → Bool
 has_session a s c = is_some ((c.rows a).sessions s)
 
+-- rule: statements-of-tables.with-session-row
 abbrev pub with_group_row : SessionName → GroupId → Group → TableRows → TableRows
 with_group_row s g x r = record r {
   groups = λ t h. if same_name s t && nat_eq g h then Some x else r.groups t h;
 }
 
 -- whether a session has anything of a rating group
+-- rule: statements-of-tables.with-session-row
 abbrev pub has_group : AccountName → SessionName → GroupId → TablesContent → Bool
 has_group a s g c = is_some ((c.rows a).groups s g)
 
+-- rule: statements-of-tables.with-session-row
 abbrev pub with_hold_row : SessionName → GroupId → BucketNumber → BucketAmount → TableRows →
     TableRows
 with_hold_row s g n amount r = record r {
@@ -144,12 +156,14 @@ without_holds s g r = record r {
   holds = λ t h m. if same_name s t && nat_eq g h then None else r.holds t h m;
 }
 
+-- rule: answer-rows: the rows of kept answers, and of vouchers
 abbrev pub with_answer : KeyKind → KeyName → CcRequestNumber → Kept → TableRows → TableRows
 with_answer kind name number k r = record r {
   answers = λ l t m.
       if nat_eq kind l && (same_name name t && nat_eq number m) then Some k else r.answers l t m;
 }
 
+-- rule: statements-of-tables.tables-content
 abbrev pub with_charge_row : ChargeRow → TableRows → TableRows
 with_charge_row x r = record r { charges = λ n. if nat_eq x.number n then Some x else r.charges n }
 
@@ -158,37 +172,45 @@ abbrev pub has_charge : AccountName → ChargeNumber → TablesContent → Bool
 has_charge a n c = is_some ((c.rows a).charges n)
 
 -- the book of a reservation
+-- rule: book-rows
 abbrev pub with_grant_book : SessionName → GroupId → BookNumber → TableRows → TableRows
 with_grant_book s g n r = record r {
   grant_books = λ t h. if same_name s t && nat_eq g h then Some n else r.grant_books t h;
 }
 
+-- rule: book-rows
 abbrev pub without_grant_book : SessionName → GroupId → TableRows → TableRows
 without_grant_book s g r = record r {
   grant_books = λ t h. if same_name s t && nat_eq g h then None else r.grant_books t h;
 }
 
 -- the bucket counts blocks
+-- rule: block-rows: the rows of allowances, and of what they covered
 abbrev pub with_allowance : BucketNumber → TableRows → TableRows
 with_allowance n r =
     record r { allowances = λ m. if nat_eq n m then true else r.allowances m }
 
 -- the bucket counts money
+-- rule: block-rows
 abbrev pub without_allowance : BucketNumber → TableRows → TableRows
 without_allowance n r =
     record r { allowances = λ m. if nat_eq n m then false else r.allowances m }
 
+-- rule: block-rows
 abbrev pub with_covered : CoveredColumns → TableRows → TableRows
 with_covered x r =
     record r { covered = λ n. if nat_eq x.number n then Some x.blocks else r.covered n }
 
 -- no block of the charge is covered
+-- rule: block-rows
 abbrev pub without_covered : ChargeNumber → TableRows → TableRows
 without_covered n r = record r { covered = λ m. if nat_eq n m then None else r.covered m }
 
+-- rule: book-rows: the rows of books, and of the book of each reservation
 abbrev pub with_book_row : BookNumber → BookRow → TablesContent → TablesContent
 with_book_row n x c = record c { books = λ m. if nat_eq n m then Some x else c.books m }
 
+-- rule: answer-rows
 abbrev pub with_voucher_row : VoucherCode → VoucherColumns → TablesContent → TablesContent
 with_voucher_row code x c =
     record c { vouchers = λ k. if same_name code k then Some x else c.vouchers k }

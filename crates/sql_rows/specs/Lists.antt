@@ -81,6 +81,7 @@ pub record IsFollowing (content : TablesContent) (after : Option AccountName) (x
       is_some (content.rows a).head ≡ false
 
 -- the account that follows; none where none does
+-- rule: statements-of-tables.tables-content
 abbrev pub IsNextAccount : TablesContent → Option AccountName → Option AccountName → Type 0
 IsNextAccount content after None =
     (a : AccountName) → comes_after after a ≡ true → is_some (content.rows a).head ≡ false
@@ -133,6 +134,7 @@ abbrev pub is_group_of : List ℕ → ℕ → OpenGroupAt → Bool
 is_group_of s g x = same_name x.session s && nat_eq x.group g
 
 -- all that open sessions have of rating groups
+-- rule: statements-of-tables.open-rows
 abbrev pub AreOpenGroups : TableRows → List OpenGroupAt → Type 0
 AreOpenGroups rows xs = (s : List ℕ) (g : ℕ) →
     option_map (λ (x : OpenGroupAt). x.row) (find (is_group_of s g) xs)
@@ -183,6 +185,7 @@ abbrev pub is_hold_of : List ℕ → ℕ → ℕ → SessionHoldAt → Bool
 is_hold_of s g n x = same_name x.session s && (nat_eq x.group g && nat_eq x.bucket n)
 
 -- all that is held for sessions of the account
+-- rule: statements-of-tables.open-rows
 abbrev pub AreAllHolds : TableRows → List SessionHoldAt → Type 0
 AreAllHolds rows xs = (s : List ℕ) (g n : ℕ) →
     option_map (λ (x : SessionHoldAt). x.amount) (find (is_hold_of s g n) xs) ≡ rows.holds s g n
@@ -206,6 +209,7 @@ abbrev pub is_book_of : List ℕ → ℕ → SessionBookAt → Bool
 is_book_of s g x = same_name x.session s && nat_eq x.group g
 
 -- those of all reservations of the account
+-- rule: statements-of-tables.open-rows
 abbrev pub AreAllGrantBooks : TableRows → List SessionBookAt → Type 0
 AreAllGrantBooks rows xs = (s : List ℕ) (g : ℕ) →
     option_map (λ (x : SessionBookAt). x.book) (find (is_book_of s g) xs) ≡ rows.grant_books s g

@@ -36,6 +36,7 @@ pub record MakesIfOpen (change : TablesContent → TablesContent) (old new : Sta
   pub made : IsTrue old.is_open → Makes change old new
 
 -- nothing was in the place of the change, and it is made
+-- rule: statements-of-tables.with-session-row
 pub record Adds (stands : TablesContent → Bool) (change : TablesContent → TablesContent)
     (old new : State) : Type 0 where
   pub makes : Makes change old new
@@ -50,6 +51,7 @@ pub record AddsIfNone {E : Type 0} (stands : TablesContent → Bool)
       → IfOk result (λ added. added ≡ not (stands (tables_content old.now.trees)))
 
 -- the change is made where something is in its place, and it is said whether anything was
+-- rule: statements-of-tables.tables-content
 pub record ReplacesIfSome {E : Type 0} (stands : TablesContent → Bool)
     (change : TablesContent → TablesContent)
     (old new : State) (result : Result Bool E) : Type 0 where

@@ -29,6 +29,7 @@ abbrev pub AreAll : (Values → Bool) → Table → Trees → Type 0
 AreAll test table trees =
     (key cells : Values) → look table trees key ≡ Some cells → IsTrue (test cells)
 
+-- rule: rows-ruled.in-rules
 pub record ArePlain (trees : Trees) : Type 0 where
   pub heads : AreAll is_plain_head accounts trees
   pub of_sessions : AreAll is_plain_session sessions trees

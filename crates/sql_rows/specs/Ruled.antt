@@ -21,11 +21,13 @@ pub record IsRuledMeta (m : Meta) : Type 0 where
   pub last : m.last ≤ latest_moment
 
 -- a row is there, and it keeps another version than this, whatever else it holds
+-- rule: database-migrated.older
 abbrev pub IsMetaOther : TablesVersion → Option Meta → Type 0
 IsMetaOther v None = ⊥
 IsMetaOther v (Some m) = ¬ (m.version ≡ v)
 
 -- what tables of a version read of it: the row, or none where it keeps another version
+-- rule: database-migrated.older
 abbrev pub IsMetaRead : TablesVersion → Option MetaColumns → Option Meta → Type 0
 IsMetaRead v None kept = IsMetaOther v kept
 IsMetaRead v (Some m) kept = kept ≡ Some (meta_of m)
@@ -56,6 +58,7 @@ pub record IsRuledReserved (x : ReservedAt) : Type 0 where
   pub is_reserved : IsTrue x.reserved
 
 -- each reservation is in the rules
+-- rule: database-migrated.ruled-version
 abbrev pub AreRuledReserved : TablesContent → Type 0
 AreRuledReserved c = (a : AccountName) (s : SessionName) (g : GroupId) →
     IsTrue (has_reservation ((c.rows a).groups s g))

@@ -49,6 +49,7 @@ abbrev pub columns_of : List LiveBucket → List BucketColumns
 columns_of xs = map (λ x. x.columns) xs
 
 -- those of which something is available or reserved, and what each counts
+-- rule: statements-of-tables.reads-within
 pub record AreLive (rows : TableRows) (xs : List LiveBucket) : Type 0 where
   pub buckets : AreBuckets is_live_bucket rows (map bucket_row (columns_of xs))
   pub kinds : map (λ x. x.counts_blocks) xs ≡ map (λ x. rows.allowances x.number) (columns_of xs)
@@ -94,6 +95,8 @@ session_book_at x = record {
 
 -- all that open sessions have of rating groups, with all that is held for sessions of the account,
 -- and the books of all their reservations
+-- rule: statements-of-tables.open-rows: the groups of all open sessions, what is held for all
+--   sessions and the books of their reservations, by one selection of three parts
 pub record AreOpenRows (rows : TableRows) (x : OpenRows) : Type 0 where
   pub groups : AreOpenGroups rows (map open_group_at x.groups.items)
   pub holds : AreAllHolds rows (map session_hold_at x.holds.items)

@@ -152,6 +152,7 @@ plain_bucket b = record b { kind = Money }
 abbrev pub bucket_values : AccountName → BucketRow → Values
 bucket_values a b = Text a ∷ money_cells b
 
+-- rule: statements-of-tables.tables-content
 abbrev pub bucket_in_row : Values → BucketRow
 bucket_in_row v = record {
   number = nat_in (column v 1);
@@ -206,6 +207,7 @@ session_in_row v = record {
 -- ---- `session_groups`
 
 -- the names of a reservation's tariff periods
+-- rule: statements-of-tables.with-session-row
 pub record PeriodNames : Type 0 where
   pub before : List ℕ
   pub after : List ℕ
@@ -270,6 +272,7 @@ answer_cells k = Text k.content ∷ Text k.answer ∷ []
 abbrev pub answer_values : AccountName → KeyKind → KeyName → CcRequestNumber → Kept → Values
 answer_values a kind name number k = Text a ∷ nat kind ∷ Text name ∷ nat number ∷ answer_cells k
 
+-- rule: answer-rows
 abbrev pub answer_in_row : Values → Kept
 answer_in_row v = record { content = text_in (column v 4); answer = text_in (column v 5) }
 
@@ -320,6 +323,7 @@ plain_charge x = record x { covered = record { 0 = 0 } }
 abbrev pub charge_values : AccountName → ChargeRow → Values
 charge_values a r = Text a ∷ priced_cells r
 
+-- rule: statements-of-tables.tables-content
 abbrev pub charge_in_row : Values → ChargeRow
 charge_in_row v = record {
   number = nat_in (column v 1);

@@ -47,6 +47,7 @@ fn write_account<S: Alter>(
 ///
 /// # Errors
 /// As of `put_account`.
+// rule: statements-of-tables.tables-content
 fn replace_account<S: Alter>(
     tx: &mut Transaction<'_, S>,
     account: &AccountNumber,
@@ -104,6 +105,7 @@ fn insert_account<S: Alter>(
 /// # Errors
 /// `IntegralValueOutOfRange` where the next number of a bucket or of a charge is 2^63 or more, else
 /// an error of the store. Then nothing is committed.
+// rule: statements-of-tables.tables-content, statements-of-tables.reads-within
 pub fn put_account<S: Alter>(
     tx: &mut Transaction<'_, S>,
     account: &AccountNumber,
@@ -127,6 +129,7 @@ pub fn put_account<S: Alter>(
 /// # Errors
 /// `Store` where the store failed, `Rules` where a row is out of its rules, `Memory` where a growth
 /// was refused. Nothing is changed then either.
+// rule: statements-of-tables.tables-content
 pub fn read_account<S: Alter>(
     conn: &mut Connection<S>,
     account: &AccountNumber,
@@ -149,6 +152,7 @@ pub fn read_account<S: Alter>(
 ///
 /// # Errors
 /// As of `read_account`. Then nothing is committed.
+// rule: statements-of-tables.reads-within
 pub fn read_account_within<S: Alter>(
     tx: &mut Transaction<'_, S>,
     account: &AccountNumber,
@@ -250,6 +254,7 @@ fn read_account_after<S: Alter>(
 ///
 /// # Errors
 /// As of `read_account`. Then nothing is committed.
+// rule: statements-of-tables.tables-content
 pub fn read_next_account<S: Alter>(
     tx: &mut Transaction<'_, S>,
     alloc: Global,

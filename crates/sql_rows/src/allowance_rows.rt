@@ -43,6 +43,7 @@ pub fn put_allowance<S: Alter>(
 ///
 /// # Errors
 /// An error of the store. Then nothing is committed.
+// rule: block-rows
 pub fn remove_allowance<S: Alter>(
     tx: &mut Transaction<'_, S>,
     account: &AccountNumber,
@@ -92,6 +93,7 @@ pub fn read_allowances<S: Alter>(
     numbers_from(alloc, &rows)
 }
 
+// rule: block-rows
 fn numbers_from(alloc: Global, rows: &[Row]) -> Result<Vec<u32>, ReadFault>
     ensures cells { IfOk result (λ xs. map number_cells xs.items ≡ rows.now) }
     ensures order { IfOk result (λ xs. Ascends nat_lt xs.items) }

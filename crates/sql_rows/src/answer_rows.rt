@@ -29,6 +29,7 @@ pub struct KeptTexts {
 ///
 /// # Errors
 /// An error of the store. Then nothing is committed.
+// rule: answer-rows
 pub fn put_answer<S: Alter>(
     tx: &mut Transaction<'_, S>,
     account: &AccountNumber,
@@ -64,6 +65,7 @@ pub fn put_answer<S: Alter>(
 /// # Errors
 /// `Store` where the store failed, `Rules` where a row is out of its rules, `Memory` where a growth
 /// was refused. Nothing is changed then either.
+// rule: answer-rows
 pub fn read_answer<S: Alter>(
     conn: &mut Connection<S>,
     account: &AccountNumber,

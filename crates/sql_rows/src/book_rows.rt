@@ -47,6 +47,7 @@ impl Drop for BookColumns {
 ///
 /// # Errors
 /// An error of the store. Then nothing is committed.
+// rule: book-rows
 pub fn put_book<S: Alter>(
     tx: &mut Transaction<'_, S>,
     number: u32,
@@ -136,6 +137,7 @@ fn books_from(alloc: Global, rows: &[Row]) -> Result<Vec<BookColumns>, ReadFault
     Ok(books)
 }
 
+// rule: book-rows
 fn book_from(row: &Row) -> Result<BookColumns, ReadFault>
     ensures { MatchResult result (λ b. row.now ≡ book_at_cells (book_at b))
         (λ e. e ≡ ReadFault.Rules → (x : BookAt) → row.now ≡ book_at_cells x → ¬ IsRuledBook x) }

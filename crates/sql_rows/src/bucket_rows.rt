@@ -65,6 +65,7 @@ fn write_bucket<S: Alter>(
 ///
 /// # Errors
 /// An error of the store. Then nothing is committed.
+// rule: statements-of-tables.tables-content
 fn replace_bucket<S: Alter>(
     tx: &mut Transaction<'_, S>,
     account: &AccountNumber,
@@ -120,6 +121,7 @@ fn insert_bucket<S: Alter>(
 ///
 /// # Errors
 /// An error of the store. Then nothing is committed.
+// rule: statements-of-tables.tables-content
 pub fn put_bucket<S: Alter>(
     tx: &mut Transaction<'_, S>,
     account: &AccountNumber,
@@ -180,6 +182,7 @@ fn bucket_among(rows: &[Row]) -> Result<Option<BucketColumns>, ReadFault>
 /// # Errors
 /// `Store` where the store failed, `Rules` where a row is out of its rules or the numbers don't
 /// rise, `Memory` where a growth was refused. Nothing is changed then either.
+// rule: statements-of-tables.tables-content
 pub fn read_buckets_all<S: Alter>(
     conn: &mut Connection<S>,
     alloc: Global,

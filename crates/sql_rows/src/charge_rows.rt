@@ -66,6 +66,7 @@ fn write_charge<S: Alter>(
 /// # Errors
 /// `IntegralValueOutOfRange` where an amount or the number of blocks is 2^63 or more, else an error
 /// of the store. Then nothing is committed.
+// rule: statements-of-tables.tables-content
 pub fn put_charge<S: Alter>(
     tx: &mut Transaction<'_, S>,
     account: &AccountNumber,
@@ -95,6 +96,7 @@ pub fn put_charge<S: Alter>(
 ///
 /// # Errors
 /// As of `put_charge`.
+// rule: statements-of-tables.tables-content
 pub fn add_charge<S: Alter>(
     tx: &mut Transaction<'_, S>,
     account: &AccountNumber,

@@ -45,6 +45,7 @@ fn write_counter<S: Alter>(
 ///
 /// # Errors
 /// As of `put_counter`.
+// rule: statements-of-tables.tables-content
 fn replace_counter<S: Alter>(
     tx: &mut Transaction<'_, S>,
     account: &AccountNumber,
@@ -96,6 +97,7 @@ fn insert_counter<S: Alter>(
 /// # Errors
 /// `IntegralValueOutOfRange` where the number of blocks is 2^63 or more, else an error of the
 /// store. Then nothing is committed.
+// rule: statements-of-tables.tables-content
 pub fn put_counter<S: Alter>(
     tx: &mut Transaction<'_, S>,
     account: &AccountNumber,

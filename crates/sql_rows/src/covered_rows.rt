@@ -30,6 +30,7 @@ pub struct CoveredColumns {
 /// # Errors
 /// `IntegralValueOutOfRange` where there are 2^63 blocks or more, else an error of the store. Then
 /// nothing is committed.
+// rule: block-rows
 pub fn put_covered<S: Alter>(
     tx: &mut Transaction<'_, S>,
     account: &AccountNumber,
@@ -89,6 +90,7 @@ impl InOrder for CoveredColumns {
 /// # Errors
 /// `Store` where the store failed, `Rules` where a row is out of its rules or the numbers don't
 /// rise, `Memory` where a growth was refused. Nothing is changed then either.
+// rule: block-rows
 pub fn read_covered_within<S: Alter>(
     conn: &mut Connection<S>,
     alloc: Global,

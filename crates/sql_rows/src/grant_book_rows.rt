@@ -27,6 +27,7 @@ pub struct GrantBook {
 ///
 /// # Errors
 /// An error of the store. Then nothing is committed.
+// rule: book-rows
 pub fn put_grant_book<S: Alter>(
     tx: &mut Transaction<'_, S>,
     account: &AccountNumber,
@@ -91,6 +92,7 @@ impl InOrder for GrantBook {
 /// # Errors
 /// `Store` where the store failed, `Rules` where a row is out of its rules or the groups don't
 /// rise, `Memory` where a growth was refused. Nothing is changed then either.
+// rule: book-rows
 pub fn read_grant_books<S: Alter>(
     conn: &mut Connection<S>,
     alloc: Global,

@@ -106,6 +106,7 @@ fn after_or_null(periods: Option<PutNames<'_>>) -> ValueRef<'_>
 /// # Errors
 /// `IntegralValueOutOfRange` where the number of units is 2^63 or more, else an error of the store.
 /// Then nothing is committed.
+// rule: statements-of-tables.with-session-row
 pub fn put_group<S: Alter>(
     tx: &mut Transaction<'_, S>,
     account: &AccountNumber,
@@ -145,6 +146,7 @@ pub fn put_group<S: Alter>(
 ///
 /// # Errors
 /// As of `put_group`, and an error of the store where the session has something of it.
+// rule: statements-of-tables.with-session-row
 pub fn add_group<S: Alter>(
     tx: &mut Transaction<'_, S>,
     account: &AccountNumber,
@@ -181,6 +183,7 @@ pub fn add_group<S: Alter>(
 /// # Errors
 /// `Store` where the store failed, `Rules` where a row is out of its rules or the groups don't
 /// rise, `Memory` where a growth was refused. Nothing is changed then either.
+// rule: statements-of-tables.with-session-row
 pub fn read_groups<S: Alter>(
     conn: &mut Connection<S>,
     alloc: Global,

@@ -46,6 +46,7 @@ pub struct HeadCounters {
 /// # Errors
 /// `Store` where the store failed, `Rules` where a row is out of its rules or the keys don't rise,
 /// `Memory` where a growth was refused. Nothing is changed then either.
+// rule: statements-of-tables.tables-content
 pub fn read_head_counters<S: Alter>(
     conn: &mut Connection<S>,
     alloc: Global,
@@ -100,6 +101,7 @@ pub struct HeadCycles {
 ///
 /// # Errors
 /// As of `read_head_counters`.
+// rule: statements-of-tables.tables-content
 pub fn read_head_cycles<S: Alter>(
     conn: &mut Connection<S>,
     alloc: Global,

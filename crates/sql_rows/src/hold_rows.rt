@@ -41,6 +41,7 @@ impl InOrder for HeldColumns {
 /// # Errors
 /// `IntegralValueOutOfRange` where the amount is 2^63 or more, else an error of the store. Then
 /// nothing is committed.
+// rule: statements-of-tables.with-session-row
 pub fn put_hold<S: Alter>(
     tx: &mut Transaction<'_, S>,
     account: &AccountNumber,
@@ -97,6 +98,7 @@ pub fn remove_holds<S: Alter>(
 /// # Errors
 /// `Store` where the store failed, `Rules` where a row is out of its rules or the keys don't rise,
 /// `Memory` where a growth was refused. Nothing is changed then either.
+// rule: statements-of-tables.with-session-row
 pub fn read_holds<S: Alter>(
     conn: &mut Connection<S>,
     alloc: Global,

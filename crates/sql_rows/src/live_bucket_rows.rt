@@ -73,6 +73,7 @@ fn live_from(alloc: Global, rows: &[Row]) -> Result<Vec<LiveBucket>, ReadFault>
 /// # Errors
 /// `Store` where the store failed, `Rules` where a row is out of its rules or they aren't in
 /// the order of their use, `Memory` where a growth was refused. Nothing is changed then either.
+// rule: statements-of-tables.tables-content
 pub fn read_buckets_live<S: Alter>(
     conn: &mut Connection<S>,
     alloc: Global,
@@ -105,6 +106,7 @@ pub fn read_buckets_live<S: Alter>(
 ///
 /// # Errors
 /// As of `read_buckets_live`. Then nothing is committed.
+// rule: statements-of-tables.reads-within
 pub fn read_buckets_live_within<S: Alter>(
     tx: &mut Transaction<'_, S>,
     alloc: Global,

@@ -69,6 +69,7 @@ pub fn put_meta<S: Alter>(
 ///
 /// # Errors
 /// An error of the store. Then nothing is committed.
+// rule: statements-of-tables.tables-content
 pub fn put_last_moment<S: Alter>(tx: &mut Transaction<'_, S>, last: Moment) -> Result<(), Error>
     requires book { HasBook (state S.Store tx.old.conn.now) }
     requires rules { HasRules (state S.Store tx.old.conn.now) }
@@ -92,6 +93,7 @@ pub fn put_last_moment<S: Alter>(tx: &mut Transaction<'_, S>, last: Moment) -> R
 /// # Errors
 /// `Store` where the store failed; `Rules` only where no row is there, or it keeps this version and
 /// is out of its rules; `Memory` where a growth was refused. Nothing is changed then either.
+// rule: database-migrated.older
 pub fn read_meta<S: Alter>(
     conn: &mut Connection<S>,
     version: u32,
@@ -157,6 +159,7 @@ fn meta_among(rows: &[Row], version: u32) -> Result<Option<MetaColumns>, ReadFau
 }
 
 /// The row, where it keeps a version: its version is looked at before all else.
+// rule: database-migrated.older
 fn meta_at(row: &Row, version: u32) -> Result<Option<MetaColumns>, ReadFault>
     ensures version { IfOk result (λ o. IfSome o (λ m. m.version ≡ version)) }
     ensures read { MatchResult result

@@ -37,6 +37,7 @@ pub struct OpenRows {
 /// # Errors
 /// `Store` where the store failed, `Rules` where a row is out of its rules or the keys don't rise,
 /// `Memory` where a growth was refused. Nothing is changed then either.
+// rule: statements-of-tables.open-rows
 pub fn read_open_rows<S: Alter>(
     conn: &mut Connection<S>,
     alloc: Global,
@@ -66,6 +67,7 @@ pub fn read_open_rows<S: Alter>(
 ///
 /// # Errors
 /// As of `read_open_rows`. Then nothing is committed.
+// rule: statements-of-tables.reads-within
 pub fn read_open_rows_within<S: Alter>(
     tx: &mut Transaction<'_, S>,
     alloc: Global,

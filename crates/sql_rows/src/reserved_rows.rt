@@ -42,6 +42,7 @@ impl Drop for ReservedColumns {
 /// # Errors
 /// `Store` where the store failed, `Rules` only where a row is out of its rules, `Memory` where a
 /// growth was refused. Then nothing is committed.
+// rule: database-migrated.ruled-version
 pub fn read_reserved_within<S: Alter>(
     tx: &mut Transaction<'_, S>,
     alloc: Global,

@@ -59,6 +59,7 @@ fn write_session<S: Alter>(
 ///
 /// # Errors
 /// An error of the store. Then nothing is committed.
+// rule: statements-of-tables.with-session-row
 pub fn put_session<S: Alter>(
     tx: &mut Transaction<'_, S>,
     account: &AccountNumber,
@@ -85,6 +86,7 @@ pub fn put_session<S: Alter>(
 ///
 /// # Errors
 /// An error of the store, as where the account has one of the name. Then nothing is committed.
+// rule: statements-of-tables.with-session-row
 pub fn add_session<S: Alter>(
     tx: &mut Transaction<'_, S>,
     account: &AccountNumber,
@@ -121,6 +123,7 @@ fn state_number(state: SessionState) -> u32
 /// # Errors
 /// `Store` where the store failed, `Rules` where a row is out of its rules, `Memory` where a growth
 /// was refused. Nothing is changed then either.
+// rule: statements-of-tables.with-session-row
 pub fn read_session<S: Alter>(
     conn: &mut Connection<S>,
     alloc: Global,
@@ -198,6 +201,7 @@ pub fn read_sessions_open<S: Alter>(
 ///
 /// # Errors
 /// As of `read_sessions_open`. Then nothing is committed.
+// rule: statements-of-tables.reads-within
 pub fn read_sessions_open_within<S: Alter>(
     tx: &mut Transaction<'_, S>,
     alloc: Global,
@@ -260,6 +264,7 @@ pub fn put_sessions<S: Alter>(
 ///
 /// # Errors
 /// The first error of a row, as `add_session` answers it. Then nothing is committed.
+// rule: statements-of-tables.with-session-row
 pub fn add_sessions<S: Alter>(
     tx: &mut Transaction<'_, S>,
     account: &AccountNumber,

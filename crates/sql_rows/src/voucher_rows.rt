@@ -87,6 +87,7 @@ pub fn put_voucher<S: Alter>(
 /// # Errors
 /// `Store` where the store failed, `Rules` where a row is out of its rules, `Memory` where a growth
 /// was refused. Nothing is changed then either.
+// rule: answer-rows
 pub fn read_voucher<S: Alter>(
     conn: &mut Connection<S>,
     alloc: Global,

@@ -221,6 +221,7 @@ module _ (shelf : Shelf) (trees : Trees) (fits : Fits book_schema trees)
         subst (λ y. are_some_blocks y ≡ true) it.3 (covered_told it.0 it.2);
   }
 
+  -- rule: rows-ruled.in-rules
   pub content_ruled : IsInRules shelf (tables_content trees)
   content_ruled = record {
     once = one_meta;

@@ -27,6 +27,7 @@ module _ (rule : Row → Bool) where
   kept before old false cells e = old cells e
 
   -- the table of the row that was put
+  -- rule: rows-ruled.mapped
   pub put_keeps : (table : Table) (values : Row) (old new : Trees) → Changes table values old new
       → rule (Null ∷ values) ≡ true → IsMapped rule table old → IsMapped rule table new
   put_keeps table values old new c in' so key cells e =
@@ -35,6 +36,7 @@ module _ (rule : Row → Bool) where
       (sym (found table values old new c key) ∙ e)
 
   -- the table of the rows that were removed
+  -- rule: rows-ruled.mapped
   pub end_keeps : (table : Table) (wanted : Row) (old new : Trees) → Ends table wanted old new
       → IsMapped rule table old → IsMapped rule table new
   end_keeps table wanted old new c so key cells e =

@@ -61,6 +61,7 @@ module _ (table : Table) (tabled : Has book_schema.tables table)
       ≡ look_in row_cmp key (entries_of table.primary (trees table.tree))
   looked key = get-from_entries row_cmp_total (entries_of table.primary (trees table.tree)) key
 
+  -- rule: rows-ruled.mapped
   pub rows_mapped : AllByRecursion (λ r. IsTrue (rule r)) (trees table.tree) →
       IsMapped rule table trees
   rows_mapped all key cells e =
@@ -100,6 +101,7 @@ module _ (table : Table) (tabled : Has book_schema.tables table)
       ∙ subst (λ v. rule (Null ∷ v) ≡ true) (back.3 ∙ ap (drop 1) same)
       (so key it.0 (looked key ∙ it.1))
 
+  -- rule: rows-ruled.mapped
   pub mapped_rows : IsMapped rule table trees
       → ((r : Row) → Has (trees table.tree) r →
       AllByRecursion (λ p. is_null (column r p) ≡ false) table.primary)

@@ -121,6 +121,7 @@ module _ (tree : ℕ) (ps : List ℕ) where
         (Select (record { lets = []; body = rows_query tree places }) is.names)
         is.command is.plain is.listing rows h).answer Null
 
+    -- rule: rows-ruled
     pub rows_stand : Pass rule rows →
         IsStored table × AllByRecursion (λ r. IsTrue (rule r)) table
     rows_stand pass =
@@ -132,6 +133,7 @@ module _ (tree : ℕ) (ps : List ℕ) where
               (all-permutation (λ r. IsTrue (rule r)) rows _ p pass.1)),
         )
 
+    -- rule: rows-ruled
     pub rows_pass : IsStored table → AllByRecursion (λ r. IsTrue (rule r)) table → Pass rule rows
     rows_pass stored in' =
         let a = answer in

@@ -10,6 +10,7 @@ use Rattle.wire.specs.Contents.{content_of, content_text, is_own_text, is_conten
 use Rattle.sql_rules.specs.Rules.{is_kept_content, is_under}
 
 -- what is read is the text of its content, so only the key is left
+-- rule: rows-ruled.under
 pub read_kept : (kind : ℕ) (name : List ℕ) (number : ℕ) (a text : List ℕ) (c : Content) (b : Bool)
     → content_text c ≡ text → content_of a text ≡ Ok c
     → b ≡ is_under (key_of c) kind name number
@@ -26,6 +27,7 @@ unread kind name number text (Ok c) e = ap (λ t. t && is_under (key_of c) kind 
 unread kind name number text (Err f) e = refl
 
 -- what isn't the text of a content isn't that of one under a key
+-- rule: rows-ruled.under
 pub read_none : (kind : ℕ) (name : List ℕ) (number : ℕ) (a text : List ℕ) (b : Bool) → b ≡ false
     → is_content_text a text ≡ false
     → b ≡ is_kept_content kind name number text (content_of a text)

@@ -374,6 +374,7 @@ module _ (shelf : Shelf) (trees : Trees) (fits : Fits book_schema trees) where
           r has =
           absurd (omega (arith, low))
 
+      -- rule: rows-ruled.in-rules
       pub rows_ruled : AreRuled shelf latest trees
       rows_ruled at low = record {
         stored = all_has (λ (t : Table). IsStored (trees t.tree)) book_schema.tables (table_at at)

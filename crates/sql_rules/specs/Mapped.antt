@@ -13,11 +13,14 @@ use Rattle.sql_rules.specs.Rules.{rule_at}
 use Rattle.sql_rules.specs.Tables.{table_at}
 
 -- the columns under each key pass the test; no test sees a rowid
+-- rule: rows-ruled.mapped: rows are in their rules exactly if what is under each key is; a put in
+--   its rules, and a removal, keep that
 abbrev pub IsMapped : (Row → Bool) → Table → Trees → Type 0
 IsMapped rule table trees =
     (key cells : Row) → look table trees key ≡ Some cells → IsTrue (rule (Null ∷ cells))
 
 -- in each table of the latest version
+-- rule: rows-ruled.mapped
 abbrev pub AreMapped : Shelf → Trees → Type 0
 AreMapped shelf trees = (at : ℕ) → at < length book_schema.tables
     → IsMapped (rule_at shelf at) (table_at at) trees

@@ -88,6 +88,7 @@ is_covered n blocks =
 -- ---- all of them
 
 -- what is stored of an account
+-- rule: rows-ruled.in-rules
 pub record AreInRules (shelf : Shelf) (a : List ℕ) (r : TableRows) : Type 0 where
   pub head : (h : HeadColumns) → r.head ≡ Some h → IsTrue (is_account a h)
   pub buckets : (n : ℕ) (b : BucketRow) → r.buckets n ≡ Some b → IsTrue (is_bucket b)
@@ -105,6 +106,8 @@ pub record AreInRules (shelf : Shelf) (a : List ℕ) (r : TableRows) : Type 0 wh
   pub allowances : (n : ℕ) → r.allowances n ≡ true → IsTrue (is_allowance n)
   pub covered : (n blocks : ℕ) → r.covered n ≡ Some blocks → IsTrue (is_covered n blocks)
 
+-- rule: rows-ruled.in-rules: if rows are in their rules, so is the content of the tables; and rows
+--   whose content is in its rules are in theirs, if they are as the statements write them
 pub record IsInRules (shelf : Shelf) (c : TablesContent) : Type 0 where
   pub once : c.kept ≤ 1
   pub meta : (m : Meta) → c.meta ≡ Some m → IsTrue (is_meta m)

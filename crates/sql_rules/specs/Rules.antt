@@ -102,6 +102,7 @@ is_answer_key kind name number =
     || (nat_eq 2 kind && is_reference name && nat_eq 0 number)
 
 -- these columns are those of this key
+-- rule: rows-ruled.under: what is kept of a command is under the command's own key
 abbrev pub is_under : Key → KeyKind → KeyName → KeyNumber → Bool
 is_under (Request session n) kind name number =
     nat_eq 1 kind && same_name session name && nat_eq n number
@@ -109,6 +110,7 @@ is_under (Reference reference) kind name number =
     nat_eq 2 kind && same_name reference name && nat_eq 0 number
 
 -- bytes are the text of the content that they say, whose key is that of the columns
+-- rule: rows-ruled.under
 abbrev pub is_kept_content : KeyKind → KeyName → KeyNumber → List ℕ → Result Content WireFault
     → Bool
 is_kept_content kind name number bytes (Ok c) =
@@ -116,6 +118,7 @@ is_kept_content kind name number bytes (Ok c) =
 is_kept_content kind name number bytes (Err e) = false
 
 -- the texts of a command of the account, under the command's own key, and of an answer
+-- rule: rows-ruled.under
 abbrev pub are_kept_texts : KeyKind → KeyName → KeyNumber → List ℕ → List ℕ → List ℕ → Bool
 are_kept_texts kind name number account content answer =
     is_account_number account
@@ -156,11 +159,14 @@ is_ruled_covered row = are_some_blocks (number_at row 3)
 -- ---- by the table's place
 
 -- the tests, in the order of the tables of all versions
+-- rule: rows-ruled: each row of a database is in the rules of its table, or a fault of the rules
+--   says that one isn't
 abbrev pub rules : Shelf → List (Row → Bool)
 rules shelf =
     is_ruled_meta ∷ is_ruled_account ∷ is_ruled_bucket ∷ is_ruled_counter ∷ is_ruled_session
     ∷ is_ruled_group shelf ∷ is_ruled_hold ∷ is_ruled_answer ∷ is_ruled_voucher ∷ is_ruled_charge
     ∷ is_ruled_book ∷ is_ruled_grant_book shelf ∷ is_ruled_allowance ∷ is_ruled_covered ∷ []
 
+-- rule: rows-ruled
 abbrev pub rule_at : Shelf → ℕ → Row → Bool
 rule_at shelf at = slice_index_or (rules shelf) at (λ row. true)

@@ -39,6 +39,7 @@ abbrev pub AreRuledTo : Shelf → ℕ → Trees → Type 0
 AreRuledTo shelf k trees = (at : ℕ) → at < k → IsRuledAt shelf at trees
 
 -- of all tables of a version
+-- rule: rows-ruled
 abbrev pub AreRuled : Shelf → ℕ → Trees → Type 0
 AreRuled shelf v trees = AreRuledTo shelf (length (schema_at v).tables) trees
 
@@ -52,6 +53,7 @@ pub record IsOfRows (fault : OpenFault) : Type 0 where
 
 -- where it answers, the rows are so; where it reports a fault of the rules, they weren't; whatever
 -- it answers, nothing is changed
+-- rule: rows-ruled
 pub record Tells {A : Type 0} (are : Trees → Type 0) (old new : State)
     (result : Result A OpenFault) : Type 0 where
   pub found : HasCleanDisk new → OnOk result (IsUnchanged old new × are new.now.trees)

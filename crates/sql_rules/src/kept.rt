@@ -77,6 +77,7 @@ fn is_answer(alloc: Global, text: &[u8]) -> Result<bool, AllocError>
 }
 
 /// Whether they are those of a command of this account, under its own key, and of an answer.
+// rule: rows-ruled.under
 pub(crate) fn are_kept_texts(
     alloc: Global,
     kind: u64,

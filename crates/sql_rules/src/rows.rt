@@ -202,6 +202,7 @@ fn is_ruled_covered(row: &Row) -> bool
 ///
 /// # Errors
 /// Lack of memory, for the texts that are kept of a command alone.
+// rule: rows-ruled
 pub(crate) fn is_ruled(
     alloc: Global,
     shelf: &TariffShelf,

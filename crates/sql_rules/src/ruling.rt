@@ -21,6 +21,7 @@ use std::alloc::Global;
 /// # Errors
 /// `Rules` only where a row is out of its rules or a rowid comes twice; `Store` where the store
 /// failed; `Memory` where memory was refused.
+// rule: rows-ruled
 pub fn rules_of<S: Alter>(
     conn: &mut Connection<S>,
     alloc: Global,

@@ -35,6 +35,7 @@ pub keeps_itself : {A : Type 0} (s : State) (r : Result A Error) → OnErr r (Ke
 keeps_itself s (Ok x) = tt
 keeps_itself s (Err e) = record { was_open = λ on. on; committed = λ on. refl }
 
+-- rule: statements-of-tables
 pub spares : (sql : List ℕ) (params : Row) (old new : State) (r : Result ℕ Error) →
     ExecutesInside 0 sql params old new r → OnErr r (Spares old new)
 spares sql params old new (Ok count) h = tt
@@ -228,6 +229,7 @@ reads_survive sql params old new plain idle s =
         absurd (never_commits sql params old db (subst (λ s. IsPlain (understood s sql))
         (sym (idle clean e).book.schema) plain) may)
 
+-- rule: statements-of-tables
 pub reads_only : {V : Type 0} (items : V → List Row) (sql : List ℕ) (params : Row) (old new : State)
     (r : Result V Error) → IsPlain (understood book_schema sql) → HasIdleBook old
     → Survives old new (CommitsShowing sql params old)
@@ -294,6 +296,7 @@ keys_from sql params old new rows idle live shown =
     let on = was_shown sql params old new rows shown in
     (subst (λ s. IsSound s old.now.trees) (idle on).book.schema (live on).0).obeys.rules ForeignKey
 
+-- rule: statements-of-tables
 pub answers_from : (sql : List ℕ) (params : Row) (old new : State) (rows : List Row)
     → IsPlain (understood book_schema sql) → (IsTrue old.is_open → IsIdle old) → IsLive old
     → Shown sql params old new rows → Answers sql params old new rows

@@ -144,6 +144,7 @@ abbrev pub IsOfNone : Schema → ℕ → Type 0
 IsOfNone s later = (v : ℕ) → IsVersion v → 3 < v + later → ¬ (s ≡ schema_at v)
 
 -- nor is it that of the version before those
+-- rule: database-opened.open-fault-told
 pub of_none_more : (s : Schema) (later version : ℕ) (same : Bool) →
     (s ≡ schema_at version → IsTrue same) → version + later ≡ 3 → same ≡ false →
     IsOfNone s later → IsOfNone s (later + 1)

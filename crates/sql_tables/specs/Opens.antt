@@ -46,6 +46,7 @@ IsNoVersion fault = (¬ (fault ≡ Version)) × (¬ (fault ≡ Older))
 
 -- what a fault says of a database that was there: its tables are those of no version, or they are
 -- those of one, and a rowid comes twice; or they are those of a version before the latest
+-- rule: database-opened.open-fault-told: what is reported of the tables that a database has
 abbrev pub IsOpenFaultTold : Database → OpenFault → Type 0
 IsOpenFaultTold db Foreign = (v : TablesVersion) → IsVersion v → ¬ (db.schema ≡ schema_at v)
 IsOpenFaultTold db Version = ⊥

@@ -330,6 +330,7 @@ schema_of pieces =
     record { tables = tables_of pieces; indexes = indexes_of pieces; views = [] }
 
 -- the schema of a version
+-- rule: tables: the tables of each version, and which of them a database has
 abbrev pub schema_at : TablesVersion → Schema
 schema_at v = schema_of (pieces_to v)
 

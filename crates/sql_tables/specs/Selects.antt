@@ -4,6 +4,7 @@ use Rattle.std.specs.List.Sorted.{IsPermutation}
 use Rattle.sqlite_value.specs.Order.{Row}
 
 -- the columns of the stored rows that pass the test, each as often as it is there, in some order
+-- rule: statements-of-tables
 pub record Selects (test : Row → Bool) (columns : Row → Row) (stored out : List Row) : Type 0 where
   pub same : IsPermutation (map columns (filter test stored)) out
 

@@ -47,6 +47,7 @@ pub record Adds (k m : ℕ) (old new : State) : Type 0 where
   pub shows : Shows old new new.now old.committed true
 
 -- inside a transaction: all tables and the indexes
+-- rule: tables
 pub record BuildsAll (old new : State) : Type 0 where
   pub book : IsBook new
   pub lists : Lists (new.now.trees catalog_tree) book_schema
@@ -80,6 +81,7 @@ AreStoredAt v trees =
     AllByRecursion (λ (t : Table). IsStored (trees t.tree)) (schema_at v).tables
 
 -- inside a transaction: the tables of a version, empty
+-- rule: tables
 pub record BuildsTo (v : TablesVersion) (old new : State) : Type 0 where
   pub schema : new.now.schema ≡ schema_at v
   pub empty : AreEmpty (schema_at v).tables new.now.trees

@@ -43,6 +43,7 @@ HasIdleBook s = HasCleanDisk s → IsTrue s.is_open → IsIdle s
 
 -- the rows of the tables obey their rules, unless the disk failed the connection, or an earlier
 -- failure shut it
+-- rule: statements-of-tables.reads-within
 abbrev pub HasRules : State → Type 0
 HasRules s = HasCleanDisk s → IsTrue s.is_open → Fits book_schema s.now.trees
 
@@ -69,6 +70,7 @@ pub record Ends (table : Table) (wanted : Row) (old new : Trees) : Type 0 where
   pub catalog : new catalog_tree ≡ old catalog_tree
 
 -- inside a transaction
+-- rule: statements-of-tables
 pub record Puts (table : Table) (values : Row) (old new : State) : Type 0 where
   pub changes : Changes table values old.now.trees new.now.trees
   -- the table has a row more, unless there was one under the key
@@ -80,6 +82,7 @@ pub record Puts (table : Table) (values : Row) (old new : State) : Type 0 where
   pub shows : Shows old new new.now old.committed true
 
 -- inside a transaction
+-- rule: statements-of-tables
 pub record Removes (table : Table) (wanted : Row) (old new : State) : Type 0 where
   pub changes : Ends table wanted old.now.trees new.now.trees
   pub book : IsBook new
@@ -116,6 +119,7 @@ pub record OnlyReads (old new : State) : Type 0 where
       IsTrue new.is_open ⊎ MoreFaults old.faults new.faults
 
 -- outside a transaction: what the call answers is what the tables say, and it changes nothing
+-- rule: statements-of-tables: what one statement reads, puts and removes
 pub record Reads {A E : Type 0} (told : Trees → A → Type 0) (old new : State)
     (result : Result A E) : Type 0 where
   pub found : HasCleanDisk new → IfOk result (told old.now.trees)
@@ -127,6 +131,8 @@ pub record Reads {A E : Type 0} (told : Trees → A → Type 0) (old new : State
 
 -- within a transaction: what the call answers is what the tables say, and it changes nothing; or it
 -- answers an error and keeps what was committed
+-- rule: statements-of-tables.reads-within: what of an account may still change, read within a
+--   transaction, and the rules that the tables obey once an account or the moment is put there
 pub record ReadsWithin {A E : Type 0} (told : Trees → A → Type 0) (old new : State)
     (result : Result A E) : Type 0 where
   pub found : HasCleanDisk new → IfOk result (told old.now.trees)

@@ -90,6 +90,7 @@ fn create_to<S: Alter>(tx: &mut Transaction<'_, S>, version: u32) -> Result<(), 
 ///
 /// # Errors
 /// An error of the store. Then nothing is committed.
+// rule: tables
 pub fn create_since<S: Alter>(tx: &mut Transaction<'_, S>, version: u32) -> Result<(), Error>
     requires known { (1 ≤ version) × (version < latest) }
     requires has { HasVersion version (state S.Store tx.old.conn.now) }
@@ -103,6 +104,7 @@ pub fn create_since<S: Alter>(tx: &mut Transaction<'_, S>, version: u32) -> Resu
 ///
 /// # Errors
 /// An error of the store. Then the database is as it was.
+// rule: tables
 pub fn create_tables<S: Alter>(conn: &mut Connection<S>) -> Result<(), Error>
     requires idle { conn.old.in_transaction ≡ false }
     requires blank { HasNoTable (state S.Store conn.old) }

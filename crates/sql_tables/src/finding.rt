@@ -72,6 +72,7 @@ fn tables_differ<S: Alter>(conn: &mut Connection<S>, version: u32) -> Result<(),
 /// `Foreign` only where the tables are exactly those of no version, `Rules` only where they are
 /// those of one and a rowid comes twice or is no integer; `Store` where the store failed or a
 /// transaction is open; `Memory` where memory was refused.
+// rule: database-opened.open-fault-told
 #[tactic(auto, using(crate::proofs::Keeps::spares_still, crate::proofs::Keeps::still_itself))]
 pub fn find_tables<S: Alter>(conn: &mut Connection<S>, alloc: Global) -> Result<u32, OpenFault>
     ensures { FindsVersion S.Store conn.old conn.new result }

@@ -67,6 +67,7 @@ impl<T: Drop> From<AllocFailed<T>> for ReadFault {
 ///
 /// # Errors
 /// `Store` where the store failed, and never `Rules`.
+// rule: statements-of-tables
 pub fn read<S: Alter>(
     conn: &mut Connection<S>,
     sql: &str,
@@ -102,6 +103,7 @@ pub fn read_within<S: Alter>(
 ///
 /// # Errors
 /// `Rules` where there are more.
+// rule: statements-of-tables
 pub fn one_of(rows: &[Row]) -> Result<Option<&Row>, ReadFault>
     ensures { MatchResult result (λ o. rows.now ≡ one_or_none (option_map (λ r. r.now) o))
         (λ _. (o : Option Values) → ¬ (rows.now ≡ one_or_none o)) }
@@ -131,6 +133,7 @@ pub fn has_columns(row: &Row, count: usize) -> Result<(), ReadFault>
 ///
 /// # Errors
 /// `Rules` only where the column holds no integer from 0 on, `Memory` where memory was refused.
+// rule: statements-of-tables
 pub fn number_at(row: &Row, at: usize) -> Result<u64, ReadFault>
     ensures { MatchResult result (λ n. column row.now at ≡ Int (pos n))
         (λ e. e ≡ ReadFault.Rules → (n : ℕ) → ¬ (column row.now at ≡ Int (pos n))) }

@@ -38,6 +38,7 @@ pub fn has_ours(schema: &Schema) -> bool
 }
 
 /// Whether a database has no table, no index and nothing else.
+// rule: tables
 pub fn is_blank(schema: &Schema) -> bool
     ensures { IsTrue result ↔ (schema.now ≡ stage 0) }
 {

@@ -30,6 +30,7 @@ pub fn whole<'a>(number: u32) -> ValueRef<'a>
 }
 
 /// 1 for true and 0 for false, as a statement's parameter.
+// rule: statements-of-tables
 pub fn flag<'a>(is_set: bool) -> ValueRef<'a>
     ensures { owned result ≡ Int (pos (if is_set then 1 else 0)) }
 {
@@ -63,6 +64,7 @@ pub fn checked<'a>(number: u128, place: usize) -> Result<ValueRef<'a>, Error>
 }
 
 /// A number or NULL as a statement's parameter.
+// rule: statements-of-tables
 pub fn optional<'a>(number: Option<u32>) -> ValueRef<'a>
     ensures { bound_value (owned result) ≡ or_null (λ n. Int (pos n)) number }
 {

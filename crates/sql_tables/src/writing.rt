@@ -13,6 +13,7 @@ use sqlite::{Alter, Error, Transaction};
 ///
 /// # Errors
 /// An error of the store. Then nothing is committed.
+// rule: statements-of-tables
 pub fn write<S: Alter>(
     tx: &mut Transaction<'_, S>,
     sql: &str,

@@ -39,6 +39,7 @@ begun_second a b c first second p h = record {
 }
 
 -- two texts and a third, which is of a value, are written, or a beginning of the third
+-- rule: statement-allowances
 pub three_written : {A : Type 0} (a b c d : Option (List ℕ)) (first second : List ℕ)
     (third : A → List ℕ) (s t : A) → s ≡ t → Appends a b first → Appends b c second →
     Appends c d (third s) → Appends a d ((first ++ second) ++ third t)

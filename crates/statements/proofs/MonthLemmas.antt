@@ -153,6 +153,7 @@ module _ {W : Type 0} (contents : W → Option (List ℕ)) (book : Book) (cycle 
       }
 
   -- a visitor that is shown rows writes those of the month
+  -- rule: statement, export, statement-month, statement-lines
   pub wrote : (rows : List ChargeColumns) (old new : MonthRows W) → Begins book cycle form old →
       Visits (TakesRow contents) rows old new → Wrote contents book cycle form rows old new
   wrote [] old new h v = wrote_none old new h v

@@ -29,6 +29,7 @@ pub record Asks {T : Type 0} (old new : Seen) (result : Result T StatementFault)
   pub cause : IsErrOf result Store → min (old.failed + 1) max_failures ≤ new.failed
 
 -- the text of an account's charges is written, or a beginning of it at a fault
+-- rule: statement
 pub record Writes {T : Type 0} (charges : ChargeNumber → Option ChargeColumns)
     (old new : Option Bytes) (text : List ChargeColumns → Bytes) (result : Result T StatementFault)
     : Type 0 where
@@ -40,6 +41,7 @@ pub record Writes {T : Type 0} (charges : ChargeNumber → Option ChargeColumns)
 -- ---- whatever the source shows
 
 -- the text of some charges is written, or a beginning of it at a fault
+-- rule: statement
 pub record WritesSome {T : Type 0} (old new : Option Bytes) (text : List ChargeColumns → Bytes)
     (result : Result T StatementFault) : Type 0 where
   pub rows : List ChargeColumns

@@ -21,12 +21,14 @@ abbrev pub heading : Bytes
 heading = codes
     "    MOMENT      GROUP     BLOCKS               RATED           COLLECTED         UNCOLLECTED\n"
 
+-- rule: statement-lines: the lines of a statement and the records of an export
 abbrev pub charge_line : ChargeColumns → Bytes
 charge_line c =
     column_text (set 10 c.moment)
     ++ columns_text (set 10 c.group ∷ set 10 c.blocks.0 ∷ set 19 c.rated.0 ∷ set 19 c.collected.0
     ∷ set 19 c.uncollected.0 ∷ [])
 
+-- rule: statement-lines
 abbrev pub total_line : Sums → Bytes
 total_line s =
     codes "                TOTAL"
@@ -47,6 +49,7 @@ amounts_of b =
 abbrev pub bucket_heading : Bytes
 bucket_heading = codes "    BUCKET" ++ amount_names
 
+-- rule: statement-lines
 abbrev pub bucket_line : BucketRow → Bytes
 bucket_line b = column_text (set 10 b.number) ++ columns_text (amounts_of b)
 
@@ -54,6 +57,7 @@ abbrev pub allowance_heading : Bytes
 allowance_heading = codes " ALLOWANCE      GROUP" ++ amount_names
 
 -- an allowance has a rating group
+-- rule: statement-allowances
 abbrev pub allowance_line : BucketRow → Bytes
 allowance_line b =
     column_text (set 10 b.number) ++ columns_text (set 10 (unwrap_or b.scope 0) ∷ amounts_of b)
@@ -63,5 +67,6 @@ allowance_line b =
 abbrev pub date_line : ℕ → Bytes
 date_line n = codes "COLLECTED TO DATE " ++ (decimal n ++ codes "\n")
 
+-- rule: statement-allowances
 abbrev pub covered_line : ℕ → Bytes
 covered_line n = codes "COVERED TO DATE " ++ (decimal n ++ codes "\n")

@@ -19,5 +19,6 @@ charge_fields c =
     decimal c.moment ∷ c.session ∷ decimal c.group ∷ decimal c.blocks.0 ∷ decimal c.rated.0
     ∷ decimal c.collected.0 ∷ decimal c.uncollected.0 ∷ decimal c.covered.0 ∷ []
 
+-- rule: export, statement-lines
 abbrev pub charge_record : ChargeColumns → Bytes
 charge_record c = row_text default_writer (charge_fields c)

@@ -26,6 +26,7 @@ use Rattle.statements.specs.declared.rows.Form.TheVariants.{Lines, Records}
 use Rattle.statements.specs.declared.rows.Sums.{Sums}
 
 -- the rows of a month: charges have the moments of commands
+-- rule: statement
 abbrev pub of_month : Book → MonthNumber → List ChargeColumns → List ChargeColumns
 of_month book month rows =
     filter (is_of_month book month) (filter (is_between 0 no_end) rows)
@@ -73,10 +74,12 @@ abbrev pub has_allowance : List BucketRow → Bool
 has_allowance rows = list_any (λ b. is_alike b.kind Blocks) rows
 
 -- of allowances nothing is printed where there is none
+-- rule: statement-allowances
 abbrev pub allowances_text : List BucketRow → Bytes
 allowances_text rows =
     if has_allowance rows then allowance_heading ++ buckets_text Blocks rows else []
 
+-- rule: statement-allowances
 abbrev pub covered_text : List BucketRow → Bytes
 covered_text rows =
     if has_allowance rows then covered_line (sum_in Blocks (λ b. b.charged) rows) else []
@@ -87,6 +90,7 @@ covered_text rows =
 abbrev pub head_text : AccountName → MonthNumber → Moment → Bytes
 head_text account month moment = title_line account month moment ++ heading
 
+-- rule: statement-allowances: allowances in a statement, if there are any
 abbrev pub foot_text : Sums → List BucketRow → Bytes
 foot_text sums buckets =
     total_line sums ++ bucket_heading ++ buckets_text Money buckets ++ allowances_text buckets
@@ -94,6 +98,7 @@ foot_text sums buckets =
 
 -- an account's statement of a month: its charges in the month, their sums, its buckets at the
 -- moment, those of money before its allowances, and what was collected and covered to date
+-- rule: statement: a statement of a month
 abbrev pub statement_text : Book → AccountName → MonthNumber → Moment → List ChargeColumns →
     List BucketRow → Bytes
 statement_text book account month moment rows buckets =
@@ -102,6 +107,8 @@ statement_text book account month moment rows buckets =
     ++ foot_text (sums_of (of_month book month rows)) buckets
 
 -- its export: a record for each of these charges
+-- rule: export: an export of a month
+-- rule: statement
 abbrev pub export_text : Book → MonthNumber → List ChargeColumns → Bytes
 export_text book month rows = header_record ++ charges_text Records (of_month book month rows)
 

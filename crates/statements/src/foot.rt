@@ -115,6 +115,7 @@ fn push_listed(alloc: Global, text: &mut String, buckets: &[Bucket]) -> Result<(
 }
 
 /// Adds the lines of allowances, where there is one.
+// rule: statement-allowances
 fn push_allowances(alloc: Global, text: &mut String, buckets: &[Bucket]) -> Result<(), AllocError>
     ensures { OnOk result
         (string_bytes text.new ≡ string_bytes text.old ++ allowances_text buckets.now) }
@@ -126,6 +127,7 @@ fn push_allowances(alloc: Global, text: &mut String, buckets: &[Bucket]) -> Resu
 }
 
 /// Adds what allowances covered to date, where there is one.
+// rule: statement-allowances
 fn push_covered(alloc: Global, text: &mut String, buckets: &[Bucket]) -> Result<(), AllocError>
     ensures { OnOk result
         (string_bytes text.new ≡ string_bytes text.old ++ covered_text buckets.now) }
@@ -139,6 +141,7 @@ fn push_covered(alloc: Global, text: &mut String, buckets: &[Bucket]) -> Result<
 }
 
 /// What follows the charges of a statement.
+// rule: statement-allowances
 pub(crate) fn foot_text(
     alloc: Global,
     sums: &Sums,

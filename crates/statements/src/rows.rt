@@ -108,6 +108,7 @@ impl<'w, W: Write> ChargeVisitor for MonthRows<'w, W> {
 
     ghost sees = { λ old c goes new. TakesRow W.contents old c goes new };
 
+    // rule: statement-month, statement-lines
     fn row(&mut self, row: &ChargeRow) -> bool {
         if self.book.cycle_of(Cycle::Month, row.moment) != self.cycle {
             return true;

@@ -153,6 +153,7 @@ fn write_header<W: Write>(alloc: Global, writer: &mut W) -> Result<(), StreamFau
 /// # Errors
 /// `Memory` where a growth was refused, `Store` where the source failed, `Write` where the writer
 /// did. Then a beginning of the statement is written.
+// rule: statement
 pub fn statement<S: ChargeSource, W: Write>(
     alloc: Global,
     source: &mut S,
@@ -178,6 +179,7 @@ pub fn statement<S: ChargeSource, W: Write>(
 /// # Errors
 /// `Memory` where a growth was refused, `Store` where the source failed, `Write` where the writer
 /// did. Then a beginning of the export is written.
+// rule: statement, export
 pub fn export<S: ChargeSource, W: Write>(
     alloc: Global,
     source: &mut S,

@@ -18,6 +18,7 @@ item_list_view [] = refl
 item_list_view (v ∷ vs) = ap (λ ds. view v ∷ ds) (item_list_view vs)
 
 -- an entry that is read
+-- rule: book-text.book-of
 pub each_goes_on : {A : Type 0} (step : A → Data → Result A BookFault) (a b : A) (vs : List Value)
     (i : ℕ) (v : Value) (total : Result A BookFault) → i < length vs → v ≡ get_or vs i v
     → step a (view v) ≡ Ok b → each step a (items_view (drop i vs)) ≡ total
@@ -43,6 +44,7 @@ each_done step a vs i total le so_far =
     loop.each_done view step a vs i total le (rw (← item_list_view (drop i vs)) so_far)
 
 -- the same for a list of what the entries say
+-- rule: book-text.book-of
 pub collected_goes_on : {A : Type 0} (read : List A → Data → Result A BookFault)
     (xs : List A) (x : A) (vs : List Value) (i : ℕ) (v : Value) (total : Result (List A) BookFault)
     → i < length vs → v ≡ get_or vs i v → read xs (view v) ≡ Ok x

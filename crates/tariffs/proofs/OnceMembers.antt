@@ -134,6 +134,7 @@ unfolding text_of number_in id_of unit_of cycle_of final_action_of group_of
 group_read price block cheap some few =
     rw (block_read price block some few, most_read price block, prices_read price block cheap) refl
 
+-- rule: once-book
 pub book_read : (price block : ℕ) → price ≤ 1000000000 → 1 ≤ block → block ≤ 1000000000000000 →
     book_of (once_members price block) ≡ Ok (once_book price block)
 unfolding text_of number_in array_of filled_array_of each minutes_of zone_minutes zone_of

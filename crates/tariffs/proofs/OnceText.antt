@@ -234,6 +234,7 @@ once_parsed price block cheap short =
     ∙ lines_define price block
 
 -- reading the document gives the book
+-- rule: once-book
 pub document_read : (price block : ℕ) (text : String Global) (bytes : List ℕ)
     (r : Result Book BookFault) → price ≤ 1_000_000_000 → 1 ≤ block → block ≤ 1_000_000_000_000_000
     → bytes ≡ string_bytes text → string_bytes text ≡ once_document price block

@@ -185,6 +185,7 @@ text_of_some : (a b : List ℕ) → Some a ≡ Some b → a ≡ b
 text_of_some a b e =
     ap (λ (o : Option (List ℕ)). (elim o as (λ _. List ℕ) [ None ↦ [] | Some x ↦ x ])) e
 
+-- rule: tiers
 one_more : (names : List (List ℕ)) (pre : List Data) (prices : List (List Tier)) (d : Data)
     (after : List (List Tier)) → AreDistinct names → AreRead names pre prices →
     with_price names prices d ≡ Ok after → AreRead names (pre ++ d ∷ []) after
@@ -276,6 +277,7 @@ priced : (name : List ℕ) (pre : List Data) (tiers : List Tier) → has_tiers t
 priced name pre tiers has (inl none) = absurd (true≢false (sym has ∙ none.0))
 priced name pre tiers has (inr one) = one.1
 
+-- rule: tiers
 pub prices_are_once : PricesAreOnce
 unfolding prices_of
 prices_are_once names t prices distinct h entries told place name at =

@@ -9,6 +9,7 @@ use Rattle.tariffs.specs.GroupPrices.{GroupPrices, prices_in}
 
 -- the prices of a group in two periods of the book; none of a group that the book doesn't have, and
 -- none where a period isn't the book's
+-- rule: tiers.prices-at: the prices of both sides of a switch are one book's, of one group
 abbrev pub prices_at : Book → GroupId → PeriodNumber → PeriodNumber → Option GroupPrices
 prices_at b group before after =
     if nat_lt before (length b.periods) && nat_lt after (length b.periods)
@@ -16,6 +17,7 @@ prices_at b group before after =
     else None
 
 -- these are the prices of the group in the book, in two periods of the book
+-- rule: tiers.prices-at
 pub record ArePricesOf (b : Book) (group : GroupId) (one two : PeriodNumber) (p : GroupPrices)
     : Type 0 where
   pub tariff : GroupTariff

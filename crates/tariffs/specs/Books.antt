@@ -42,6 +42,8 @@ pub record IsBook (b : Book) : Type 0 where
   pub prices : All (λ t. length t.prices ≡ length b.periods) b.tariffs
 
 -- the book of the members of a document, read in this order
+-- rule: book-text: a book from its text, or its first fault
+-- rule: book-text.book-of: a book's lists, entry by entry
 unfoldable pub book_of : Members → Result Book BookFault
 book_of t = do
   zone ← zone_of t
@@ -62,6 +64,7 @@ book_of t = do
   })
 
 -- the bytes are a TOML document with these members
+-- rule: book-text
 pub record IsDocument (bytes : List ℕ) (t : Members) : Type 0 where
   pub text : IsUtf8 bytes
   pub parsed : parse_document bytes ≡ Some t

@@ -35,6 +35,7 @@ once_tariff price block = record {
 }
 
 -- the book: in euros (ISO 4217 number 978), UTC, with grants that are valid for an hour
+-- rule: once-book: the book of one price
 abbrev pub once_book : ℕ → ℕ → Book
 once_book price block = record {
   zone_text = codes "+00:00";
@@ -61,6 +62,7 @@ to_the_price =
     ++ codes "\n[[group.price.tiers]]\nprice = "
 
 -- the bytes of its document (TOML 1.0)
+-- rule: once-book
 abbrev pub once_document : ℕ → ℕ → List ℕ
 once_document price block =
     to_the_block ++ (decimal block ++ (to_the_price ++ (decimal price ++ codes "\n")))

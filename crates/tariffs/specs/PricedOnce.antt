@@ -19,6 +19,7 @@ abbrev pub period_text : Data → Option (List ℕ)
 period_text d = option_and_then as_str (option_and_then (get_member (codes "period")) (as_table d))
 
 -- an entry names this period
+-- rule: tiers: exactly one price entry names each period, and its tiers are the period's
 abbrev pub names_period : List ℕ → Data → Bool
 names_period name d = option_eq same_text (period_text d) (Some name)
 
@@ -27,12 +28,14 @@ abbrev pub entry_tiers : Data → Result (List Tier) BookFault
 entry_tiers d = table_at d >>= tiers_of
 
 -- of these entries one names the period, and these are its tiers
+-- rule: tiers
 pub record IsPricedOnce (name : List ℕ) (entries : List Data) (tiers : List Tier) : Type 0 where
   pub entry : Data
   pub only : filter (names_period name) entries ≡ entry ∷ []
   pub tiers_are : entry_tiers entry ≡ Ok tiers
 
 -- of the prices that are read of a group, each period's are those of the one entry that names it
+-- rule: tiers
 abbrev pub PricesAreOnce : Type 0
 PricesAreOnce =
     (names : List (List ℕ)) (t : Members) (prices : List (List Tier)) → AreDistinct names →

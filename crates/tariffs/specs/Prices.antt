@@ -13,6 +13,7 @@ reaches (Some bound) place = nat_le place bound
 
 -- the price of the block at a place on the counter: that of the first tier whose bound is at least
 -- the place
+-- rule: tiers.block-price: price of a block at its place
 abbrev pub block_price : List Tier → Place → Micros
 block_price [] place = 0
 block_price (tier ∷ tiers) place =

@@ -93,6 +93,7 @@ impl TariffBook {
     ///
     /// # Errors
     /// The first fault; lack of memory may be reported in place of it.
+    // rule: book-text, book-text.book-of
     pub fn read(alloc: Global, bytes: &[u8]) -> Result<TariffBook, BookFault>
         ensures { ReadsBook bytes.now result }
     {
@@ -164,6 +165,7 @@ impl TariffBook {
     /// The prices of a rating group in two periods, that before a tariff switch and that after it
     /// (without a switch the same): the tiers of both, from this book's tariff of the group. None
     /// for a group that the book doesn't have, and where a period isn't the book's.
+    // rule: tiers.prices-at
     pub fn prices(&self, group: u32, before: Period, after: Period) -> Option<Prices<'_>>
         ensures value { result ≡ prices_at self.now group before.0 after.0 }
         ensures found { IfSome result (ArePricesOf self.now group before.0 after.0) }
@@ -221,6 +223,7 @@ impl TariffBook {
 
     /// `next_switch`, going from one entry's end of the week to the next: a step an entry, and an
     /// entry in which the zone's offset changes counts twice, at most 260.
+    // rule: switch-steps.change
     pub fn next_switch_steps(
         &self,
         moment: Moment,

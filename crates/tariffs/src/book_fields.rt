@@ -23,6 +23,7 @@ fn member<'a>(table: &'a Table, key: &str) -> Result<&'a Value, BookFault>
 ///
 /// # Errors
 /// `Missing`, then `WrongKind`.
+// rule: first-fault
 #[tactic(auto, unfolding(crate::specs::Fields::text_of))]
 pub fn text<'a>(table: &'a Table, key: &str) -> Result<&'a str, BookFault>
     ensures { Says (λ s. s.now) result (text_of key.now (table_view table.now)) }
@@ -34,6 +35,7 @@ pub fn text<'a>(table: &'a Table, key: &str) -> Result<&'a str, BookFault>
 ///
 /// # Errors
 /// `Missing`, then `WrongKind`, then `OutOfRange`.
+// rule: first-fault
 #[tactic(auto, unfolding(crate::specs::Fields::number_in))]
 pub fn number(table: &Table, key: &str, low: u64, high: u64) -> Result<u64, BookFault>
     requires low { low < 2 ^ 62 }

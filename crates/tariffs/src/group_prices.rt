@@ -69,6 +69,7 @@ impl<'b> Prices<'b> {
     }
 
     /// The tiers of a side, in rising order.
+    // rule: tiers.prices-at
     pub fn tiers(&self, side: Side) -> &[Tier]
         ensures value { result.now ≡ tiers_on self.now side }
         ensures tiers { AreTiers result.now }

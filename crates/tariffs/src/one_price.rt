@@ -14,6 +14,7 @@ use std::alloc::{AllocError, Global};
 ///
 /// # Errors
 /// Out of memory, and no fault of the book: its document is a book's, whatever the numbers.
+// rule: once-book
 pub fn once_book(alloc: Global, price: u64, block: u64) -> Result<TariffBook, AllocError>
     requires price { price ≤ greatest_price }
     requires some_block { 1 ≤ block }

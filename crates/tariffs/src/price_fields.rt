@@ -169,6 +169,7 @@ pub(crate) fn prices(
 
 /// Of the entries of a group's `price` exactly one names each period of the book, and its tiers are
 /// the period's.
+// rule: tiers
 pub fn priced_once()
     ensures { PricesAreOnce }
 {}

@@ -71,6 +71,7 @@ fn zone_in(alloc: Global, text: &str) -> Result<Option<Zone>, AllocError>
 }
 
 /// Reads `zone`: an offset, or the text of a zone with summer time.
+// rule: zone-text
 #[tactic(auto, unfolding(crate::specs::WeekFields::zone_of))]
 pub(crate) fn zone(alloc: Global, table: &Table) -> Result<Zone, BookFault>
     ensures { Gives (λ z. z) result (zone_of (table_view table.now)) }

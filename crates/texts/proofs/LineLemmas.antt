@@ -25,6 +25,7 @@ begins_more taken rest stream b h k = record {
 }
 
 -- one byte more is taken
+-- rule: lines
 pub goes_on : (old mid new : Option (List ℕ)) (taken more : List ℕ) (b : ℕ) → (b == 10) ≡ false →
     more ≡ taken ++ b ∷ [] → Consumes mid new (b ∷ []) →
     IfSome old (λ stream. (rest : List ℕ) × (mid ≡ Some rest) × Begins taken rest stream) →

@@ -14,11 +14,13 @@ pub same_value : {F A : Type 0} (x y : A) → gives {F = F} {A = A} x ≡ Ok y �
 same_value x y e = ap (inside x) e
 
 -- a chain that succeeds has steps that do
+-- rule: first-fault
 pub bind_ok : {F A B : Type 0} (r : Result A F) (f : A → Result B F) (y : B) → (r >>= f) ≡ Ok y →
     (x : A) × (r ≡ Ok x) × (f x ≡ Ok y)
 bind_ok (Ok x) f y h = (x, refl, h)
 bind_ok (Err e) f y h = absurd (cc)
 
+-- rule: first-fault
 pub where_ok : {F A : Type 0} (b : Bool) (e : F) (x y : A) → where_holds b e x ≡ Ok y →
     (b ≡ true) × (x ≡ y)
 where_ok true e x y h = (refl, same_value x y h)

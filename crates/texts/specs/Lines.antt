@@ -15,6 +15,7 @@ after_line [] = []
 after_line (b ∷ bs) = if b == 10 then bs else after_line bs
 
 -- the line is the stream's first, and this is left; none where the stream is empty
+-- rule: lines: lines of a stream, or so many bytes
 abbrev pub IsLineOf : Bytes → Option (Vec ℕ Global) → Option Bytes → Type 0
 IsLineOf [] (Some line) left = ⊥
 IsLineOf [] None left = left ≡ Some []
@@ -28,6 +29,7 @@ prepend b [] = (b ∷ []) ∷ []
 prepend b (l ∷ ls) = (b ∷ l) ∷ ls
 
 -- the lines of a stream
+-- rule: lines
 abbrev pub lines_of : Bytes → List Bytes
 lines_of [] = []
 lines_of (b ∷ bs) = if b == 10 then [] ∷ lines_of bs else prepend b (lines_of bs)

@@ -6,6 +6,7 @@ use Rattle.std.specs.Char.{is_ascii_digit}
 use Rattle.std.specs.Str.Parse.{digits_value}
 
 -- 1 to 16 digits say a number
+-- rule: written-numbers: numbers as they are written
 abbrev pub number_of : List ℕ → Option ℕ
 number_of text =
     if nat_le 1 (length text) && (nat_le (length text) 16 && list_all is_ascii_digit text)

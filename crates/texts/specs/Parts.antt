@@ -8,6 +8,7 @@ use Rattle.std.specs.Global.{Global}
 use Rattle.texts.specs.StreamWords.{Byte, Bytes}
 
 -- the part is the next so many bytes, and this is left; none where the stream has fewer
+-- rule: lines
 abbrev pub IsPartOf : ℕ → Bytes → Option (Vec ℕ Global) → Option Bytes → Type 0
 IsPartOf count stream (Some part) left = (count ≤ length stream) × (part.items ≡ take count stream)
     × (left ≡ Some (drop count stream))
@@ -15,6 +16,7 @@ IsPartOf count stream None left = length stream < count
 
 -- the next so many bytes, at most `most`, come to a part; none but the last of them is one that
 -- stops
+-- rule: lines
 pub record TakesPiece (stop : Option Byte) (most : ℕ) (before after : Bytes)
     (old left : Option Bytes) (count : ℕ) : Type 0 where
   pub piece : Bytes

@@ -15,6 +15,7 @@ fn is_digits(text: &str) -> bool
 }
 
 /// The number that a word says: 1 to 16 digits without a sign; None for any other word.
+// rule: written-numbers
 pub fn number(text: &str) -> Option<u64>
     ensures { result ≡ number_of text.now }
 {

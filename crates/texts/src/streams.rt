@@ -155,6 +155,7 @@ pub fn take_piece<R: BufRead>(
 ///
 /// # Errors
 /// `Memory` where a growth was refused, `Read` where the reader failed.
+// rule: lines, http-body
 pub fn next_bytes<R: BufRead>(
     alloc: Global,
     reader: &mut R,
@@ -190,6 +191,7 @@ fn ends_line(byte: u8) -> bool
 /// # Errors
 /// `Memory` where a growth was refused, `Read` where the reader failed, or was interrupted 100
 /// times.
+// rule: lines
 pub fn next_line<R: Read>(alloc: Global, reader: &mut R) -> Result<Option<Vec<u8>>, StreamFault>
     ensures line { IfOk result (λ line. IfSome (R.remaining reader.old)
         (λ stream. IsLineOf stream line (R.remaining reader.new))) }

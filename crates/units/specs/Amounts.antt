@@ -6,11 +6,13 @@ use Rattle.units.specs.declared.money.UnitFault.{UnitFault}
 use Rattle.units.specs.declared.money.UnitFault.TheVariants.{Exponent, OutOfRange}
 
 -- an exponent lies between -6 and 0
+-- rule: money
 pub record IsExponent (exponent : ℤ) : Type 0 where
   pub low : negsuc 5 ≤ℤ exponent
   pub high : exponent ≤ℤ pos 0
 
 -- the digits times 10 to the exponent, counted in micro-units
+-- rule: money: money from digits and an exponent
 abbrev pub micros_of : ℤ → ℤ → ℤ
 micros_of digits exponent = digits *ℤ pos (10 ^ unsigned_abs (exponent +ℤ pos 6))
 

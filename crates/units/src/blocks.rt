@@ -45,6 +45,7 @@ pub struct Blocks(pub u64);
 /// The blocks that a use starts: the multiples of the block's size that are at least the units used
 /// before and less than the units used after it. A started block runs on, so the law of cutting
 /// holds: a use in two parts starts what it starts as one.
+// rule: blocks
 pub fn blocks_started(before: Units, units: Units, block: u64) -> Blocks
     requires { 0 < block }
     ensures { result.0 ≡ started before.0 units.0 block }
@@ -58,6 +59,7 @@ pub fn blocks_started(before: Units, units: Units, block: u64) -> Blocks
 }
 
 /// The law of cutting: units used in two parts start the blocks that they start as one.
+// rule: cutting
 pub fn cutting()
     ensures { CutsAlike }
 {}

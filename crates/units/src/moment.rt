@@ -10,6 +10,7 @@ use std::marker::Model;
 ///
 /// Commands have the moments 0 to 4,102,444,799, and 4,102,444,800 means "no end". A tariff
 /// switch or the end of a validity time may lie up to 43,200 seconds later.
+// rule: moments: moments, and those of commands
 #[derive(Clone, Copy, Debug, PartialEq, Eq, PartialOrd, Ord)]
 pub struct Moment {
     seconds: u64,
@@ -27,6 +28,7 @@ impl Model for Moment {
 
 impl Moment {
     /// The moment this many seconds after the beginning of 1970; None above 4,102,488,000.
+    // rule: moments
     pub fn new(seconds: u64) -> Option<Moment>
         ensures in_range { IsSome result ↔ (seconds ≤ latest_moment) }
         ensures value { IfSome result (λ m. m ≡ seconds) }
@@ -39,6 +41,7 @@ impl Moment {
     }
 
     /// The moment of a command: 0 to 4,102,444,799 seconds; None above.
+    // rule: moments
     pub fn of_command(seconds: u64) -> Option<Moment>
         ensures in_range { IsSome result ↔ (seconds < no_end) }
         ensures value { IfSome result (λ m. m ≡ seconds) }
@@ -58,6 +61,7 @@ impl Moment {
     }
 
     /// The end of what has no end.
+    // rule: moments
     pub fn no_end() -> Moment
         ensures { result ≡ no_end }
     {

@@ -42,6 +42,7 @@ impl Model for Money {
 
 impl Money {
     /// The amount of this many micro-units; None above 10^15.
+    // rule: money
     pub fn new(micros: u64) -> Option<Money>
         ensures in_range { IsSome result ↔ (micros ≤ most_money) }
         ensures value { IfSome result (λ m. m ≡ micros) }
@@ -58,6 +59,7 @@ impl Money {
     ///
     /// # Errors
     /// `Exponent`, then `OutOfRange`.
+    // rule: money
     pub fn from_digits(digits: i64, exponent: i32) -> Result<Money, UnitFault>
         ensures { ReadsMoney digits exponent result }
     {

@@ -35,6 +35,7 @@ impl Steps {
     }
 
     /// One step more.
+    // rule: rating-steps
     pub fn tick(&mut self)
         requires { self.old + 1 < 2 ^ 64 }
         ensures { self.new ≡ self.old + 1 }

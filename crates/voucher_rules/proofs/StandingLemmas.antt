@@ -66,6 +66,7 @@ spent_with : (day_end : DayEnds) (c : VoucherCommand) (vouchers : Vouchers) (cod
 spent_with day_end c vouchers code e =
     unchanged (is_about code c) _ _ (spent_kept day_end c (vouchers code) e)
 
+-- rule: redeemed-once
 pub spent_stays : (day_end : DayEnds) (cs : List VoucherCommand) (vouchers : Vouchers)
     (code : List ℕ) → is_spent (vouchers code) ≡ true →
     with_commands day_end cs vouchers code ≡ vouchers code
@@ -153,6 +154,7 @@ spent_by_it day_end c vouchers code about e =
     (chosen (is_about code c) (after_command day_end c (vouchers code)) (vouchers code) about)
     ∙ redeeming_spends day_end c (vouchers code) e
 
+-- rule: redeemed-once
 pub redeemed_once : (day_end : DayEnds) (code : List ℕ) (cs : List VoucherCommand)
     (vouchers : Vouchers) → redemption_count day_end code cs vouchers ≤ 1
 redeemed_once day_end code [] vouchers = omega arith
@@ -237,6 +239,7 @@ commands_keep day_end (c ∷ cs) vouchers code terms under =
     (with_keeps (is_about code c) (after_command day_end c (vouchers code)) (vouchers code) terms
     (command_keeps day_end c (vouchers code) terms under) under)
 
+-- rule: redeemed-once.stands-for-good
 pub standing_for_good : (day_end : DayEnds) (vouchers : Vouchers) (code : List ℕ)
     (terms : VoucherTerms) → terms_under (vouchers code) ≡ Some terms →
     IsStanding day_end vouchers code terms
@@ -271,6 +274,7 @@ apart_from day_end code (c ∷ cs) v w e =
     at false about rest =
         rest w (rejected (is_about code c) (after_command day_end c (v code)) (v code) about ∙ e)
 
+-- rule: redeemed-once.stands-for-good
 pub codes_apart : (day_end : DayEnds) (code : List ℕ) (cs : List VoucherCommand)
     (vouchers : Vouchers) → with_commands day_end cs vouchers code
     ≡ with_commands day_end (filter (is_about code) cs) vouchers code

@@ -15,11 +15,13 @@ abbrev pub same_terms : VoucherTerms → VoucherTerms → Bool
 same_terms = voucher_terms.eq
 
 -- it is new where nothing stands there; over a voucher, spent or not, its terms alone count
+-- rule: voucher-add: what adding a voucher does
 abbrev pub addition : Option Voucher → VoucherTerms → Addition
 addition None terms = New (unspent terms)
 addition (Some voucher) terms = if same_terms voucher.terms terms then Present else Conflicting
 
 -- what is under the code afterwards
+-- rule: voucher-add
 abbrev pub after_addition : Addition → Option Voucher → Option Voucher
 after_addition (New voucher) found = Some voucher
 after_addition Present found = found

@@ -44,6 +44,7 @@ with_command day_end c vouchers code =
     if is_about code c then after_command day_end c (vouchers code) else vouchers code
 
 -- after commands, the first of them first
+-- rule: redeemed-once.voucher-commands
 abbrev pub with_commands : DayEnds → List VoucherCommand → Vouchers → Vouchers
 with_commands day_end [] vouchers = vouchers
 with_commands day_end (c ∷ cs) vouchers =

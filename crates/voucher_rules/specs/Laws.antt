@@ -20,10 +20,12 @@ pub record IsSpent (day_end : DayEnds) (vouchers : Vouchers) (code : VoucherCode
   pub kept : (cs : List VoucherCommand) → is_spent (vouchers code) ≡ true →
       with_commands day_end cs vouchers code ≡ vouchers code
 
+-- rule: redeemed-once
 abbrev pub IsSpentForGood : Type 0
 IsSpentForGood = (day_end : DayEnds) (vouchers : Vouchers) (code : VoucherCode) →
     IsSpent day_end vouchers code
 
+-- rule: redeemed-once: a voucher is redeemed once, and is spent for good
 abbrev pub IsRedeemedOnce : Type 0
 IsRedeemedOnce =
     (day_end : DayEnds) (code : VoucherCode) (cs : List VoucherCommand) (vouchers : Vouchers) →
@@ -38,11 +40,14 @@ pub record IsStanding (day_end : DayEnds) (vouchers : Vouchers) (code : VoucherC
   pub terms_kept : (cs : List VoucherCommand) →
       terms_under (with_commands day_end cs vouchers code) ≡ Some terms
 
+-- rule: redeemed-once.stands-for-good: a voucher's terms stay, whatever is added; each code by its
+--   own commands
 abbrev pub StandsForGood : Type 0
 StandsForGood = (day_end : DayEnds) (vouchers : Vouchers) (code : VoucherCode)
     (terms : VoucherTerms) →
     terms_under (vouchers code) ≡ Some terms → IsStanding day_end vouchers code terms
 
+-- rule: redeemed-once.stands-for-good
 abbrev pub CodesAreApart : Type 0
 CodesAreApart =
     (day_end : DayEnds) (code : VoucherCode) (cs : List VoucherCommand) (vouchers : Vouchers) →

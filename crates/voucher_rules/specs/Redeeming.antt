@@ -30,6 +30,7 @@ end_after day_end t (Some days) = moment_in_time (day_end t days)
 
 -- until when the bucket of a voucher redeemed at t can be used: without days it has no end, with
 -- days it ends where the last of them does; None past the last moment
+-- rule: voucher-end: until when the bucket of a voucher lasts
 abbrev pub bucket_end : DayEnds → VoucherTerms → Moment → Option Moment
 bucket_end day_end terms t = end_after day_end t terms.days
 
@@ -47,6 +48,7 @@ redemption_until (Some until) terms account t = Ok (record {
 
 -- what an account's redemption at t comes to: a credit from t until the bucket's end, with the
 -- voucher's amount and scope, and the voucher spent by the account; or the first of the refusals
+-- rule: redeem: what redeeming a voucher does
 abbrev pub redemption : DayEnds → Option Voucher → AccountName → Moment →
     Result Redemption RedeemRefusal
 redemption day_end None account t = Err VoucherUnknown
@@ -60,6 +62,7 @@ EndsTooLate day_end found t = IsSomeAnd found
     (λ voucher. (voucher.redeemer ≡ None) × (bucket_end day_end voucher.terms t ≡ None))
 
 -- what a redemption comes to, and exactly when each refusal comes
+-- rule: redeem
 pub record Redeems (day_end : DayEnds) (found : Option Voucher) (account : AccountName) (t : Moment)
     (result : Result Redemption RedeemRefusal) : Type 0 where
   pub value : result ≡ redemption day_end found account t
@@ -68,6 +71,7 @@ pub record Redeems (day_end : DayEnds) (found : Option Voucher) (account : Accou
   pub late : IsErrOf result EndOutOfRange ↔ EndsTooLate day_end found t
 
 -- what is under the code afterwards
+-- rule: redeem
 abbrev pub after_redemption : Result Redemption RedeemRefusal → Option Voucher → Option Voucher
 after_redemption (Ok redeemed) found = Some redeemed.voucher
 after_redemption (Err refusal) found = found

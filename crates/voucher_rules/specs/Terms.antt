@@ -11,10 +11,12 @@ pub record Terms : Type 0 where
   pub scope : Option GroupId
 
 -- 1 to 3,650 days, or none
+-- rule: voucher-terms
 abbrev pub are_days : Option DayCount → Bool
 are_days None = true
 are_days (Some days) = nat_le 1 days && nat_le days most_days
 
 -- 1 to 10^15 micro-units, and such days; any rating group is a scope
+-- rule: voucher-terms: amount, days and scope of a voucher
 abbrev pub are_terms : Micros → Option DayCount → Bool
 are_terms amount days = nat_le 1 amount && nat_le amount most_money && are_days days

@@ -27,8 +27,10 @@ fn same_terms(one: VoucherTerms, other: VoucherTerms) -> bool
 }
 
 /// Adds a voucher of these terms, over what is under its code: a voucher, or nothing.
+// rule: voucher-add
 pub fn add(found: &Option<Voucher>, terms: VoucherTerms) -> Addition
     ensures value { result ≡ addition found.now terms }
+    // rule: voucher-add
     ensures present { IfSome found.now
         (λ voucher. (result ≡ Addition.Present) ↔ (voucher.terms ≡ terms)) }
 {

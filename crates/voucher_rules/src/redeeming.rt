@@ -45,6 +45,7 @@ pub struct Redemption {
 ///
 /// # Errors
 /// The first refusal in the order of `RedeemRefusal`.
+// rule: redeem
 pub fn redeem<C: CivilDays>(
     found: Option<Voucher>,
     account: AccountNumber,

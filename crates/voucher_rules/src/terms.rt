@@ -54,6 +54,7 @@ fn moment_in_time(moment: Option<Moment>) -> Option<Moment>
 
 impl VoucherTerms {
     /// These terms; None for an amount of 0, and for days that aren't 1 to 3,650.
+    // rule: voucher-terms
     pub fn new(amount: Money, days: Option<u32>, scope: Option<u32>) -> Option<VoucherTerms>
         ensures { result ≡ if are_terms amount days
             then Some (record { amount = amount; days = days; scope = scope }) else None }
@@ -97,6 +98,7 @@ impl VoucherTerms {
     /// Until when the bucket can be used if the voucher is redeemed at the moment: where the last
     /// of its days ends, counted from the day after the moment's, or "no end" without days. None
     /// where that day ends past the last moment of commands, so also at 4,102,444,800.
+    // rule: voucher-end
     pub fn bucket_end<C: CivilDays>(self, moment: Moment, calendar: &C) -> Option<Moment>
         ensures value { result ≡ bucket_end (C.day_end calendar.now) self moment }
         ensures in_range { IfSome result (λ end. end ≤ no_end) }

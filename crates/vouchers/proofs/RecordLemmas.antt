@@ -136,6 +136,7 @@ none_left zero s ys e = refl
 none_left (suc n) s ys e = rw e refl
 
 -- the records that were reached are the first ones of the text; where none follows they are all
+-- rule: voucher-file
 pub reached_first : (text : List ℕ) (rows : List (List (List ℕ))) (s : State) (ys : List ℕ)
     → Reached default_config st.StartRecord (strip_bom text) rows s ys
     → (more : List (List (List ℕ))) × (records_in text ≡ rows ++ more)

@@ -168,6 +168,7 @@ vouchers_by header others rows true is e =
 vouchers_by header others rows false is e =
     absurd (no_rows (fault_at 1 Header) rows (Err (fault_at 1 Header)) (Ok rows) refl refl e)
 
+-- rule: voucher-file.vouchers
 pub are_vouchers : (file : List Record) (rows : List VoucherAddition) → vouchers_of file ≡ Ok rows →
     AreVouchers file rows
 are_vouchers [] rows e =
@@ -197,6 +198,7 @@ fault_by header others fault true is e =
     })
 fault_by header others fault false is e = inl (record { none = is; told = sym (ap fault_or e) })
 
+-- rule: voucher-file.vouchers
 pub is_first_fault : (file : List Record) (fault : VoucherFault) → vouchers_of file ≡ Err fault →
     IsFirstFault file fault
 is_first_fault [] fault e = inl (record { none = tt; told = sym (ap fault_or e) })

@@ -41,11 +41,13 @@ vouchers_of (fields ∷ more) =
     if is_header fields then vouchers_from 2 more else Err (fault_at 1 Header)
 
 -- what a file says
+-- rule: voucher-file: a file of vouchers, or its first fault
 abbrev pub vouchers_in : List ℕ → Result (List VoucherAddition) VoucherFault
 vouchers_in text = vouchers_of (records_in text)
 
 -- reading may stop at this record: no earlier one has a fault, and it is at most one past the last;
 -- the first is record 1
+-- rule: voucher-file
 pub record MayStopAt (number : ℕ) (text : List ℕ) : Type 0 where
   pub numbered : 1 ≤ number
   pub within : number ≤ length (records_in text) + 1

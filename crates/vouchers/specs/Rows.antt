@@ -38,6 +38,7 @@ terms_of fields = do
   Ok (record { amount = amount; days = days; scope = scope })
 
 -- four fields: a code of 12 digits and the terms
+-- rule: voucher-terms, voucher-file
 unfoldable pub voucher_of : List (List ℕ) → Result VoucherAddition FaultKind
 voucher_of fields = do
   four ← where_holds (length fields == 4) FieldCount fields
@@ -59,6 +60,7 @@ pub record AreInRange (terms : VoucherTerms) : Type 0 where
   pub scope : IfSome terms.scope (λ g. g ≤ greatest_number)
 
 -- and of a voucher
+-- rule: voucher-file
 pub record IsVoucher (row : VoucherAddition) : Type 0 where
   pub code : IsTrue (is_voucher_code row.code)
   pub terms : AreInRange row.terms

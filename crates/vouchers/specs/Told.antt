@@ -18,6 +18,7 @@ abbrev pub all_say : List VoucherAddition → List (Result VoucherAddition Fault
 all_say rows = map (λ (row : VoucherAddition). Ok row) rows
 
 -- behind the header, each record of the file says one of the vouchers, in their order
+-- rule: voucher-file.vouchers: vouchers are a file's records, and its first fault is reported
 pub record AreVouchers (file : List Record) (rows : List VoucherAddition) : Type 0 where
   pub header : Record
   pub others : List Record
@@ -49,15 +50,18 @@ pub record IsRecordFault (file : List Record) (fault : VoucherFault) : Type 0 wh
   pub number_is : fault.record_number ≡ 2 + length before
 
 -- the first fault of a file
+-- rule: voucher-file.vouchers
 abbrev pub IsFirstFault : List Record → VoucherFault → Type 0
 IsFirstFault file fault = IsHeaderFault file fault ⊎ IsRecordFault file fault
 
 -- a file says vouchers exactly where each of its records but the header says one of them
+-- rule: voucher-file.vouchers
 abbrev pub VouchersAreRecords : Type 0
 VouchersAreRecords = (text : List ℕ) (rows : List VoucherAddition) →
     (vouchers_in text ≡ Ok rows) ↔ AreVouchers (records_in text) rows
 
 -- a fault is reported exactly where it is the first record's that has one
+-- rule: voucher-file.vouchers
 abbrev pub VoucherFaultIsTold : Type 0
 VoucherFaultIsTold = (text : List ℕ) (fault : VoucherFault) →
     (vouchers_in text ≡ Err fault) ↔ IsFirstFault (records_in text) fault

@@ -100,6 +100,7 @@ fn voucher_at(
 /// The first fault in the order of the records, and in a record in the order of `FaultKind`; or
 /// that the reader failed or memory ran out, where no record before has a fault. Nothing of the
 /// file is handed out then.
+// rule: voucher-file
 pub fn read_vouchers<R: Read + Drop>(
     alloc: Global,
     reader: R,

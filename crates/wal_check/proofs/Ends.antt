@@ -33,6 +33,7 @@ module _ (page_size : ℕ) (log : List ℕ) where
     hides hidden (m, e) = (end_at m e).bare hidden
 
     -- the frames end sound if nothing is hidden behind them
+    -- rule: stop-log
     pub ended : EndsInCommit page_size log n → IsShutAt page_size log n → (hidden : Bool) → (IsTrue hidden ↔ HidesCommit page_size log n)
         → (IsTrue (not hidden) ↔ ((m : ℕ) × EndsSound page_size log m))
     ended commits shut true says = (λ f. absurd (false≢true f), λ e. absurd (hides (says.0 refl) e))
@@ -47,6 +48,7 @@ module _ (page_size : ℕ) (log : List ℕ) where
     )
 
 -- a header that passes, and the frames that end so
+-- rule: stop-log
 pub written_ends : (log head : List ℕ) (size : ℕ) (b : Bool) → header log ≡ head → size ≡ be32 head 8 → IsPageSize size → IsHeader size head
     → (IsTrue b ↔ ((n : ℕ) × EndsSound size log n)) → (IsTrue b ↔ IsWritten log)
 written_ends log head size b is named sized heads says =
@@ -68,6 +70,7 @@ not_written log head is none w =
 pub opened_size : (head : List ℕ) (byte : ℕ) → be32 (slice_set head 0 byte) 8 ≡ be32 head 8
 opened_size head byte = same_be32 (slice_set head 0 byte) head 8 8 (λ i low. let ne : 8 + i ≢ 0 = omega arith in rw get_or-set_other refl)
 
+-- rule: stop-log
 pub back_ends : (log db head : List ℕ) (size : ℕ) (b : Bool) → header log ≡ head → size ≡ be32 (slice_set head 0 0x37) 8 → IsPageSize size
     → IsHeader size (slice_set head 0 0x37) → 32 ≤ length log
     → (IsTrue b ↔ ((n : ℕ) → AreAll size log n → AreInFile size log db n)) → (IsTrue b ↔ IsWrittenBack log db)

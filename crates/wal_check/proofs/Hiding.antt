@@ -19,6 +19,7 @@ pub record Searched (page_size : ℕ) (log : List ℕ) (n : ℕ) (next : Place) 
 
 module _ (page_size : ℕ) (log : List ℕ) (n last : ℕ) (on : GoOn page_size log n last) where
   -- nothing is hidden where the next frame doesn't pass
+  -- rule: stop-log
   pub not_hidden : ¬ Passes page_size log (last + 1) → ¬ HidesCommit page_size log n
   not_hidden ends (other, h) = elim (cases_lt other last) [
     | inl before ↦ h.commits (on.quiet other h.goes_on.order before)

@@ -47,6 +47,7 @@ pub record IsHidden (page_size : ℕ) (log : List ℕ) (n last : ℕ) : Type 0 w
   pub few : last + 1 < n + spill_pages
 
 -- a whole commit stands behind the gate of frame n, and another behind it
+-- rule: stop-log
 abbrev pub HidesCommit : (page_size : ℕ) (log : List ℕ) (n : ℕ) → Type 0
 HidesCommit page_size log n = (last : ℕ) × IsHidden page_size log n last
 
@@ -61,5 +62,6 @@ IsKept page_size log db n i =
     IsNewest page_size log n i → file_page page_size db (page_number (frame page_size log i)) ≡ content (frame page_size log i)
 
 -- the file has each page as the newest of the first n frames has it
+-- rule: stop-log
 abbrev pub AreInFile : (page_size : ℕ) (log db : List ℕ) (n : ℕ) → Type 0
 AreInFile page_size log db n = (i : ℕ) → i < n → IsKept page_size log db n i

@@ -13,6 +13,7 @@ abbrev pub size_named : List ℕ → ℕ
 size_named log = be32 (header log) 8
 
 -- the frames that pass end in one that commits, behind a shut gate that hides no commit
+-- rule: stop-log
 pub record EndsSound (page_size : ℕ) (log : List ℕ) (n : ℕ) : Type 0 where
   pub all : AreAll page_size log n
   pub commits : EndsInCommit page_size log n
@@ -32,6 +33,7 @@ opened log = slice_set (header log) 0 0x37
 
 -- A log is emptied once the file has its pages. So where its header passes but for its gate, the
 -- file has them.
+-- rule: stop-log
 abbrev pub IsWrittenBack : (log db : List ℕ) → Type 0
 IsWrittenBack log db =
     32 ≤ length log → IsPageSize (size_named log) → IsHeader (size_named log) (opened log)
@@ -44,5 +46,7 @@ pub record IsLeft (log db : List ℕ) : Type 0 where
 
 -- A stop may have left the two files so. The log of an empty file isn't read, and one byte is what a
 -- stop may leave of a log that is being made.
+-- rule: stop-log: whether a stop of the machine can have left a database's file and its log so is
+--   found, exactly, and looking writes nothing
 abbrev pub IsSound : Image → Type 0
 IsSound image = 0 < length image.db → 1 < length image.log → IsLeft image.log image.db

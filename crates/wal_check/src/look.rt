@@ -23,6 +23,7 @@ use std::alloc::Global;
 ///
 /// # Errors
 /// `Io`, a call of a file failed; `OutOfMemory`.
+// rule: stop-log
 pub fn is_sound<D: Disk>(alloc: Global, files: &mut Files<D>) -> Result<bool, Error>
     requires log_usable { IsTrue (D.Disk.is_usable files.old.log) }
     requires db_usable { IsTrue (D.Disk.is_usable files.old.db) }

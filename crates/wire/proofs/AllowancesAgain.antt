@@ -123,6 +123,7 @@ allowance_content_again a is =
       allowance_again a is,
     ) refl
 
+-- rule: kept-content.in-byte-order
 pub allowances_in_order : AllowancesAreInOrder allowance_data
 unfolding allowance_data
 allowances_in_order a is = in_order (object (members_of a)) (allowance_fit a is).tidy

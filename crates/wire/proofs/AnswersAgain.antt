@@ -636,6 +636,7 @@ refusal_again r = rw (
   are_tables.refusals.there r,
 ) refl
 
+-- rule: answers.answers-read-again, answers.reads-written, balance-text
 pub answers_again : AnswersReadAgain answer_text
 unfolding answer_of answer_text answer_data request_answer_data done_at balance_data
 answers_again (answer.Request a) is =
@@ -765,5 +766,6 @@ answer_fit (answer.Balance a) is = account_balance_fit a is
 answer_fit (answer.Refused r) is = flat _ (fit_member 0 _ (string (refusal_name r)) no_members refl
     (fit_text 0 (refusal_name r) (name (refusal_name r) (refusal_ascii r))) tt (fit_none 0))
 
+-- rule: answers.in-byte-order
 pub answers_in_order : AnswersAreInOrder answer_data
 answers_in_order a is = in_order (answer_data a) (answer_fit a is).tidy

@@ -149,6 +149,7 @@ credit_content_again c is =
       credit_again c is,
     ) refl
 
+-- rule: kept-content.in-byte-order
 pub credits_in_order : CreditsAreInOrder credit_data
 unfolding credit_data
 credits_in_order c is = in_order (object (members_of c)) (credit_fit c is).tidy
@@ -177,6 +178,7 @@ request_content_again bytes r h =
     let s = session_stands d.0 r d.2 in
     rw (d.1, s.1, d.2, (bytes_decides r.account r.account).1 refl) refl
 
+-- rule: kept-content, kept-content.reads-content
 pub contents_again : ContentsReadAgain content_text
 contents_again (content.Request r) is =
     request_content_again (request_text r) r (requests_again r is)

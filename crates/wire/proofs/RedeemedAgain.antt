@@ -75,6 +75,7 @@ redemption_content_again r is =
       (bytes_decides r.account r.account).1 refl,
     ) refl
 
+-- rule: kept-content.in-byte-order
 pub redemptions_in_order : RedemptionsAreInOrder redemption_data
 unfolding redemption_data
 redemptions_in_order r is = in_order (object (members_of r)) (redemption_fit r is).tidy

@@ -73,6 +73,7 @@ account_said d n h =
 
 -- ---- what is read is said
 
+-- rule: credit-body.says-credit
 pub credits_said : CreditsAreSaid
 unfolding credit_at
 credits_said account d c h =
@@ -89,6 +90,7 @@ credits_said account d c h =
       reference = reference_said d reference.0 reference.1;
     })
 
+-- rule: credit-body.says-credit
 pub allowances_said : AllowancesAreSaid
 unfolding allowance_at
 allowances_said account d a h =
@@ -105,6 +107,7 @@ allowances_said account d a h =
       reference = reference_said d reference.0 reference.1;
     })
 
+-- rule: credit-body.says-credit
 pub redemptions_said : RedemptionsAreSaid
 unfolding redemption_at
 redemptions_said code d r h =
@@ -117,6 +120,7 @@ redemptions_said code d r h =
 
 -- ---- what is said is read
 
+-- rule: credit-body.says-credit
 pub credits_read : CreditsAreRead
 unfolding credit_at reference_at
 credits_read c d is says = rw (
@@ -128,6 +132,7 @@ credits_read c d is says = rw (
   is.reference,
 ) refl
 
+-- rule: credit-body.says-credit
 pub allowances_read : AllowancesAreRead
 unfolding allowance_at reference_at
 allowances_read a d is says = rw (
@@ -139,6 +144,7 @@ allowances_read a d is says = rw (
   is.reference,
 ) refl
 
+-- rule: credit-body.says-credit, redemption-body
 pub redemptions_read : RedemptionsAreRead
 unfolding redemption_at account_at reference_at
 redemptions_read r d is says = rw (

@@ -34,6 +34,7 @@ allowance_at account d = do
   })
 
 -- the allowance that the body of an operator's request is, or the first fault
+-- rule: allowance-body: an allowance's body
 unfoldable pub allowance_of : AccountName → List ℕ → Result Allowance WireFault
 allowance_of account bytes = do
   d ← document_at bytes

@@ -87,10 +87,12 @@ IsContent (content.Allow a) = IsAllowance a
 IsContent (content.Redeem r) = IsRedemption r
 
 -- what was written is read again
+-- rule: kept-content: a written content is read again
 abbrev pub ContentsReadAgain : (Content → List ℕ) → Type 0
 ContentsReadAgain text = (c : Content) → IsContent c → content_of (account_of c) (text c) ≡ Ok c
 
 -- a text that was written for this account is read as its content, unless memory runs out
+-- rule: kept-content.reads-content
 abbrev pub ReadsWritten : AccountName → List ℕ → Result Content WireFault → Type 0
 ReadsWritten account bytes returned = (c : Content)
     → IsContent c → account_of c ≡ account → content_text c ≡ bytes → Gives (λ x. x) returned (Ok c)
@@ -111,6 +113,7 @@ fault_of_content (Ok c) = NotRequest
 fault_of_content (Err e) = e
 
 -- such a text is read, unless memory runs out, and no other is: its fault is reported
+-- rule: kept-content.reads-content
 abbrev pub ReadsTexts : AccountName → List ℕ → Result Content WireFault → Type 0
 ReadsTexts account bytes returned =
     MatchResult returned (λ c. is_content_text account bytes ≡ true)
@@ -118,6 +121,8 @@ ReadsTexts account bytes returned =
     × (e ≡ fault_of_content (content_of account bytes)))
 
 -- bytes are read as the content that they are the text of, of this account
+-- rule: kept-content.reads-content: a kept content that is read is the text that was written, and
+--   of another text its fault is reported
 pub record ReadsContent (name : AccountName) (bytes : List ℕ) (result : Result Content WireFault)
     : Type 0 where
   pub text : IfOk result (λ c. content_text c ≡ bytes)

@@ -38,6 +38,7 @@ credit_at account d = do
   })
 
 -- the credit that the body of an operator's request is, or the first fault
+-- rule: credit-body: a credit's body
 unfoldable pub credit_of : AccountName → List ℕ → Result Credit WireFault
 credit_of account bytes = do
   d ← document_at bytes

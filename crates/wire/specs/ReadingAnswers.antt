@@ -238,10 +238,13 @@ is_refusal (answer.Balance balance) = false
 is_refusal (answer.Refused r) = true
 
 -- what is written is read again
+-- rule: answers.answers-read-again: a written answer is read again
 abbrev pub AnswersReadAgain : (Answer → List ℕ) → Type 0
 AnswersReadAgain text = (a : Answer) → IsAnswer a → answer_of (text a) ≡ Ok a
 
 -- a text that was written is read as its answer, unless memory runs out
+-- rule: answers.reads-written: an answer that is read is the text that was written, and another
+--   text is reported as none
 abbrev pub ReadsWritten : List ℕ → Result Answer WireFault → Type 0
 ReadsWritten bytes returned =
     (a : Answer) → IsAnswer a → answer_text a ≡ bytes → Gives (λ x. x) returned (Ok a)
@@ -256,6 +259,7 @@ abbrev pub is_answer_text : List ℕ → Bool
 is_answer_text bytes = is_own_answer bytes (answer_of bytes)
 
 -- such a text is read, and of any other it is reported that it is none, unless memory runs out
+-- rule: answers.reads-written
 abbrev pub ReadsTexts : List ℕ → Result Answer WireFault → Type 0
 ReadsTexts bytes returned =
     MatchResult returned (λ a. is_answer_text bytes ≡ true)

@@ -23,6 +23,8 @@ IsNumber n value = option_and_then as_u64 (as_number value) ≡ Some n
 abbrev pub SaysOptional : Avp → Option ℕ → Data → Type 0
 SaysOptional a n d = SaysPerhaps IsNumber n (get (name_of a) d)
 
+-- rule: credit-body.says-credit: the bodies of operators are read as their members say, and no
+--   otherwise
 pub record SaysCredit (c : Credit) (d : Data) : Type 0 where
   pub amount : SaysNumber avp.Amount c.amount d
   pub from : SaysOptional avp.From c.from d
@@ -30,6 +32,7 @@ pub record SaysCredit (c : Credit) (d : Data) : Type 0 where
   pub scope : SaysOptional avp.Scope c.scope d
   pub reference : SaysText avp.Reference c.reference d
 
+-- rule: credit-body.says-credit
 pub record SaysAllowance (a : Allowance) (d : Data) : Type 0 where
   pub blocks : SaysNumber avp.Blocks a.blocks d
   pub from : SaysOptional avp.From a.from d
@@ -37,35 +40,43 @@ pub record SaysAllowance (a : Allowance) (d : Data) : Type 0 where
   pub scope : SaysNumber avp.Scope a.scope d
   pub reference : SaysText avp.Reference a.reference d
 
+-- rule: redemption-body: a redemption's body
+-- rule: credit-body.says-credit
 pub record SaysRedemption (r : VoucherRedemption) (d : Data) : Type 0 where
   pub account : SaysText avp.SubscriptionIdData r.account d
   pub reference : SaysText avp.Reference r.reference d
 
 -- ---- what is read is said
 
+-- rule: credit-body.says-credit
 abbrev pub CreditsAreSaid : Type 0
 CreditsAreSaid = (account : AccountName) (d : Data) (c : Credit) → credit_at account d ≡ Ok c →
     SaysCredit c d
 
+-- rule: credit-body.says-credit
 abbrev pub AllowancesAreSaid : Type 0
 AllowancesAreSaid = (account : AccountName) (d : Data) (a : Allowance) →
     allowance_at account d ≡ Ok a →
     SaysAllowance a d
 
+-- rule: credit-body.says-credit
 abbrev pub RedemptionsAreSaid : Type 0
 RedemptionsAreSaid = (code : VoucherCode) (d : Data) (r : VoucherRedemption) →
     redemption_at code d ≡ Ok r → SaysRedemption r d
 
 -- ---- what is said is read
 
+-- rule: credit-body.says-credit
 abbrev pub CreditsAreRead : Type 0
 CreditsAreRead = (c : Credit) (d : Data) → IsCredit c → SaysCredit c d →
     credit_at c.account d ≡ Ok c
 
+-- rule: credit-body.says-credit
 abbrev pub AllowancesAreRead : Type 0
 AllowancesAreRead = (a : Allowance) (d : Data) → IsAllowance a → SaysAllowance a d →
     allowance_at a.account d ≡ Ok a
 
+-- rule: credit-body.says-credit, redemption-body
 abbrev pub RedemptionsAreRead : Type 0
 RedemptionsAreRead = (r : VoucherRedemption) (d : Data) → IsRedemption r → SaysRedemption r d →
     redemption_at r.code d ≡ Ok r

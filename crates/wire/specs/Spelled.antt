@@ -141,6 +141,9 @@ answer_data (answer.Refused reason) =
     object (member refusal (string (refusal_name reason)) no_members)
 
 -- the text of an answer
+-- rule: answers: the text of an answer
+-- rule: balance-text: the text of a balance
+-- rule: http-unanswered
 unfoldable pub answer_text : Answer → List ℕ
 answer_text a = compact_text (answer_data a)
 
@@ -152,5 +155,7 @@ fault_data (Missing avp) = object (member failed_avp (string (name_of avp)) (cod
 fault_data (Invalid avp) = object (member failed_avp (string (name_of avp)) (code_member 5004))
 fault_data Memory = object (code_member 5012)
 
+-- rule: fault-answers: the answer to a body with a fault
+-- rule: answers
 unfoldable pub fault_text : WireFault → List ℕ
 fault_text e = compact_text (fault_data e)

@@ -56,6 +56,7 @@ pub(crate) fn allowance_in(
 ///
 /// # Errors
 /// `NotRequest`, `Missing` and `Invalid` as the members say; `Memory` where memory ran out.
+// rule: allowance-body
 #[tactic(auto, unfolding(crate::specs::Allowances::allowance_of))]
 pub fn read_allow(
     alloc: Global,

@@ -45,6 +45,7 @@ fn scope_of(bucket: &BucketBalance) -> Option<u64>
     }
 }
 
+// rule: balance-text
 fn put_unit(out: &mut Writer, counted: BucketUnit) -> Result<(), AllocError>
     ensures { Adds result out.old out.new (perhaps_tokens unit (unit_data counted)) }
 {
@@ -54,6 +55,7 @@ fn put_unit(out: &mut Writer, counted: BucketUnit) -> Result<(), AllocError>
     }
 }
 
+// rule: balance-text
 #[tactic(auto, using(json_fields::proofs::Tokens::perhaps_front), unfolding(crate::specs::SpelledBalances::bucket_data))]
 fn put_bucket(out: &mut Writer, bucket: &BucketBalance) -> Result<(), AllocError>
     ensures adds { Adds result out.old out.new (tokens_of (bucket_data bucket.now)) }

@@ -202,6 +202,7 @@ fn content(alloc: Global, account: AccountNumber, bytes: &[u8]) -> Result<Conten
 /// it has a Voucher-Code; else of the allowance, where it has Blocks; else of the credit.
 /// `NotRequest` also where the bytes say a content and aren't its text. `Memory` where memory ran
 /// out.
+// rule: kept-content.reads-content
 pub fn read_content(
     alloc: Global,
     account: AccountNumber,
@@ -219,24 +220,28 @@ pub fn read_content(
 }
 
 /// A content that is written is read again as the same content.
+// rule: kept-content
 #[tactic(auto, using(crate::proofs::ContentsAgain::contents_again))]
 pub fn content_again()
     ensures { ContentsReadAgain content_text }
 {}
 
 /// The members of a credit as it is kept are in the byte order of their names.
+// rule: kept-content.in-byte-order
 #[tactic(auto, using(crate::proofs::ContentsAgain::credits_in_order))]
 pub fn credit_in_order()
     ensures { CreditsAreInOrder credit_data }
 {}
 
 /// The members of an allowance as it is kept are in the byte order of their names.
+// rule: kept-content.in-byte-order
 #[tactic(auto, using(crate::proofs::AllowancesAgain::allowances_in_order))]
 pub fn allowance_in_order()
     ensures { AllowancesAreInOrder allowance_data }
 {}
 
 /// The members of a redemption as it is kept are in the byte order of their names.
+// rule: kept-content.in-byte-order
 #[tactic(auto, using(crate::proofs::RedeemedAgain::redemptions_in_order))]
 pub fn redemption_in_order()
     ensures { RedemptionsAreInOrder redemption_data }

@@ -119,6 +119,7 @@ pub(crate) fn credit_in(
 ///
 /// # Errors
 /// `NotRequest`, `Missing` and `Invalid` as the members say; `Memory` where memory ran out.
+// rule: credit-body
 #[tactic(auto, unfolding(crate::specs::Credits::credit_of))]
 pub fn read_credit(
     alloc: Global,

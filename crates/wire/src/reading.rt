@@ -208,9 +208,12 @@ fn told(fault: WireFault) -> WireFault
 ///
 /// # Errors
 /// `NotRequest` where the bytes are no answer's text, `Memory` where memory ran out.
+// rule: answers.reads-written
 pub fn read_answer(alloc: Global, bytes: &[u8]) -> Result<Answer, WireFault>
+    // rule: answers.reads-written
     ensures text { IfOk result (λ a. answer_text a ≡ bytes.now) }
     ensures said { IfOk result (λ a. answer_of bytes.now ≡ Ok a) }
+    // rule: answers.reads-written
     ensures written { ReadsWritten bytes.now result }
     ensures texts { ReadsTexts bytes.now result }
 {
@@ -227,12 +230,14 @@ pub fn read_answer(alloc: Global, bytes: &[u8]) -> Result<Answer, WireFault>
 }
 
 /// An answer that is written is read again as the same answer.
+// rule: answers.answers-read-again
 #[tactic(auto, using(crate::proofs::AnswersAgain::answers_again))]
 pub fn answer_again()
     ensures { AnswersReadAgain answer_text }
 {}
 
 /// The members of an answer, and of each object in it, are in the byte order of their names.
+// rule: answers.in-byte-order
 #[tactic(auto, using(crate::proofs::AnswersAgain::answers_in_order))]
 pub fn answer_in_order()
     ensures { AnswersAreInOrder answer_data }

@@ -78,6 +78,7 @@ fn scope(parent: &Tree<'_>) -> Result<Option<u32>, WireFault>
 }
 
 /// What the amounts count: which unit the member names is seen where its text is compared.
+// rule: balance-text
 fn unit(parent: &Tree<'_>) -> BucketUnit
     ensures { result ≡ unit_when (get unit (view parent.now)) }
 {

@@ -35,6 +35,7 @@ fn code(alloc: Global, parent: &Tree<'_>) -> Result<VoucherCode, WireFault>
 
 /// The redemption of this voucher that an object is, or the first fault in the order of its
 /// members.
+// rule: redemption-body
 #[tactic(auto, unfolding(crate::specs::Redeemed::redemption_at))]
 fn redemption_in(
     alloc: Global,

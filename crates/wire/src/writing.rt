@@ -155,6 +155,7 @@ fn compact(alloc: Global, answer: &Answer) -> Result<String, AllocError>
 ///
 /// # Errors
 /// Out of memory.
+// rule: answers
 pub fn write_answer(alloc: Global, answer: &Answer) -> Result<String, AllocError>
     ensures text { IfOk result (λ s. string_bytes s ≡ answer_text answer.now) }
     ensures read_again { IfOk result (λ s. answer_of (string_bytes s) ≡ Ok answer.now) }
@@ -190,6 +191,7 @@ fn put_fault(out: &mut Writer, fault: WireFault) -> Result<(), AllocError>
 ///
 /// # Errors
 /// Out of memory.
+// rule: answers, fault-answers
 #[tactic(auto, unfolding(crate::specs::Spelled::fault_text))]
 pub fn write_fault(alloc: Global, fault: WireFault) -> Result<String, AllocError>
     ensures { IfOk result (λ s. string_bytes s ≡ fault_text fault) }

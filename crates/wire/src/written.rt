@@ -18,6 +18,7 @@ use std::marker::Model;
 /// written to whoever asked it. Beside them it says whether it is a refusal.
 ///
 /// Contracts see the answer that the text says.
+// rule: http-unanswered
 #[derive(Debug, Drop)]
 pub struct WrittenAnswer {
     text: String,

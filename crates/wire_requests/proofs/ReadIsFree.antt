@@ -245,6 +245,7 @@ ask_free kind.Event d a h =
     let n = bind_ok (number_at avp.RequestedAction 0 3 d) _ a h in
     action_free n.0 d a n.2
 
+-- rule: request-fields.free
 pub request_free : (r : Request) (d : Data) → request_in d ≡ Ok r → IsFree r.ask d
 unfolding request_in
 request_free r d h =

@@ -710,6 +710,7 @@ whole_again r is =
       ask_again r.ask r.number r.session r.account is.ask,
     ) refl
 
+-- rule: request-written
 pub requests_again : RequestsReadAgain request_text
 unfolding request_of request_text request_data
 requests_again r is =
@@ -717,6 +718,7 @@ requests_again r is =
     fit_deeper 6 127 _ (lit≤ tt) (fit_object 5 (request_members r) (request_fit r is)) in
     rw (document_again (request_members r) fit) (whole_again r is)
 
+-- rule: request-written.in-byte-order
 pub requests_in_order : RequestsAreInOrder request_data
 unfolding request_data
 requests_in_order r is = members_in_order (request_members r) (request_fit r is).tidy

@@ -488,6 +488,7 @@ ask_read (ask.Refund r) d is says free = rw (
   refund_read r d is says free,
 ) refl
 
+-- rule: request-fields.free
 pub request_read : ReadsAllThatIsSaid
 unfolding request_in
 request_read r d is says free = rw (

@@ -462,6 +462,7 @@ ask_said kind.Event d a h =
     let n = bind_ok (number_at avp.RequestedAction 0 3 d) _ a h in
     action_said n.0 d a (number_said avp.RequestedAction 0 3 d n.0 n.1) n.2
 
+-- rule: request-fields.reads-what-is-said
 pub request_said : ReadsWhatIsSaid
 unfolding request_in
 request_said d r h =

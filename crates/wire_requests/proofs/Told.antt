@@ -475,6 +475,7 @@ account_told d =
     where_told d (is_account_number n) (Invalid avp.SubscriptionIdData) n
     (text_bad d avp.SubscriptionIdData s hold n e3))))
 
+-- rule: request-faults
 pub faults_are_told : FaultsAreTold
 unfolding request_in
 faults_are_told d =

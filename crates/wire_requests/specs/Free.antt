@@ -30,16 +30,19 @@ IsScale value = IfSome (option_and_then as_i64 (as_number value))
 
 -- nothing is in the way of what is asked: the services ask for units, and the money of a refund
 -- is said in steps from a millionth to 1
+-- rule: request-fields.free: what a text says is read, if nothing forbids it, and only then
 abbrev pub IsFree : Ask → Data → Type 0
 IsFree (ask.Refund refund) d =
     IfSome (option_and_then (get (name_of avp.Exponent)) (amount_told d)) IsScale
 IsFree a d = AllByRecursion AsksForUnits (services_told d)
 
 -- what is said is read, where nothing is in its way
+-- rule: request-fields.free
 abbrev pub ReadsAllThatIsSaid : Type 0
 ReadsAllThatIsSaid = (r : Request) (d : Data) → IsRequest r → SaysRequest r d → IsFree r.ask d →
     request_in d ≡ Ok r
 
 -- and what is read has nothing in its way
+-- rule: request-fields.free
 abbrev pub ReadsOnlyWhatIsFree : Type 0
 ReadsOnlyWhatIsFree = (r : Request) (d : Data) → request_in d ≡ Ok r → IsFree r.ask d

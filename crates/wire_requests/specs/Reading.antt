@@ -87,6 +87,8 @@ ask_at kind.Event d = do
 -- ---- the request
 
 -- the request that an object is, or the first fault
+-- rule: used-parts: the parts of a report
+-- rule: request-fields
 unfoldable pub request_in : Data → Result Request WireFault
 request_in d = do
   session ← session_at d
@@ -97,6 +99,7 @@ request_in d = do
   Ok (record { session = session; number = number; account = account; ask = ask })
 
 -- the request that the bytes are, or the first fault
+-- rule: request-fields: a request by the table of fields, or its first fault
 unfoldable pub request_of : List ℕ → Result Request WireFault
 request_of bytes = do
   d ← document_at bytes

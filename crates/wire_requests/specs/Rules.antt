@@ -49,9 +49,11 @@ pub record IsRequest (r : Request) : Type 0 where
   pub ask : IsAsk r.ask
 
 -- what is written is read again
+-- rule: request-written: a written request is read again
 abbrev pub RequestsReadAgain : (Request → List ℕ) → Type 0
 RequestsReadAgain text = (r : Request) → IsRequest r → request_of (text r) ≡ Ok r
 
 -- what is written has its members in byte order
+-- rule: request-written.in-byte-order
 abbrev pub RequestsAreInOrder : (Request → Data) → Type 0
 RequestsAreInOrder spelled = (r : Request) → IsRequest r → AreInByteOrder (spelled r)

@@ -154,10 +154,12 @@ SaysAsk (ask.Refund refund) d = SaysRefund refund d
 
 -- ---- the request
 
+-- rule: request-fields.free
 pub record SaysRequest (r : Request) (d : Data) : Type 0 where
   pub head : SaysHead r d
   pub asked : SaysAsk r.ask d
 
 -- what is read is said
+-- rule: request-fields.reads-what-is-said: what a request says is in its text
 abbrev pub ReadsWhatIsSaid : Type 0
 ReadsWhatIsSaid = (d : Data) (r : Request) → request_in d ≡ Ok r → SaysRequest r d

@@ -50,6 +50,8 @@ abbrev pub asks_refund : Data → Bool
 asks_refund d = is_number avp.RequestType 4 d && is_number avp.RequestedAction 1 d
 
 -- the objects that can hold a member: the request itself, or the values in it
+-- rule: request-faults: missing is reported only if an object that can hold the member has none,
+--   invalid only if one has it
 abbrev pub holders : Avp → Data → List Data
 holders avp.SubscriptionIdType d = values (get (name_of avp.SubscriptionId) d)
 holders avp.SubscriptionIdData d = values (get (name_of avp.SubscriptionId) d)
@@ -66,6 +68,7 @@ holders a d = d ∷ []
 -- ---- what is reported of them
 
 -- of an object neither lack of memory nor another document is reported
+-- rule: request-faults
 abbrev pub IsRequestFaultTold : Data → WireFault → Type 0
 IsRequestFaultTold d (Missing a) = list_any (λ h. is_none (get (name_of a) h)) (holders a d) ≡ true
 IsRequestFaultTold d (Invalid a) = list_any (λ h. is_some (get (name_of a) h)) (holders a d) ≡ true
@@ -77,5 +80,6 @@ TellsOf d (Ok x) = ⊤
 TellsOf d (Err fault) = IsRequestFaultTold d fault
 
 -- the fault of a request is reported of a member that is missing or there
+-- rule: request-faults
 abbrev pub FaultsAreTold : Type 0
 FaultsAreTold = (d : Data) → TellsOf d (request_in d)

@@ -170,6 +170,7 @@ pub fn request(alloc: Global, parent: &Tree<'_>) -> Result<Request, WireFault>
 /// # Errors
 /// `NotRequest` where the bytes are no JSON object, `Missing` and `Invalid` as `request` says;
 /// `Memory` where memory ran out.
+// rule: request-fields
 #[tactic(auto, unfolding(crate::specs::Reading::request_of))]
 pub fn read_request(
     alloc: Global,
@@ -184,6 +185,7 @@ pub fn read_request(
 
 /// What is read of a request is said by its members, whatever their order: its session, its type,
 /// its number and its account, and each service, the event or the refund that it asks.
+// rule: request-fields.reads-what-is-said
 pub fn request_is_said()
     ensures { ReadsWhatIsSaid }
 {}
@@ -192,6 +194,7 @@ pub fn request_is_said()
 /// where nothing is in its way: a Requested-Service-Unit of a service is an object without
 /// CC-Money, and the Exponent of a refund is from -6 to 0 (RFC 8506 sections 8.9 and 8.18). So it
 /// is of each that is read.
+// rule: request-fields.free
 pub fn request_is_read()
     ensures read { ReadsAllThatIsSaid }
     ensures free { ReadsOnlyWhatIsFree }
@@ -199,6 +202,7 @@ pub fn request_is_read()
 
 /// A fault of a request is reported of a member: missing only where the object that has to hold it
 /// has none of that name, invalid only where it has one.
+// rule: request-faults
 pub fn request_fault_is_told()
     ensures { FaultsAreTold }
 {}

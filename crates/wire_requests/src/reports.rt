@@ -100,6 +100,7 @@ fn parts_in(alloc: Global, kind: UnitKind, list: &Items<'_>) -> Result<Vec<UsedP
     read_each(alloc, list, |done, value| part(kind, done, value))
 }
 
+// rule: used-parts
 #[tactic(auto, using(json_fields::proofs::Counts::counts, crate::proofs::Kept::report), unfolding(crate::specs::Reports::used_of))]
 pub(crate) fn used_in(alloc: Global, value: &Tree<'_>) -> Result<UsedParts, WireFault>
     ensures { Gives (λ u. u) result (used_of (view value.now)) }

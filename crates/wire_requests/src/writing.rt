@@ -131,6 +131,7 @@ pub fn write_request(alloc: Global, request: &Request) -> Result<String, AllocEr
 }
 
 /// A request that is written is read again as the same request.
+// rule: request-written
 #[tactic(auto, using(crate::proofs::RequestsAgain::requests_again))]
 pub fn request_again()
     ensures { RequestsReadAgain request_text }
@@ -138,6 +139,7 @@ pub fn request_again()
 
 /// The members of a request as it is kept, and of each object in it, are in the byte order of
 /// their names.
+// rule: request-written.in-byte-order
 #[tactic(auto, using(crate::proofs::RequestsAgain::requests_in_order))]
 pub fn request_in_order()
     ensures { RequestsAreInOrder request_data }

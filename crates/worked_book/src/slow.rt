@@ -9,13 +9,17 @@ use std::io::{self, ErrorKind, Write};
 #[derive(Drop)]
 pub struct Slow {
     /// The bytes that it has taken.
+    // rule: http-answer.taken: the writer of the tests, which takes single bytes and fails after
+    //   so many
     pub taken: Vec<u8>,
     /// How many calls are left before it fails.
+    // rule: http-answer.taken
     pub calls: usize,
 }
 
 impl Slow {
     /// A writer that has taken nothing, and fails after so many calls.
+    // rule: http-answer.taken
     pub fn new(alloc: Global, calls: usize) -> Slow
         ensures taken { result.taken.items ≡ [] }
         ensures calls { result.calls ≡ calls }

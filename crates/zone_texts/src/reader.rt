@@ -326,6 +326,7 @@ fn is_posix(zone: &str) -> bool
 /// time is `/hh` or `/hh:mm`, 00:00 to 23:59, and 02:00 where it is left out. Both clocks are
 /// within 14:00 of UTC, summer time is 1 to 120 minutes ahead of standard time, and the months of
 /// the changes are at least two apart, round the year too.
+// rule: zone-text.summer-time-of
 #[tactic(auto, unfolding(crate::specs::ZoneText::summer_time_of))]
 pub fn summer_time(zone: &str) -> Option<SummerTime>
     ensures value { result ≡ text.summer_time_of zone.now }

@@ -59,6 +59,7 @@ last: 1767608160
   "From":1767608160,"Number":3,"Reserved":0,"Scope":30,"Until":1767609000}],"Moment":1767608160}
 unchanged"##;
 
+// rule: eligible.used-in-its-time, balance, balance.told-by-number
 #[test]
 fn balances_at_moments(rt: HostRuntime) {
     let alloc = rt.alloc();

@@ -182,6 +182,7 @@ const SLICES: &str = r##"new 1767607200 {"Session-Id":"s19","CC-Request-Type":1,
   "Validity-Time":3600}],"Result-Code":2001,"Session-Id":"s19"}
 accepted charges: buckets: (1000000; 0, 1000000, 0, 0)"##;
 
+// rule: decision-order, session-names, session-refused, database-writes.quiet-at
 #[test]
 fn decisions_on_an_account(rt: HostRuntime) {
     try_all(&rt, rt.alloc(), LEFT);

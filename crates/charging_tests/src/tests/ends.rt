@@ -121,6 +121,7 @@ unchanged
 last: 1767607800
 buckets: (90000; 0, 0, 0, 90000)"##;
 
+// rule: bucket-end.rows-of
 #[test]
 fn ends_of_buckets_and_sessions(rt: HostRuntime) {
     let alloc = rt.alloc();

@@ -179,6 +179,7 @@ const ENOUGH: &str = r##"1767571200 open 49151
 = {"Bucket":1,"Result-Code":2001}
 buckets: (90000; 90000, 0, 0, 0)"##;
 
+// rule: refund-currency, session-names.known, database-writes.past
 #[test]
 fn debits_refunds_and_reads(rt: HostRuntime) {
     let alloc = rt.alloc();

@@ -170,6 +170,7 @@ fn try_failing_after(
 }
 
 /// The store fails at its first call, then at its second, and so on until a run meets no failure.
+// rule: refused, store-faults, stop-run.writes
 #[test]
 fn a_store_that_fails_at_each_call(rt: HostRuntime) {
     let alloc = rt.alloc();

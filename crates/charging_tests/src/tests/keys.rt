@@ -31,6 +31,7 @@ fn assert_one(rt: &impl Abort, key: &Key, other: &Key, one: bool) {
     assert_eq!(rt; key == other, one);
 }
 
+// rule: database-writes.rows-written, database-reads
 #[test]
 fn keys(rt: HostRuntime) {
     let first = request_key(&rt, rt.alloc(), 0);
@@ -44,6 +45,7 @@ fn keys(rt: HostRuntime) {
     assert_one(&rt, &credit, &first, false);
 }
 
+// rule: store-faults.cause
 #[test]
 fn numbers_of_store_faults(rt: HostRuntime) {
     assert_eq!(rt; StoreFault::Memory.number(), 1);

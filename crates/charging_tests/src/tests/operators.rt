@@ -199,6 +199,7 @@ last: 1767607800
 account: 1767607800 true 1
 buckets: (150000; 0, 0, 0, 150000)"##;
 
+// rule: open, bar, credit, runs.serves
 #[test]
 fn accounts_of_operators(rt: HostRuntime) {
     let alloc = rt.alloc();

@@ -139,6 +139,8 @@ voucher 000000000003: unspent
   "Until":4102444800}],"Moment":4102444799}
 unchanged"##;
 
+// rule: voucher-add.addition-outcome, redeemed-once, redeemed-once.redemption-count,
+//   redeemed-once.voucher-commands
 #[test]
 fn vouchers_are_added_and_redeemed(rt: HostRuntime) {
     let alloc = rt.alloc();

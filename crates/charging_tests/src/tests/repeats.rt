@@ -76,6 +76,7 @@ last: 1767607260
   "Result-Code":2001,"Validity-Time":3600}],"Result-Code":2001,"Session-Id":"s12b"}
 buckets: (40000; 0, 40000, 0, 0) (1000000; 40000, 960000, 0, 0)"##;
 
+// rule: changed-repeat
 #[test]
 fn requests_that_come_again(rt: HostRuntime) {
     let alloc = rt.alloc();

@@ -333,6 +333,7 @@ buckets: (100; 85, 0, 15, 0)
 counters: 40 0 3;
 charges: 1 at 1767657660 of s41 40 3 15 15 0;"##;
 
+// rule: holds.held, block-limit, initial.opened-by-grants
 #[test]
 fn grants_and_settlements(rt: HostRuntime) {
     let alloc = rt.alloc();

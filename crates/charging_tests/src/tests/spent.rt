@@ -85,6 +85,7 @@ fn after_turns(rt: &impl Abort, alloc: Global, count: u64) -> String {
 
 /// Eight rows are written: the moment, the account, its bucket, counter, session and group, the
 /// answer and the charge.
+// rule: dead-rows, dead-rows.dead-for-good, database-loads.with
 #[test]
 fn a_debit_after_a_hundred_that_are_used_up(rt: HostRuntime) {
     let told = after_turns(&rt, rt.alloc(), 100);

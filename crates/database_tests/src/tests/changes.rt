@@ -146,6 +146,7 @@ fn worked(rt: &impl Abort, alloc: Global) -> TariffBook {
     TariffBook::read(alloc, worked_book::BOOK.as_bytes()).expect(rt, "a book")
 }
 
+// rule: database-writes, tidy-rows, database-writes.writable, database-writes.seen
 #[test]
 fn texts_and_rows_of_a_change(rt: HostRuntime) {
     let alloc = rt.alloc();
@@ -153,6 +154,7 @@ fn texts_and_rows_of_a_change(rt: HostRuntime) {
     try_all(&rt, alloc, &shelf, CASES);
 }
 
+// rule: database-writes.tables-of
 #[test]
 fn rows_of_a_change_over_two_books(rt: HostRuntime) {
     let alloc = rt.alloc();

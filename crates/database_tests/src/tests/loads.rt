@@ -154,6 +154,10 @@ session open 1 1767607200 open
 group open 10 60 1 0 2 3
 ";
 
+// rule: grant-units.passes-in, database-loads, database-loads.joined, database-loads.loaded-from,
+//   database-loads.live-groups, database-loads.told-groups, database-loads.live-account,
+//   database-loads.load, database-loads.keeps, database-loads.load-step, database-writes.changed,
+//   database-reads.tables-of
 #[test]
 fn what_may_still_change_is_loaded_and_what_differs_written(rt: HostRuntime) {
     let alloc = rt.alloc();

@@ -130,6 +130,7 @@ fn each_version_is_brought_to_the_latest(rt: HostRuntime) {
     is_told(&rt, alloc, 3, 3, OF_THE_LATEST);
 }
 
+// rule: database-migrated.ruled-version
 #[test]
 fn tables_that_tell_another_version_stay_as_they_are(rt: HostRuntime) {
     let alloc = rt.alloc();

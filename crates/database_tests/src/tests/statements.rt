@@ -333,6 +333,8 @@ fn try_all<S: Alter>(
     try_answers(rt, alloc, conn, names, text);
 }
 
+// rule: statements-of-tables, statements-of-tables.tables-content,
+//   statements-of-tables.with-session-row, book-rows
 #[test]
 fn rows_are_put_and_read(rt: HostRuntime) {
     let alloc = rt.alloc();

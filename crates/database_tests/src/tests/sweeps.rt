@@ -132,6 +132,7 @@ fn opened_keeper(
     SqlKeeper::open(alloc, conn).ok().expect(rt, "a keeper")
 }
 
+// rule: sweep.brought-to, database-sweep, database-opened.left
 #[test]
 fn a_sweep_is_found_by_a_keeper_that_is_opened(rt: HostRuntime) {
     let alloc = rt.alloc();

@@ -34,6 +34,7 @@ fn tell_later(rt: &impl Abort, alloc: Global, text: &mut String) -> Result<(), E
     Ok(())
 }
 
+// rule: database-migrated.older, tables
 #[test]
 fn each_version_is_found_and_becomes_the_latest(rt: HostRuntime) {
     let alloc = rt.alloc();

@@ -123,6 +123,7 @@ fn try_vouchers(
     tell_vouchers(rt, alloc, keeper, text);
 }
 
+// rule: voucher-add.with-voucher, database-reads.find-answer, answer-rows
 #[test]
 fn a_voucher_is_added_and_redeemed(rt: HostRuntime) {
     let alloc = rt.alloc();

@@ -203,6 +203,7 @@ pub record IsDebitMade (a middle after : AccountRows) (s : List ℕ) (g c t unit
   pub whole : x.collected.0 + x.uncollected.0 ≡ x.rated.0
 
 -- what the call answers
+-- rule: debit, event-price
 pub debit_is : (ledger : Ledger) (a middle after : AccountRows) (s : List ℕ) (g c t units paid : ℕ)
     (x : Settled) →
     IsAccount a → IsRowsOf ledger a → paid ≡ funds g t (buckets_at (validity_of a.shelf) t ledger) →

@@ -17,6 +17,7 @@ use Rattle.reserving.specs.Results.{IsGrantIn}
 use Rattle.reserving.proofs.ReservedCall.{QuotaOf, reserved_later}
 use Rattle.reserving.proofs.calls.Debited.{at_least}
 
+-- rule: grant-units.passes-in
 pub passes_in_some : (s : List ℕ) (g t : ℕ) (used_parts : List UsedPart) (a : AccountRows) →
     (used_parts ≡ [] → ⊥) →
     passes_in s g t used_parts a
@@ -31,6 +32,7 @@ pub passes_in_none : (s : List ℕ) (g t : ℕ) (used_parts : List UsedPart) (a 
 passes_in_none s g t used_parts a none = ap (λ ps. passes_in s g t ps a) none
 
 -- the price is covered where the funds aren't less
+-- rule: grant-units.passes-in
 pub covered_in_is : (b : Bool) (a : AccountRows) (g units t paid price : ℕ) →
     paid ≡ funds g t (advanced t a).buckets → price ≡ (rest_price_in g units t a).amount.0 →
     is_lt (nat_cmp paid price) ≡ b → is_covered_in g units t a ≡ not b
@@ -38,6 +40,7 @@ covered_in_is b a g units t paid price p q h =
     (λ i. nat_le (sym q i) (sym p i)) ∙ at_least paid price ∙ ap not h
 
 -- what a reservation answers
+-- rule: grant-units.passes-in
 pub grant_in_is : (a middle after : AccountRows) (s : List ℕ) (g t : ℕ) (requested : Option ℕ)
     (wanted : ℕ) (grant : Grant) (at : Option ℕ) (validity : ℕ) (fewer : Bool) →
     QuotaOf a s g t requested wanted grant →

@@ -191,6 +191,7 @@ price_later a s g t used_parts live_in =
     (coverable_later a s g t live_in i) used_parts
 
 -- it is the price by the ledger
+-- rule: report-book, report-period, covered
 pub price_is : (ledger : Ledger) (a : AccountRows) (s : List ℕ) (g t : ℕ)
     (used_parts : List UsedPart) → IsAccount a → IsRowsOf ledger a → a.as_of ≤ t →
     is_live_in (validity_of a.shelf) t a.sessions s ≡ true →
@@ -216,6 +217,7 @@ passes_after_is charges ledger a s g t (p ∷ ps) account rows le live some =
     (sym (price_is ledger a s g t (p ∷ ps) account rows le live) i).blocks
     (sym rows.next_charge i + charges)
 
+-- rule: stored-limits
 pub passes_is : (ledger : Ledger) (a : AccountRows) (s : List ℕ) (g t : ℕ)
     (used_parts : List UsedPart) → IsAccount a → IsRowsOf ledger a → a.as_of ≤ t →
     is_live_in (validity_of a.shelf) t a.sessions s ≡ true → (used_parts ≡ [] → ⊥) →

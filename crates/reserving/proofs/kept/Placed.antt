@@ -154,6 +154,7 @@ placed_or_new b s g (y ∷ ys) h = by_test (is_of s g y) (placed_or_new b s g ys
     by_test false rest = rest
 
 -- a reservation's terms are the shelf's
+-- rule: grant-terms
 pub terms_of_shelf : (b : Shelf) (s : List ℕ) (g : ℕ) (rows : List SessionGroup) (p : Terms) →
     ArePlaced b rows → terms_in s g rows ≡ Some p → AreOfShelf b p
 terms_of_shelf b s g rows p h e =
@@ -308,6 +309,7 @@ IsPriced-credited a kind from until scope amount le most scoped is = record {
   order = is.order;
 }
 
+-- rule: grant-terms
 pub IsPriced-reserved : (a : AccountRows) (session : List ℕ) (group : ℕ) (due : Due) →
     reservation_in session group a.groups ≡ None →
     AreOfBook (book_at a.shelf a.as_of) (periods_at a.shelf a.as_of) →

@@ -185,6 +185,7 @@ AreApart-put_counter g c r rows key h =
 
 -- ---- a settlement
 
+-- rule: holds.held
 pub IsAccount-settled : (a : AccountRows) (session : List ℕ) (group units blocks : ℕ) (due : Due) →
     used_in session group a.groups + units ≤ 1000000000000000000 →
     count_in group (cycle_at a.shelf group a.as_of) a.counters + blocks ≤ 4000000000000000000 →

@@ -25,6 +25,7 @@ bare left = record left { counters = [] }
 abbrev counted : LeftRows → AccountRows → AccountRows
 counted left a = record a { counters = left.counters ++ a.counters }
 
+-- rule: database-loads.joined
 with_of : (ledger : Ledger) (left : LeftRows) (t : ℕ) (a : AccountRows) → IsJoined ledger left a →
     IsWith ledger (bare left) t (counted left a)
 with_of ledger left t a h = record {
@@ -40,6 +41,7 @@ with_of ledger left t a h = record {
   rows = h.rows;
 }
 
+-- rule: database-loads.joined
 joined_of : (ledger : Ledger) (left : LeftRows) (t : ℕ) (a : AccountRows) →
     IsWith ledger (bare left) t (counted left a) → IsJoined ledger left a
 joined_of ledger left t a h = record {

@@ -74,6 +74,7 @@ held_merged group at due left rows dead =
 
 -- ---- the grant
 
+-- rule: database-loads.with
 pub reserved_joined : (left : LeftRows) (a : AccountRows) (s : List ℕ) (g : ℕ) (due : Due) →
     IsLeft left a → is_live_in (validity_of a.shelf) a.as_of a.sessions s ≡ true →
     IsReordered (reserved_account s g due (joined left a))

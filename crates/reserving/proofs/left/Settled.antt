@@ -31,6 +31,7 @@ pub record Fits (a : AccountRows) (s : List ℕ) (g t units blocks : ℕ) : Type
   pub counted : count_in g (cycle_at a.shelf g t) a.counters + blocks ≤ 4000000000000000000
   pub charges : a.next_charge < 4294967296
 
+-- rule: database-loads
 pub with_settled : (ledger : Ledger) (left : LeftRows) (a : AccountRows) (s : List ℕ) (g : ℕ)
     (used_parts : List UsedPart) → IsWith ledger left a.as_of a →
     is_live_in (validity_of a.shelf) a.as_of a.sessions s ≡ true →

@@ -338,6 +338,7 @@ IsSoundLedger-debited v t session group units blocks due ledger below sound =
           ∙ sound.free n counts (subst (λ (m : ℕ). m ≤ n) next le);
     }
 
+-- rule: debit
 pub IsRowsOf-debited : (ledger : Ledger) (a : AccountRows) (session : List ℕ)
     (group units blocks : ℕ) (due : Due) →
     IsAccount a → IsRowsOf ledger a →

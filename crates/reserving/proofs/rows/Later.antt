@@ -51,6 +51,7 @@ live_row v t1 t2 s (Some x) closed (Some r) le h =
     rw same (row_live true (nat_lt t2 (x + 2 * v x)) (nat_lt t1 (x + 2 * v x)) closed
     (within_later v t1 t2 x le))
 
+-- rule: session-live
 pub is_live-later : (v : ℕ → ℕ) (t1 t2 : ℕ) (ledger : Ledger) (s : List ℕ) → t1 ≤ t2 →
     ((x : ℕ) → last_touch s ledger ≡ Some x →
     option_map (λ (y : Recording). y.at) (last_recording s ledger) ≡ Some x) →

@@ -177,6 +177,7 @@ kept_group keeps r h = at (keeps r.session) h
     at true k = refl
     at false k = λ i. record r { reservation = sym (k refl) i }
 
+-- rule: database-writes.quiet-at
 pub others_advanced : (s : List ℕ) (t : ℕ) (a : AccountRows) → AreStill t (other_rows s a) →
     other_rows s (advanced t a) ≡ other_rows s a
 others_advanced s t a h = λ i. record {
@@ -328,6 +329,7 @@ own_reserved s g due = λ a. λ i. record {
 
 -- ---- one call after another
 
+-- rule: database-writes.quiet-at
 pub stays_chain : (s : List ℕ) (t : ℕ) (x y z : AccountRows) → OthersStay s t x y →
     OthersStay s t y z → OthersStay s t x z
 stays_chain s t x y z first next =

@@ -471,6 +471,7 @@ IsSoundLedger-reserved shelf t session group units due ledger below has sound =
 
 -- ---- the rows of the ledger with the grant
 
+-- rule: grant-terms.terms-at, grant-held
 pub IsRowsOf-reserved : (ledger : Ledger) (a : AccountRows) (session : List ℕ)
     (group units : ℕ) (due : Due) →
     IsAccount a → IsRowsOf ledger a → is_live (validity_of a.shelf) a.as_of ledger session ≡ true →

@@ -159,6 +159,7 @@ fn switches_of_a_day(rt: HostRuntime) {
     try_table(&rt, rt.alloc(), &mut Switches { calendar }, SWITCHES);
 }
 
+// rule: week
 #[test]
 fn weeks_and_zones(rt: HostRuntime) {
     assert!(rt; zone(rt.alloc(), 841).is_none());

@@ -78,6 +78,7 @@ address a b => none
 address http://topup.example/ => http://topup.example/
 addresses http://topup.example/ http://topup.example => false";
 
+// rule: names
 #[test]
 fn texts_that_name_things(rt: HostRuntime) {
     try_table(&rt, rt.alloc(), &mut Names, NAMES);

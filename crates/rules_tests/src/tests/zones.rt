@@ -141,6 +141,7 @@ CET-1CEST,M4.1.0,M3.5.0 => none
 CET-1CEST,M12.1.0,M1.5.0 => none
 CET-1CEST,M1.5.0,M12.1.0 => none";
 
+// rule: zone-text.summer-time-of
 #[test]
 fn texts_of_zones(rt: HostRuntime) {
     try_table(&rt, rt.alloc(), &mut Texts, TEXTS);
@@ -205,6 +206,7 @@ fn try_clocks(rt: &impl Abort, alloc: Global, cases: &str) {
     try_table(rt, alloc, &mut Clocks { calendar }, cases);
 }
 
+// rule: zone-changes.lead
 #[test]
 fn clocks_of_offices(rt: HostRuntime) {
     let alloc = rt.alloc();
@@ -213,6 +215,7 @@ fn clocks_of_offices(rt: HostRuntime) {
 }
 
 /// Each zone has a change that is in another year on UTC's clock.
+// rule: zone-changes.zone-of-rule
 #[test]
 fn clocks_at_new_year(rt: HostRuntime) {
     let alloc = rt.alloc();
@@ -235,6 +238,7 @@ fn clocks_of_northern_zones(rt: HostRuntime) {
     try_clocks(&rt, alloc, northern::table_7::ROWS);
 }
 
+// rule: zone-changes
 #[test]
 fn clocks_of_southern_zones(rt: HostRuntime) {
     let alloc = rt.alloc();

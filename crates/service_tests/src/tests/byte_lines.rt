@@ -13,6 +13,7 @@ fn copy_line(rt: &impl Abort, alloc: Global, reader: &mut &[u8], written: &mut V
     write_whole(written, b"|").expect(rt, "memory");
 }
 
+// rule: lines
 #[test]
 fn lines_and_texts(rt: HostRuntime) {
     let alloc = rt.alloc();

@@ -50,6 +50,7 @@ fn told_by_counting(rt: &impl Abort, alloc: Global, stream: &str, silent: u32) -
 }
 
 /// A request that names no path and one whose body has a fault don't ask it, two commands do.
+// rule: http-read
 #[test]
 fn is_asked_for_commands_alone(rt: HostRuntime) {
     let alloc = rt.alloc();
@@ -63,6 +64,7 @@ fn is_asked_for_commands_alone(rt: HostRuntime) {
 
 /// A command that the clock has no moment for isn't served, nor accepted: the next one opens the
 /// account.
+// rule: http-503, clock
 #[test]
 fn without_a_moment(rt: HostRuntime) {
     let alloc = rt.alloc();

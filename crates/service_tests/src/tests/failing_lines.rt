@@ -96,6 +96,7 @@ fn debit_to_a_fault<W: Write>(
 }
 
 /// At a store fault after the first debit, the answers before it are written.
+// rule: dated-lines.line-request, request-lines
 #[test]
 fn a_store_fault(rt: HostRuntime) {
     let alloc = rt.alloc();

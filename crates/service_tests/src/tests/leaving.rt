@@ -64,6 +64,7 @@ impl<'a> Trial for Cut<'a> {
 
 /// The answer to the first of two requests leaves alone where no byte of the second has come with
 /// it, and else with the second answer.
+// rule: http-leave
 #[test]
 fn an_answer_leaves_where_no_more_has_come(rt: HostRuntime) {
     let alloc = rt.alloc();

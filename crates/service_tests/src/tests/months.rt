@@ -170,6 +170,7 @@ fn allowed_month<'a>(rt: &impl Abort, alloc: Global, shelf: &'a TariffShelf) -> 
 }
 
 /// It has taken exactly these bytes; where it takes all, the whole text.
+// rule: http-answer.taken, statement
 #[test]
 fn a_writer_that_fails_at_each_byte(rt: HostRuntime) {
     let alloc = rt.alloc();
@@ -232,6 +233,7 @@ fn keeper_of_events<R: Abort>(rt: &R, alloc: Global, shelf: &TariffShelf) -> Mem
 }
 
 /// The header and the records of these rows are written.
+// rule: charge-source, charge-source.visits
 #[test]
 fn a_source_that_fails_at_each_row(rt: HostRuntime) {
     let alloc = rt.alloc();

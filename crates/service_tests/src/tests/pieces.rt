@@ -98,6 +98,7 @@ fn two_pieces_cut_at_each_byte(rt: HostRuntime) {
 }
 
 /// Two openings, in pieces of each length, from single bytes on.
+// rule: http-head.next-is-one
 #[test]
 fn pieces_of_each_length(rt: HostRuntime) {
     let alloc = rt.alloc();

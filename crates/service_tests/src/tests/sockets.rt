@@ -21,6 +21,7 @@ fn ending(rt: &impl Abort, host: &HostRuntime, stream: &TcpStream) -> String {
 
 /// The client's side connects, writes and ends its writing; the engine serves; the client's side
 /// reads.
+// rule: port
 #[test]
 fn over_loopback(rt: HostRuntime) {
     let alloc = rt.alloc();

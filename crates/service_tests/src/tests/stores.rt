@@ -103,6 +103,7 @@ fn try_each_call(rt: &impl Abort, alloc: Global, twice: Twice<'_>) {
     assert!(rt; is_served_in_turn(text.as_str()), "{text}");
 }
 
+// rule: http-503
 #[test]
 fn an_opening_over_a_store_that_fails(rt: HostRuntime) {
     let opening = Twice {

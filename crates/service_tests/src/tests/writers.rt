@@ -48,6 +48,7 @@ impl<'a> Trial for Unwritten<'a> {
 }
 
 /// A beginning of the answers, of 91 and 87 bytes, is written, and what was accepted stays so.
+// rule: http-answer, http-answer.taken
 #[test]
 fn fails_at_each_write(rt: HostRuntime) {
     let alloc = rt.alloc();

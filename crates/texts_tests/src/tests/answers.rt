@@ -242,6 +242,8 @@ const FAULTS: &str = r##"x -> no JSON object
 {"CC-Request-Number":0,"CC-Request-Type":4,"Check-Balance-Result":2,"Result-Code":2001,
   "Session-Id":"c10"} -> no JSON object"##;
 
+// rule: answers, answers.answers-read-again, answers.in-byte-order, answers.reads-written,
+//   balance-text
 #[test]
 fn answers(rt: HostRuntime) {
     try_told(&rt, rt.alloc(), Told::Answer, SHOWN);

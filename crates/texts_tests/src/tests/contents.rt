@@ -156,6 +156,7 @@ const REDEMPTIONS: &str =
 { "Reference" : "a\"b" , "More" : [ ] , "Subscription-Id-Data" : "0" } -> {"Reference":"a\"b",
   "Subscription-Id-Data":"0","Voucher-Code":"000000000001"}"##;
 
+// rule: kept-content, kept-content.in-byte-order
 #[test]
 fn texts(rt: HostRuntime) {
     try_told(&rt, rt.alloc(), Told::KeptCredit, CREDITS);
@@ -274,6 +275,7 @@ const KINDS: &str = r##"{"Reference":"v1","Subscription-Id-Data":"49151",
 {"Blocks":1,"Reference":"v1","Subscription-Id-Data":"49151",
   "Voucher-Code":"000000000001"} -> no JSON object"##;
 
+// rule: kept-content.reads-content
 #[test]
 fn values(rt: HostRuntime) {
     try_told(&rt, rt.alloc(), Told::ContentShown, SHOWN);
@@ -329,6 +331,7 @@ const PAIRS: &str =
 {"Blocks":1,"From":5,"Scope":5,"Reference":"r"} = {"Blocks":1,"Until":5,"Scope":5,
   "Reference":"r"} -> other"##;
 
+// rule: equal-content
 #[test]
 fn contents_of_two(rt: HostRuntime) {
     try_told(&rt, rt.alloc(), Told::Given, PAIRS);

@@ -120,6 +120,7 @@ const FAULTS: &str = r##"{} -> Session-Id is missing {"Failed-AVP":"Session-Id",
   "Currency-Code":1000}}} -> Currency-Code is invalid {"Failed-AVP":"Currency-Code",
   "Result-Code":5004}"##;
 
+// rule: codes
 #[test]
 fn faults(rt: HostRuntime) {
     try_told(&rt, rt.alloc(), Told::Fault, FAULTS);

@@ -244,6 +244,7 @@ const SCOPES: &str = r##"#000000000001,5,1, -> 000000000001 5 1 -
 #000000000001,5,1,"10" -> 000000000001 5 1 10
 #000000000001,5,1,None -> 6 at 2"##;
 
+// rule: voucher-file
 #[test]
 fn amounts_days_and_scopes(rt: HostRuntime) {
     try_told(&rt, rt.alloc(), Told::File, AMOUNTS);
@@ -288,6 +289,7 @@ const BYTES: &str = "code -> 3 at 2
 amount -> 4 at 2
 header -> 1 at 1";
 
+// rule: voucher-file.vouchers
 #[test]
 fn whole_files(rt: HostRuntime) {
     try_told(&rt, rt.alloc(), Told::File, ORDER);

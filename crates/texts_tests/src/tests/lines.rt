@@ -32,6 +32,7 @@ const LINES: &str = "4102444799 {} {} -> 4102444799 and {} {}
 01767607200 {} -> none
 1767607200{} -> none";
 
+// rule: moments, written-numbers, dated-lines
 #[test]
 fn numbers_and_lines(rt: HostRuntime) {
     try_told(&rt, rt.alloc(), Told::Number, NUMBERS);

@@ -72,6 +72,7 @@ const SAID: &str = "members -> s1 2 Some(5) None 2 49151
 units -> Some(TotalOctets) 7 CC-Time CC-Total-Octets CC-Service-Specific-Units
 names -> s1 49151 Update";
 
+// rule: json-members
 #[test]
 fn members_are_read(rt: HostRuntime) {
     try_told(&rt, rt.alloc(), Told::Members, SAID);

@@ -157,6 +157,7 @@ UPDATE -> {"CC-Request-Number":3,"CC-Request-Type":2,
   "Value-Digits":1000000000000000}}},"Session-Id":"s1",
   "Subscription-Id":{"Subscription-Id-Data":"49151","Subscription-Id-Type":0}}"##;
 
+// rule: request-written, request-written.in-byte-order
 #[test]
 fn texts(rt: HostRuntime) {
     try_told(&rt, rt.alloc(), Told::Request, WRITTEN);

@@ -228,6 +228,7 @@ ocs --help -> unread 0
 ocs credit --help -> unread 0
 ocs --version -> unread 0";
 
+// rule: words
 #[test]
 fn each_line_says_its_words(rt: HostRuntime) {
     try_told(&rt, rt.alloc(), Told::Words, LINES);

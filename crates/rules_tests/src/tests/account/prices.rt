@@ -258,6 +258,7 @@ covered 10 0 0 6 before 300 after 90 => 100000 7 6
 covered 20 103809024 99 1 after 2097152 after 0 => 10000 2 1
 covered 30 0 0 1000000000 after 1000000001 after 0 => 90000 1000000001 1000000000";
 
+// rule: cutting, cutting.cuts-alike, wanted, grant-units
 #[test]
 fn prices_of_the_worked_book(rt: HostRuntime) {
     let book = book(&rt, rt.alloc(), BOOK);
@@ -281,6 +282,7 @@ allowed 40 0 0 0 1000000000 3099999999 500000000 => 500000000 499999999 99999999
 covered 40 0 0 500000000 before 600000000 after 400000000 => 3100000000 1000000000 500000000
 covered 40 0 0 700000000 before 600000000 after 400000000 => 2100000000 1000000000 700000000";
 
+// rule: grant-greatest, rating-steps
 #[test]
 fn a_billion_blocks(rt: HostRuntime) {
     let book = book(&rt, rt.alloc(), TIERS);
@@ -386,6 +388,7 @@ otherwise 3 0 0 => 0
 otherwise 3 0 1 => 0
 otherwise 3 1 0 => 0";
 
+// rule: rated-amount
 #[test]
 fn tiers_tell_what_blocks_do(rt: HostRuntime) {
     let book = book(&rt, rt.alloc(), TIERS);

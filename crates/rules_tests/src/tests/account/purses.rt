@@ -37,6 +37,7 @@ fn charge_later(rt: &impl Abort, alloc: Global, purse: &mut Purse) -> String {
     format!(in alloc; "{held}; {charged}").expect(rt, "memory")
 }
 
+// rule: settle-order.holds-pay-first
 #[test]
 fn held_money_is_charged_after_the_end_of_its_bucket(rt: HostRuntime) {
     let mut purse = two_buckets(&rt, rt.alloc());
@@ -73,6 +74,7 @@ fn settle_more(rt: &impl Abort, alloc: Global, purse: &mut Purse) -> String {
     charged_text(rt, alloc, charged)
 }
 
+// rule: shares, released
 #[test]
 fn a_shortfall_is_uncollected(rt: HostRuntime) {
     let mut purse = scoped_bucket(&rt, rt.alloc());

@@ -288,6 +288,8 @@ more => false
 other => false
 nobody => false";
 
+// rule: bucket-columns, holds.held-unended, grant-terms, database-loads.of-open-sessions,
+//   database-loads.go-on
 #[test]
 fn rows_of_no_account(rt: HostRuntime) {
     try_table(&rt, rt.alloc(), &mut Turned, TURNED);

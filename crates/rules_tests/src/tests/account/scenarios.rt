@@ -576,6 +576,7 @@ fn play_all(rt: &impl Abort, alloc: Global, document: &str, scenarios: &[&str]) 
     }
 }
 
+// rule: bucket-order, bucket-order.added-alone
 #[test]
 fn sessions_and_their_charges(rt: HostRuntime) {
     let scenarios = [
@@ -789,6 +790,7 @@ fn play_over(rt: &impl Abort, alloc: Global, books: &str, scenarios: &[&str]) {
     }
 }
 
+// rule: tiers.prices-at
 #[test]
 fn a_grant_is_settled_by_its_own_book(rt: HostRuntime) {
     play_over(&rt, rt.alloc(), TUESDAY, &[BOOKS, BOUGHT]);

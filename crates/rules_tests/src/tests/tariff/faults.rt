@@ -339,11 +339,13 @@ fn small(rt: &impl Abort, alloc: Global) -> String {
     SMALL.replace(alloc, "\n  ", "").expect(rt, "memory")
 }
 
+// rule: book-text.book-of, zone-text
 #[test]
 fn faults_of_the_small_book(rt: HostRuntime) {
     try_small(&rt, rt.alloc(), small(&rt, rt.alloc()).as_str());
 }
 
+// rule: book-text
 #[test]
 fn faults_of_the_worked_book(rt: HostRuntime) {
     try_table(

@@ -93,6 +93,7 @@ const SIZES: &str = "\
 1 65 1 => 8
 1 1 9 => 8";
 
+// rule: switch-steps.change
 #[test]
 fn full_books(rt: HostRuntime) {
     try_table(&rt, rt.alloc(), &mut Sizes, SIZES);

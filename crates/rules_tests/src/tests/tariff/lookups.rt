@@ -82,6 +82,7 @@ const GROUPS: &str = "\
 30 1 => 30 1 1 100 ServiceSpecific None Terminate / None 90000
 99 0 => none";
 
+// rule: tiers
 #[test]
 fn groups_of_the_book(rt: HostRuntime) {
     let book = book(&rt, rt.alloc(), BOOK);
@@ -245,6 +246,7 @@ CET-1CEST,M3.5.0,M10.5.0/3 1792887300 => 0 Some(1792888200) 2700 0 20752 693 Som
 const CUT: &str = "\
 +00:00 1767599400 => 0 Some(1767600000) 1800 0 20459 684 Some(1767657600) Some(1770249600)";
 
+// rule: period, period.weekday-of-date, validity
 #[test]
 fn moments_of_the_book(rt: HostRuntime) {
     try_table(&rt, rt.alloc(), &mut Moments { document: BOOK }, MOMENTS);
@@ -320,6 +322,7 @@ name peak => Some(Period(1))
 name night => None
 head => 978 3600";
 
+// rule: period.period-of-entry
 #[test]
 fn names_of_the_book(rt: HostRuntime) {
     let book = book(&rt, rt.alloc(), BOOK);

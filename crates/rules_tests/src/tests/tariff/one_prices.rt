@@ -38,6 +38,7 @@ const BOOKS: &str = "\
 1000000000 1000000000000000 10 =>
    978 3600, 10 1000000000000000 600 3600 Time None Terminate / None 1000000000";
 
+// rule: once-book
 #[test]
 fn a_book_of_one_price_has_one_group(rt: HostRuntime) {
     try_table(&rt, rt.alloc(), &mut Books, BOOKS);

@@ -118,6 +118,7 @@ fn try_shelf(rt: &impl Abort, alloc: Global, lines: &str) {
     try_table(rt, alloc, &mut Caller { shelf }, lines);
 }
 
+// rule: book-at, later-books
 #[test]
 fn books_follow_one_another(rt: HostRuntime) {
     try_shelf(&rt, rt.alloc(), ADDED);

@@ -109,6 +109,7 @@ fn two_entries(rt: HostRuntime) {
     );
 }
 
+// rule: switch, switch.switch-first
 #[test]
 fn forty_entries(rt: HostRuntime) {
     try_book(
@@ -118,6 +119,7 @@ fn forty_entries(rt: HostRuntime) {
     );
 }
 
+// rule: switch-steps
 #[test]
 fn sixty_four_entries(rt: HostRuntime) {
     try_book(

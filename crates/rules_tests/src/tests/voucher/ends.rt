@@ -67,6 +67,7 @@ const NEPAL: &str = "\
 1767636899 1 => 1767723300
 1767636900 1 => 1767809700";
 
+// rule: voucher-end
 #[test]
 fn ends_of_days(rt: HostRuntime) {
     try_ends(&rt, rt.alloc(), 0, UTC);

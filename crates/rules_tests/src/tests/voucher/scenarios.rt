@@ -35,6 +35,7 @@ add 1000000000000000 - 4294967295 => new
 redeem 49 4102444799 => 1000000000000000 4102444799 4102444800 4294967295 by 49
 redeem 49151 4102444799 => the voucher is spent";
 
+// rule: voucher-add, redeem, redeemed-once.stands-for-good
 #[test]
 fn vouchers(rt: HostRuntime) {
     play(&rt, rt.alloc(), WITH_DAYS);
@@ -66,6 +67,7 @@ const RANGES: &str = "\
 1 3651 0 => false
 1 4294967295 - => false";
 
+// rule: voucher-terms
 #[test]
 fn ranges_of_terms(rt: HostRuntime) {
     try_table(&rt, rt.alloc(), &mut Ranges, RANGES);
