@@ -23,5 +23,6 @@ def test_what_was_answered_outlives_a_machine(tmp_path: pathlib.Path, kind: str)
     rounds(tmp_path, kind, CUTS)
 
 
+@pytest.mark.slow
 def test_what_was_answered_outlives_each_machine_once(tmp_path: pathlib.Path) -> None:
     rounds(tmp_path, "xfs", QUICK)

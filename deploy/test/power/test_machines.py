@@ -22,6 +22,7 @@ def test_what_was_answered_outlives_a_machine(tmp_path: pathlib.Path, kind: str)
     cut(tmp_path, kind, CUTS)
 
 
+@pytest.mark.slow
 def test_what_was_answered_outlives_two_cuts(tmp_path: pathlib.Path) -> None:
     cut(tmp_path, "xfs", QUICK)
 
