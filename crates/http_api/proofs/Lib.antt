@@ -7,3 +7,4 @@ pub mod Taking
 pub mod Statuses
 pub mod HeadRefusals
 pub mod OneText
+pub mod BegunConnection
