@@ -20,6 +20,8 @@ from console.pictures import taken
 from console.stood import ACCOUNT, CODES, COUNTER, DESK, OF_CODES, OPERATORS, Desk, stood
 from console.test_shown import money, utc
 
+pytestmark = pytest.mark.slow
+
 SECONDS = "%Y-%m-%d %H:%M:%S"
 MONTH = time.strftime("%Y%m", time.gmtime())
 FREE, NUMBERS = iter(CODES), itertools.count(50000, 1000)
@@ -401,7 +403,6 @@ def test_an_office_whose_agent_is_stopped(desk: Desk, ada: Person, shop: Person)
     assert ada.text("#agent-none") == ""
 
 
-@pytest.mark.slow
 def test_its_pictures(desk: Desk, ada: Person, pictures: pathlib.Path) -> None:
     """What is behind an account: open sessions, covered charges, the log; and the tab of bars."""
     behind(ada, ACCOUNT)
