@@ -358,6 +358,7 @@ def test_an_account_that_moved_is_answered_as_before(office: Stand) -> None:
 
 
 def test_the_sums_have_what_archives_have(office: Stand) -> None:
+    all_of(office, lived(of_shard(office, "03")[0], "sums"))
     before = totals(office)
     assert before["charged"] > 0 and before["available"] > 0
     office.run("office carry 03")
