@@ -173,11 +173,11 @@ fn meta_at(row: &Row, version: u32) -> Result<Option<MetaColumns>, ReadFault>
     Ok(Some(meta_from(row, version)?))
 }
 
-/// The rest of a row that keeps a version.
+/// The rest of a row, the whole of it where the row keeps the version.
 fn meta_from(row: &Row, version: u32) -> Result<MetaColumns, ReadFault>
-    requires { column row.now 0 ≡ nat version }
     ensures version { IfOk result (λ m. m.version ≡ version) }
-    ensures read { MatchResult result (λ m. row.now ≡ meta_cells (meta_of m))
+    ensures read { MatchResult result
+        (λ m. column row.now 0 ≡ nat version → row.now ≡ meta_cells (meta_of m))
         (λ e. e ≡ ReadFault.Rules → (m : Meta) → row.now ≡ meta_cells m → ¬ IsRuledMeta m) }
 {
     has_columns(row, 3)?;

@@ -9,9 +9,6 @@ returns-then-not-branch-clause-read c =
     other_version c.args.row.now c.args.version c.in_ok-is_number_at.field-0
     c.in_ok-is_number_at.ensures.1 c.if-not-branch.true
 
-pub meta_from-requires : goal.meta_from-requires
-meta_from-requires c = c.in_ok-is_number_at.ensures.0 c.if-not-branch.false
-
 pub returns-in_err-meta_from-clause-read : goal.returns-in_err-meta_from-clause-read
 returns-in_err-meta_from-clause-read c =
     let p = err_from_is_err_and c.from_residual-in_err-meta_from.result
@@ -24,4 +21,5 @@ returns-in_err-meta_from-clause-read c =
 
 pub returns-clause-read : goal.returns-clause-read
 returns-clause-read c kept =
-    same_row c.args.row.now (meta_of c.in_ok-meta_from.field-0) kept c.in_ok-meta_from.ensures.read
+    same_row c.args.row.now (meta_of c.in_ok-meta_from.field-0) kept
+    (c.in_ok-meta_from.ensures.read (c.in_ok-is_number_at.ensures.0 c.if-not-branch.false))
