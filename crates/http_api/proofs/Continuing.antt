@@ -12,8 +12,8 @@ use Rattle.charging.specs.Parts.{Leaves}
 use Rattle.charging.specs.Served.{AreTables, Serves, Writes}
 use Rattle.charging.specs.Continued.{ForEachList, IsContinued, LeavesOn}
 use Rattle.charging.specs.Runs.{after_commands}
-use Rattle.charging.proofs.RunLemmas.{commands_after, time-more}
-use Rattle.charging.proofs.Serving.{left_as}
+use Rattle.charging.proofs.runs.RunLemmas.{commands_after, time-more}
+use Rattle.charging.proofs.outcomes.Serving.{left_as}
 use Rattle.http_messages.specs.Asking.{Asking, refuses, reads, states, IsAsked}
 use Rattle.http_messages.specs.declared.asking.HttpAsked.TheVariants as told
 use Rattle.http_api.specs.Replies.{LeavesReply, reply_at}

@@ -15,7 +15,7 @@ use Rattle.charging.specs.Accepted.{Accepted, IsInTime}
 use Rattle.charging.specs.Continued.{ForEachList, GoesOn}
 use Rattle.charging.specs.Parts.{Leaves}
 use Rattle.charging.specs.Served.{AreTables}
-use Rattle.charging.proofs.Serving.{left_as}
+use Rattle.charging.proofs.outcomes.Serving.{left_as}
 use Rattle.http_messages.specs.Parts.{first_part}
 use Rattle.http_messages.proofs.Refusals.{refused_says}
 use Rattle.http_messages.specs.Requests.{Next, asks, refused, ended, IsNext}

@@ -7,7 +7,7 @@ use Rattle.tariffs.specs.Books.{Book}
 use Rattle.shelves.specs.Shelves.{Shelf, one_book}
 use Rattle.keepers.specs.Faults.{max_failures}
 use Rattle.keepers.specs.Tables.{Tables, no_tables}
-use Rattle.charging.proofs.AcceptedTables.{tables_none}
+use Rattle.charging.proofs.runs.AcceptedTables.{tables_none}
 use Rattle.charging.specs.Outcomes.{book_days, outcome}
 use Rattle.charging.specs.Continued.{ForEachList}
 use Rattle.charging.specs.Served.{AreTables}

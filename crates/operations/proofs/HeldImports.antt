@@ -13,7 +13,7 @@ use Rattle.charging.specs.Parts.{Leaves}
 use Rattle.charging.specs.Runs.{after_commands}
 use Rattle.charging.specs.Served.{AreTables, Writes}
 use Rattle.charging.specs.declared.running.DatedCommand.{DatedCommand}
-use Rattle.charging.proofs.RunLemmas.{commands-more}
+use Rattle.charging.proofs.runs.RunLemmas.{commands-more}
 use Rattle.operations.specs.Imports.{HoldsBeginning, addition_at, additions}
 use Rattle.operations.specs.declared.counts.Counts.{Counts}
 use Rattle.operations.proofs.ImportLemmas.{ImportsSoFar, IsSoFar, additions-more}

@@ -18,7 +18,7 @@ use Rattle.charging.specs.Histories.{no_history}
 use Rattle.charging.specs.Outcomes.{addition_outcome}
 use Rattle.charging.specs.Served.{AreTables, IsServed, moment_of, voucher}
 use Rattle.charging.specs.declared.running.DatedCommand.{DatedCommand}
-use Rattle.charging.proofs.RunLemmas.{commands-more}
+use Rattle.charging.proofs.runs.RunLemmas.{commands-more}
 use Rattle.voucher_rules.specs.Adding.{addition}
 use Rattle.voucher_rules.specs.declared.adding.Addition.{Addition}
 use Rattle.voucher_rules.specs.declared.adding.Addition.TheVariants.{New, Present, Conflicting}

@@ -17,7 +17,7 @@ use Rattle.charging.specs.Continued.{ForEachList, IsContinued}
 use Rattle.charging.specs.declared.running.DatedCommand.{DatedCommand}
 use Rattle.charging.specs.Served.{AreTables, answer_to, moment_of}
 use Rattle.charging.specs.Runs.{after_command, answers_to, after_commands, IsRun, Runs}
-use Rattle.charging.proofs.RunLemmas.{commands_after}
+use Rattle.charging.proofs.runs.RunLemmas.{commands_after}
 use Rattle.request_lines.specs.declared.input.Input.{Input}
 use Rattle.request_lines.specs.Lines.{line_request}
 use Rattle.request_lines.specs.Served.{requests_in, opening_for, opening_in, commands_of, faults_in}

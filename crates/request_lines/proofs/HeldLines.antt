@@ -11,7 +11,7 @@ use Rattle.charging.specs.Accepted.{Accepted, IsInTime}
 use Rattle.charging.specs.Runs.{AreHeld, IsHeld, IsRun, Runs, after_commands}
 use Rattle.charging.specs.Served.{AreTables}
 use Rattle.charging.specs.declared.running.DatedCommand.{DatedCommand}
-use Rattle.charging.proofs.RunLemmas.{commands_after}
+use Rattle.charging.proofs.runs.RunLemmas.{commands_after}
 use Rattle.operations.specs.Imports.{HoldsBeginning, IsBeginningHeld}
 use Rattle.request_lines.specs.declared.input.Input.{Input}
 use Rattle.request_lines.specs.Input.{IsInput}

@@ -11,7 +11,7 @@ use Rattle.sql_tables.specs.declared.fault.OpenFault.TheVariants.{Foreign, Versi
 use Rattle.sql_tables.specs.declared.fault.OpenFault.TheVariants.{Memory, Older}
 use Rattle.sql_keeper.specs.Causes.{IsStores}
 use Rattle.sql_keeper.specs.Settled.{AreSettled}
-use Rattle.sql_keeper.proofs.Stopped.{opened_again}
+use Rattle.sql_keeper.proofs.stops.Stopped.{opened_again}
 use Rattle.service.specs.NextRun.{IsFoundByNext}
 
 -- a fault is the store's or memory's, or another one

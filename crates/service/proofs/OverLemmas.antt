@@ -24,7 +24,7 @@ use Rattle.sql_keeper.specs.Migrates.{BecomesLatest, IsMigrated}
 use Rattle.sql_keeper.specs.Opened.{IsCreated, IsFresh, IsKept, IsLeft, IsOpened}
 use Rattle.sql_keeper.specs.Shelves.{IsShelfOf}
 use Rattle.sql_keeper.specs.Stops.{trees_in}
-use Rattle.sql_keeper.proofs.OneShelf.{one_shelf}
+use Rattle.sql_keeper.proofs.shelf.OneShelf.{one_shelf}
 use Rattle.operations.specs.Counts.{counts_line}
 use Rattle.operations.specs.Months.{BeginsMonth, IsMonthTold, PrintsMonth, WritesMonth}
 use Rattle.operations.specs.Written.{WritesBeginning}

@@ -18,7 +18,7 @@ use Rattle.sqlite_rules.specs.Lists.{Has}
 use Rattle.sqlite_rules.proofs.ListLemmas.{all_has}
 use Rattle.sql_tables.specs.Schema.{book_schema}
 use Rattle.sql_rows.specs.Values.{nat, nat_in, text_in}
-use Rattle.sql_rows.proofs.MetaRules.{right_at, text_of, whole_in}
+use Rattle.sql_rows.proofs.rules.MetaRules.{right_at, text_of, whole_in}
 use Rattle.sql_rules.proofs.MappedRows.{IsKeyed}
 
 -- ---- one column

@@ -39,7 +39,7 @@ use Rattle.sql_rows.specs.Values.{counter_in_row, session_in_row, group_in_row, 
 use Rattle.sql_rows.specs.Values.{answer_in_row, voucher_in_row}
 use Rattle.sql_rows.specs.Values.{charge_in_row, book_in_row, grant_book_in, allowance_in}
 use Rattle.sql_rows.specs.Values.{covered_in_row}
-use Rattle.sql_rows.proofs.MetaRules.{right_at}
+use Rattle.sql_rows.proofs.rules.MetaRules.{right_at}
 use Rattle.sql_rules.specs.Columns.{is_moment}
 use Rattle.sql_rules.specs.Rules.{is_ruled_meta, rule_at}
 use Rattle.sql_rules.specs.Ruled.{IsInRules}

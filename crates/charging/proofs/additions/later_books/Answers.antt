@@ -1,5 +1,5 @@
-use Rattle.charging.proofs.EarlyHistories.{addition_goes_on, nothing_changes}
-use Rattle.charging.proofs.JoinedRuns.{one_run}
+use Rattle.charging.proofs.added_books.EarlyHistories.{addition_goes_on, nothing_changes}
+use Rattle.charging.proofs.added_books.JoinedRuns.{one_run}
 use Rattle.charging.proofs.additions.later_books.Goals as goal
 
 pub returns-clause-additions : goal.returns-clause-additions

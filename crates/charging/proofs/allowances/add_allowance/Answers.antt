@@ -2,7 +2,7 @@ use Rattle.std.proofs.Common.{◌≡◌, true, false, sym, ap, ◌∙◌}
 use Rattle.shelves.specs.Shelves.{Shelf, book_at}
 use Rattle.decisions.specs.Services.{is_known}
 use Rattle.charging.specs.OutcomeParts.{is_over}
-use Rattle.charging.proofs.Allowing.{allows_full, allows_known, allows_unknown}
+use Rattle.charging.proofs.outcomes.Allowing.{allows_full, allows_known, allows_unknown}
 use Rattle.charging.proofs.allowances.add_allowance.Goals as goal
 
 pub returns-in_default-clause-allows : goal.returns-in_default-clause-allows

@@ -7,10 +7,10 @@ use Rattle.shelves.specs.Shelves.{Shelf}
 use Rattle.keepers.specs.Change.{IsLoad}
 use Rattle.keepers.specs.Tables.{Tables}
 use Rattle.charging.specs.Stepping.{Answers, Commits}
-use Rattle.charging.proofs.Serving.{left_as, served-by, served-as}
-use Rattle.charging.proofs.Operated.{made_change, made_tells}
-use Rattle.charging.proofs.Allowing.{allow-told, allow-done}
-use Rattle.charging.proofs.Refused.{accepted_given}
+use Rattle.charging.proofs.outcomes.Serving.{left_as, served-by, served-as}
+use Rattle.charging.proofs.outcomes.Operated.{made_change, made_tells}
+use Rattle.charging.proofs.outcomes.Allowing.{allow-told, allow-done}
+use Rattle.charging.proofs.outcomes.Refused.{accepted_given}
 use Rattle.charging.proofs.allowances.allow_account.Goals as goal
 use Rattle.charging.proofs.allowances.allow_account.Goals.{After-commit}
 

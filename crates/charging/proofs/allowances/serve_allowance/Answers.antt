@@ -5,8 +5,8 @@ use Rattle.commands.specs.Keys.{key_of}
 use Rattle.keepers.specs.Change.{IsLoad}
 use Rattle.keepers.specs.Tables.{Tables}
 use Rattle.charging.specs.Stepping.{ServesAt, WritesAt, LeavesRefused}
-use Rattle.charging.proofs.Serving.{left_as, none_loaded, some_loaded, served-as}
-use Rattle.charging.proofs.Allowing.{allow-unknown, allow-again}
+use Rattle.charging.proofs.outcomes.Serving.{left_as, none_loaded, some_loaded, served-as}
+use Rattle.charging.proofs.outcomes.Allowing.{allow-unknown, allow-again}
 use Rattle.charging.proofs.allowances.serve_allowance.Goals as goal
 use Rattle.charging.proofs.allowances.serve_allowance.Goals.{After-allow_account}
 

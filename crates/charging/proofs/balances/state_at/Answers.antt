@@ -1,8 +1,8 @@
 use Rattle.std.proofs.Common.{subst}
 use Rattle.keepers.specs.Change.{AreDeadOf}
 use Rattle.keepers.specs.Tables.{Tables}
-use Rattle.charging.proofs.Requested.{none_viewed, some_viewed}
-use Rattle.charging.proofs.Stated.{none-stated, some-stated}
+use Rattle.charging.proofs.outcomes.Requested.{none_viewed, some_viewed}
+use Rattle.charging.proofs.outcomes.Stated.{none-stated, some-stated}
 use Rattle.charging.proofs.balances.state_at.Goals as goal
 
 pub returns-in_default-clause-found : goal.returns-in_default-clause-found

@@ -2,8 +2,8 @@ use Rattle.std.proofs.Common.{subst, Option}
 use Rattle.commands.specs.declared.command.Command.TheVariants as command
 use Rattle.charging.specs.States.{TellsStateAt}
 use Rattle.charging.specs.declared.balances.AccountState.{AccountState}
-use Rattle.charging.proofs.Serving.{served-as}
-use Rattle.charging.proofs.Stated.{balance-unknown, balance-told}
+use Rattle.charging.proofs.outcomes.Serving.{served-as}
+use Rattle.charging.proofs.outcomes.Stated.{balance-unknown, balance-told}
 use Rattle.charging.proofs.balances.tell_balance.Goals as goal
 
 pub returns-in_default-clause-served : goal.returns-in_default-clause-served

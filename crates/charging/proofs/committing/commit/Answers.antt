@@ -2,7 +2,7 @@ use Rattle.std.proofs.Common.{◌∙◌, ap, List, ℕ, Option}
 use Rattle.std.specs.Prelude.{option_copied}
 use Rattle.keepers.specs.declared.kept_answer.KeptAnswer.{KeptAnswer}
 use Rattle.charging.specs.Stepping.{change_for, kept_as}
-use Rattle.charging.proofs.Serving.{commits-same, left_as}
+use Rattle.charging.proofs.outcomes.Serving.{commits-same, left_as}
 use Rattle.charging.proofs.committing.commit.Goals as goal
 
 pub returns-clause-done : goal.returns-clause-done

@@ -1,4 +1,4 @@
-use Rattle.charging.proofs.Serving.{commits-same, left_as, on_ok}
+use Rattle.charging.proofs.outcomes.Serving.{commits-same, left_as, on_ok}
 use Rattle.charging.proofs.committing.commit_change.Goals as goal
 
 pub returns-clause-done : goal.returns-clause-done

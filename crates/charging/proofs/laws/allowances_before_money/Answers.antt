@@ -1,4 +1,4 @@
-use Rattle.charging.proofs.Coverable.{report_covers_first, event_covers_first}
+use Rattle.charging.proofs.charges.Coverable.{report_covers_first, event_covers_first}
 use Rattle.charging.proofs.laws.allowances_before_money.Goals as goal
 
 pub returns-clause-reports : goal.returns-clause-reports

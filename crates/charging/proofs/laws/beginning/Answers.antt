@@ -1,4 +1,4 @@
-use Rattle.charging.proofs.AcceptedTables.{tables_none}
+use Rattle.charging.proofs.runs.AcceptedTables.{tables_none}
 use Rattle.charging.specs.Outcomes.{book_days, outcome}
 use Rattle.charging.proofs.laws.beginning.Goals as goal
 

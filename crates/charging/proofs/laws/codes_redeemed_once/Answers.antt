@@ -1,4 +1,5 @@
-use Rattle.charging.proofs.RedeemedCodes.{left_by_these, redeemed_once, redeemed_at_most_once}
+use Rattle.charging.proofs.repeating.RedeemedCodes.{left_by_these, redeemed_once}
+use Rattle.charging.proofs.repeating.RedeemedCodes.{redeemed_at_most_once}
 use Rattle.charging.proofs.laws.codes_redeemed_once.Goals as goal
 
 pub returns-clause-left : goal.returns-clause-left

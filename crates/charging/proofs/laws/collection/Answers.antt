@@ -1,6 +1,6 @@
-use Rattle.charging.proofs.Collecting.{IsCollecting, collecting_none, keeps_collecting}
-use Rattle.charging.proofs.Collecting.{collected_is_charged}
-use Rattle.charging.proofs.KeptHistories.{kept_history}
+use Rattle.charging.proofs.charges.Collecting.{IsCollecting, collecting_none, keeps_collecting}
+use Rattle.charging.proofs.charges.Collecting.{collected_is_charged}
+use Rattle.charging.proofs.steps.KeptHistories.{kept_history}
 use Rattle.charging.specs.Paid.{reports_of}
 use Rattle.charging.specs.Served.{history}
 use Rattle.charging.proofs.laws.collection.Goals as goal

@@ -1,4 +1,4 @@
-use Rattle.charging.proofs.DeadRows.{dead_rows_stay}
+use Rattle.charging.proofs.dead.DeadRows.{dead_rows_stay}
 use Rattle.charging.proofs.laws.dead_rows_stay.Goals as goal
 
 pub returns : goal.returns

@@ -1,4 +1,4 @@
-use Rattle.charging.proofs.FromEquations.{equations_are_enough, runs_by_equations}
+use Rattle.charging.proofs.runs.FromEquations.{equations_are_enough, runs_by_equations}
 use Rattle.charging.proofs.laws.equations_are_enough.Goals as goal
 
 pub returns-clause-tables : goal.returns-clause-tables

@@ -1,5 +1,5 @@
-use Rattle.charging.proofs.Paying.{IsPaying, paying_none, keeps_paying}
-use Rattle.charging.proofs.KeptHistories.{kept_history}
+use Rattle.charging.proofs.charges.Paying.{IsPaying, paying_none, keeps_paying}
+use Rattle.charging.proofs.steps.KeptHistories.{kept_history}
 use Rattle.charging.proofs.laws.payment.Goals as goal
 
 pub returns : goal.returns

@@ -1,5 +1,5 @@
-use Rattle.charging.proofs.Guaranteed.{IsGuaranteed, guaranteed_none, keeps_guaranteed}
-use Rattle.charging.proofs.KeptHistories.{kept_history}
+use Rattle.charging.proofs.grants.Guaranteed.{IsGuaranteed, guaranteed_none, keeps_guaranteed}
+use Rattle.charging.proofs.steps.KeptHistories.{kept_history}
 use Rattle.charging.proofs.laws.quota.Goals as goal
 
 pub returns : goal.returns

@@ -1,4 +1,4 @@
-use Rattle.charging.proofs.Repeated.{answers-once}
+use Rattle.charging.proofs.repeating.Repeated.{answers-once}
 use Rattle.charging.proofs.laws.repeats.Goals as goal
 
 pub returns : goal.returns

@@ -1,4 +1,4 @@
-use Rattle.charging.proofs.PricedRows.{reservations_are_priced, no_book_is_missing}
+use Rattle.charging.proofs.grants.PricedRows.{reservations_are_priced, no_book_is_missing}
 use Rattle.charging.proofs.laws.reservations_are_priced.Goals as goal
 
 pub returns-clause-rows : goal.returns-clause-rows

@@ -1,5 +1,5 @@
-use Rattle.charging.proofs.Accounted.{accounted}
-use Rattle.charging.proofs.Promised.{related}
+use Rattle.charging.proofs.runs.Accounted.{accounted}
+use Rattle.charging.proofs.runs.Promised.{related}
 use Rattle.charging.proofs.laws.run_over_lists.Goals as goal
 
 pub returns-clause-lists : goal.returns-clause-lists

@@ -1,4 +1,4 @@
-use Rattle.charging.proofs.Opened.{opened_by_grants}
+use Rattle.charging.proofs.grants.Opened.{opened_by_grants}
 use Rattle.charging.proofs.laws.sessions_open_by_grants.Goals as goal
 
 pub returns : goal.returns

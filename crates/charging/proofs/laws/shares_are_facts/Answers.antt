@@ -1,4 +1,4 @@
-use Rattle.charging.proofs.SharesTold.{charges_are_shares, holds_are_shares}
+use Rattle.charging.proofs.charges.SharesTold.{charges_are_shares, holds_are_shares}
 use Rattle.charging.proofs.laws.shares_are_facts.Goals as goal
 
 pub returns-clause-charges : goal.returns-clause-charges

@@ -1,5 +1,5 @@
-use Rattle.charging.proofs.Sound.{IsSoundHistory, sound_none, keeps_sound}
-use Rattle.charging.proofs.KeptHistories.{kept_history}
+use Rattle.charging.proofs.steps.Sound.{IsSoundHistory, sound_none, keeps_sound}
+use Rattle.charging.proofs.steps.KeptHistories.{kept_history}
 use Rattle.charging.proofs.laws.soundness.Goals as goal
 
 pub returns : goal.returns

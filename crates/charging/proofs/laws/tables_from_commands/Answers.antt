@@ -1,4 +1,4 @@
-use Rattle.charging.proofs.TablesAfter.{tables_are_a_function, runs_from_nothing}
+use Rattle.charging.proofs.runs.TablesAfter.{tables_are_a_function, runs_from_nothing}
 use Rattle.charging.proofs.laws.tables_from_commands.Goals as goal
 
 pub returns-clause-tables : goal.returns-clause-tables

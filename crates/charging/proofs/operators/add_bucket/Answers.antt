@@ -1,5 +1,5 @@
 use Rattle.std.proofs.Common.{◌∙◌, sym}
-use Rattle.charging.proofs.Operated.{credits_made}
+use Rattle.charging.proofs.outcomes.Operated.{credits_made}
 use Rattle.charging.proofs.operators.add_bucket.Goals as goal
 
 pub returns-clause-credits : goal.returns-clause-credits

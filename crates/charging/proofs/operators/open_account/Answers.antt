@@ -6,9 +6,9 @@ use Rattle.keepers.specs.declared.loaded.Change.{Change}
 use Rattle.keepers.specs.Differing.{named_rows}
 use Rattle.keepers.specs.Tables.{Tables}
 use Rattle.charging.specs.Stepping.{Answers, Commits}
-use Rattle.charging.proofs.Serving.{commits-from, left_as, served-by, served-as}
-use Rattle.charging.proofs.Operated.{not-there, open-again, open-done}
-use Rattle.charging.proofs.Refused.{accepted_given}
+use Rattle.charging.proofs.outcomes.Serving.{commits-from, left_as, served-by, served-as}
+use Rattle.charging.proofs.outcomes.Operated.{not-there, open-again, open-done}
+use Rattle.charging.proofs.outcomes.Refused.{accepted_given}
 use Rattle.charging.proofs.operators.open_account.Goals as goal
 use Rattle.charging.proofs.operators.open_account.Goals.{After-commit}
 

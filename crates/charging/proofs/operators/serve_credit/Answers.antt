@@ -5,8 +5,8 @@ use Rattle.commands.specs.Keys.{key_of}
 use Rattle.keepers.specs.Change.{IsLoad}
 use Rattle.keepers.specs.Tables.{Tables}
 use Rattle.charging.specs.Stepping.{ServesAt, WritesAt, LeavesRefused}
-use Rattle.charging.proofs.Serving.{left_as, none_loaded, some_loaded, served-as}
-use Rattle.charging.proofs.Operated.{credit-unknown, credit-again}
+use Rattle.charging.proofs.outcomes.Serving.{left_as, none_loaded, some_loaded, served-as}
+use Rattle.charging.proofs.outcomes.Operated.{credit-unknown, credit-again}
 use Rattle.charging.proofs.operators.serve_credit.Goals as goal
 use Rattle.charging.proofs.operators.serve_credit.Goals.{After-credit_account}
 

@@ -2,10 +2,10 @@ use Rattle.std.proofs.Common.{refl, Some, None}
 use Rattle.commands.specs.declared.answer.Answer.TheVariants as answer
 use Rattle.keepers.specs.Tables.{Tables}
 use Rattle.charging.specs.Stepping.{Answers, Commits, bar_command}
-use Rattle.charging.proofs.Serving.{none_loaded, some_loaded, commits-from, left_as}
-use Rattle.charging.proofs.Serving.{served-by, served-as}
-use Rattle.charging.proofs.Operated.{bar-unknown, bar-done, made_change, made_tells}
-use Rattle.charging.proofs.Refused.{accepted_given}
+use Rattle.charging.proofs.outcomes.Serving.{none_loaded, some_loaded, commits-from, left_as}
+use Rattle.charging.proofs.outcomes.Serving.{served-by, served-as}
+use Rattle.charging.proofs.outcomes.Operated.{bar-unknown, bar-done, made_change, made_tells}
+use Rattle.charging.proofs.outcomes.Refused.{accepted_given}
 use Rattle.charging.proofs.operators.set_barred.Goals as goal
 use Rattle.charging.proofs.operators.set_barred.Goals.{After-commit}
 

@@ -1,9 +1,9 @@
 use Rattle.std.proofs.Common.{◌∙◌, ap, sym}
 use Rattle.commands.specs.declared.command.Command.TheVariants as command
 use Rattle.charging.specs.Stepping.{is_unaccepted}
-use Rattle.charging.proofs.Serving.{left_as, served-as}
-use Rattle.charging.proofs.Operated.{sweep-served, sweep-writes}
-use Rattle.charging.proofs.Refused.{not_told}
+use Rattle.charging.proofs.outcomes.Serving.{left_as, served-as}
+use Rattle.charging.proofs.outcomes.Operated.{sweep-served, sweep-writes}
+use Rattle.charging.proofs.outcomes.Refused.{not_told}
 use Rattle.charging.proofs.operators.sweep.Goals as goal
 
 pub returns-clause-served : goal.returns-clause-served

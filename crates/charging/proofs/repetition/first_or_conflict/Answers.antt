@@ -4,7 +4,7 @@ use Rattle.commands.specs.declared.answer.Answer.{Answer}
 use Rattle.commands.specs.declared.command.Content.{Content}
 use Rattle.keepers.specs.declared.kept_answer.KeptAnswer.{KeptAnswer}
 use Rattle.charging.specs.OutcomeParts.{repeated}
-use Rattle.charging.proofs.KeptKeys.{same-content}
+use Rattle.charging.proofs.outcomes.KeptKeys.{same-content}
 use Rattle.charging.proofs.repetition.first_or_conflict.Goals as goal
 
 -- which answer it is, where the test is known

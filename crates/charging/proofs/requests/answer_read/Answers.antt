@@ -1,8 +1,8 @@
 use Rattle.std.proofs.Common.{ap, sym, ◌∙◌}
 use Rattle.std.specs.Prelude.{is_some}
 use Rattle.commands.specs.declared.command.Command.TheVariants.{Ccr}
-use Rattle.charging.proofs.Requested.{none_viewed, some_viewed, request-unknown, read-told}
-use Rattle.charging.proofs.Serving.{served-as}
+use Rattle.charging.proofs.outcomes.Requested.{none_viewed, some_viewed, request-unknown, read-told}
+use Rattle.charging.proofs.outcomes.Serving.{served-as}
 use Rattle.charging.proofs.requests.answer_read.Goals as goal
 
 pub returns-in-Some-2-clause-served : goal.returns-in-Some-2-clause-served

@@ -13,10 +13,10 @@ use Rattle.keepers.specs.Differing.{named_rows, named_for}
 use Rattle.keepers.specs.Tables.{Tables}
 use Rattle.keepers.proofs.NamedOwn.{named_earlier}
 use Rattle.charging.specs.Stepping.{Answers, Commits, is_known, kept_of_request}
-use Rattle.charging.proofs.Operated.{made_for, named_so}
-use Rattle.charging.proofs.Requested.{request-told, request-done}
-use Rattle.charging.proofs.Serving.{left_as, served-by, served-as}
-use Rattle.charging.proofs.Refused.{accepted_given}
+use Rattle.charging.proofs.outcomes.Operated.{made_for, named_so}
+use Rattle.charging.proofs.outcomes.Requested.{request-told, request-done}
+use Rattle.charging.proofs.outcomes.Serving.{left_as, served-by, served-as}
+use Rattle.charging.proofs.outcomes.Refused.{accepted_given}
 use Rattle.charging.proofs.requests.decide_on.Goals as goal
 use Rattle.charging.proofs.requests.decide_on.Goals.{After-keep}
 

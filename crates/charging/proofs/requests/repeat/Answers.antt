@@ -1,7 +1,7 @@
 use Rattle.std.proofs.Common.{ap}
 use Rattle.commands.specs.declared.command.Content.TheVariants as content
 use Rattle.charging.specs.OutcomeParts.{repeated}
-use Rattle.charging.proofs.Serving.{given-as}
+use Rattle.charging.proofs.outcomes.Serving.{given-as}
 use Rattle.charging.proofs.requests.repeat.Goals as goal
 
 pub returns : goal.returns

@@ -3,9 +3,9 @@ use Rattle.commands.specs.declared.command.Command.TheVariants.{Ccr}
 use Rattle.keepers.specs.Change.{IsLoadedFrom}
 use Rattle.keepers.specs.Tables.{Tables}
 use Rattle.charging.specs.Stepping.{ServesAt, WritesAt, is_known, kept_of_request, LeavesRefused}
-use Rattle.charging.proofs.Serving.{left_as}
-use Rattle.charging.proofs.Requested.{request-unknown, request-again, request-known}
-use Rattle.charging.proofs.Requested.{none_viewed, some_viewed}
+use Rattle.charging.proofs.outcomes.Serving.{left_as}
+use Rattle.charging.proofs.outcomes.Requested.{request-unknown, request-again, request-known}
+use Rattle.charging.proofs.outcomes.Requested.{none_viewed, some_viewed}
 use Rattle.charging.proofs.requests.serve_request.Goals as goal
 use Rattle.charging.proofs.requests.serve_request.Goals.{After-decide_on}
 

@@ -1,4 +1,4 @@
-use Rattle.charging.proofs.Serving.{given-as}
+use Rattle.charging.proofs.outcomes.Serving.{given-as}
 use Rattle.charging.proofs.requests.tell_failed.Goals as goal
 
 pub returns : goal.returns

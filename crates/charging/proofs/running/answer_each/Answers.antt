@@ -3,8 +3,8 @@ use Rattle.std.proofs.Common.{◌∙◌}
 use Rattle.std.proofs.lemmas.List.{length-append, append_assoc}
 use Rattle.commands.specs.declared.answer.Answer.{Answer}
 use Rattle.charging.specs.declared.running.DatedCommand.{DatedCommand}
-use Rattle.charging.proofs.HeldRuns.{HasRun, has-run_none, has-run_more, run-failed, run-refused}
-use Rattle.charging.proofs.HeldRuns.{run-whole}
+use Rattle.charging.proofs.runs.HeldRuns.{HasRun, has-run_none, has-run_more, run-failed}
+use Rattle.charging.proofs.runs.HeldRuns.{run-refused, run-whole}
 use Rattle.charging.proofs.running.answer_each.Goals as goal
 use Rattle.charging.proofs.running.answer_each.Goals.{After-reserve}
 

@@ -1,5 +1,5 @@
 use Rattle.std.proofs.Common.{◌≡◌, ◌++◌, length}
-use Rattle.charging.proofs.HeldRuns.{HasRun}
+use Rattle.charging.proofs.runs.HeldRuns.{HasRun}
 use Rattle.charging.proofs.running.answer_each.Given as goal
 
 abbrev pub invariant-loop-dated : goal.invariant-loop-dated

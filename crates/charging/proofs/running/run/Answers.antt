@@ -1,5 +1,5 @@
-use Rattle.charging.proofs.Accounted.{accounted}
-use Rattle.charging.proofs.Promised.{promised}
+use Rattle.charging.proofs.runs.Accounted.{accounted}
+use Rattle.charging.proofs.runs.Promised.{promised}
 use Rattle.charging.proofs.running.run.Goals as goal
 
 pub returns : goal.returns

@@ -1,7 +1,7 @@
 use Rattle.std.proofs.Common.{ℕ, subst}
 use Rattle.keepers.specs.Tables.{Tables}
 use Rattle.charging.specs.Stepping.{WritesAt, LeavesRefused}
-use Rattle.charging.proofs.Serving.{left_as, writes-at}
+use Rattle.charging.proofs.outcomes.Serving.{left_as, writes-at}
 use Rattle.charging.proofs.stepping.serve.Goals as goal
 
 pub returns-clause-left : goal.returns-clause-left

@@ -1,4 +1,4 @@
-use Rattle.charging.proofs.Accounted.{served_again}
+use Rattle.charging.proofs.runs.Accounted.{served_again}
 use Rattle.charging.proofs.stepping.step.Goals as goal
 
 pub returns : goal.returns

@@ -6,9 +6,9 @@ use Rattle.shelves.specs.Shelves.{Shelf}
 use Rattle.keepers.specs.Change.{with_voucher}
 use Rattle.keepers.specs.Tables.{Tables}
 use Rattle.charging.specs.Stepping.{Answers, is_unaccepted}
-use Rattle.charging.proofs.Serving.{left_as, served-as}
-use Rattle.charging.proofs.Vouchered.{add-told, add-done}
-use Rattle.charging.proofs.Refused.{not_told}
+use Rattle.charging.proofs.outcomes.Serving.{left_as, served-as}
+use Rattle.charging.proofs.outcomes.Vouchered.{add-told, add-done}
+use Rattle.charging.proofs.outcomes.Refused.{not_told}
 use Rattle.charging.proofs.voucher_commands.add_voucher.Goals as goal
 use Rattle.charging.proofs.voucher_commands.add_voucher.Goals.{After-add_voucher}
 

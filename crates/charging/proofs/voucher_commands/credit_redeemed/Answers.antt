@@ -9,10 +9,10 @@ use Rattle.keepers.specs.Change.{IsLoad}
 use Rattle.keepers.specs.Tables.{Tables}
 use Rattle.charging.specs.Outcomes.{book_days}
 use Rattle.charging.specs.Stepping.{Answers, Commits}
-use Rattle.charging.proofs.Serving.{left_as, served-by, served-as}
-use Rattle.charging.proofs.Operated.{made_change, made_tells}
-use Rattle.charging.proofs.Vouchered.{redeem-told, redeem-done}
-use Rattle.charging.proofs.Refused.{accepted_given}
+use Rattle.charging.proofs.outcomes.Serving.{left_as, served-by, served-as}
+use Rattle.charging.proofs.outcomes.Operated.{made_change, made_tells}
+use Rattle.charging.proofs.outcomes.Vouchered.{redeem-told, redeem-done}
+use Rattle.charging.proofs.outcomes.Refused.{accepted_given}
 use Rattle.charging.proofs.voucher_commands.credit_redeemed.Goals as goal
 use Rattle.charging.proofs.voucher_commands.credit_redeemed.Goals.{After-commit}
 

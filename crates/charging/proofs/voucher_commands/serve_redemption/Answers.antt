@@ -8,8 +8,8 @@ use Rattle.keepers.specs.Change.{IsLoad}
 use Rattle.keepers.specs.Tables.{Tables}
 use Rattle.charging.specs.Outcomes.{book_days}
 use Rattle.charging.specs.Stepping.{ServesAt, WritesAt, LeavesRefused}
-use Rattle.charging.proofs.Serving.{left_as, none_loaded, some_loaded, served-as}
-use Rattle.charging.proofs.Vouchered.{redeem-unknown, redeem-again, redeem-refused}
+use Rattle.charging.proofs.outcomes.Serving.{left_as, none_loaded, some_loaded, served-as}
+use Rattle.charging.proofs.outcomes.Vouchered.{redeem-unknown, redeem-again, redeem-refused}
 use Rattle.charging.proofs.voucher_commands.serve_redemption.Goals as goal
 use Rattle.charging.proofs.voucher_commands.serve_redemption.Goals.{After-credit_redeemed}
 

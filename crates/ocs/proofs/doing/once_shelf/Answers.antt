@@ -3,7 +3,7 @@ use Rattle.std.proofs.lemmas.Result.{IfOk-weaker}
 use Rattle.tariffs.specs.Books.{Book}
 use Rattle.tariffs.specs.OnceBook.{once_book}
 use Rattle.shelves.specs.Shelves.{one_book}
-use Rattle.sql_keeper.proofs.HandedOn.{value_handed}
+use Rattle.sql_keeper.proofs.reads.HandedOn.{value_handed}
 use Rattle.ocs.proofs.doing.once_shelf.Goals as goal
 
 pub returns : goal.returns

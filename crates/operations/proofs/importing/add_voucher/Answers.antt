@@ -2,7 +2,7 @@ use Rattle.std.proofs.Common.{subst}
 use Rattle.commands.specs.declared.command.Command.TheVariants.{AddVoucher}
 use Rattle.keepers.specs.Tables.{Tables}
 use Rattle.charging.specs.Served.{Writes}
-use Rattle.charging.proofs.Serving.{left_as}
+use Rattle.charging.proofs.outcomes.Serving.{left_as}
 use Rattle.operations.proofs.ImportLemmas.{added}
 use Rattle.operations.proofs.importing.add_voucher.Goals as goal
 

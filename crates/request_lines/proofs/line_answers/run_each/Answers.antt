@@ -1,4 +1,4 @@
-use Rattle.charging.proofs.Promised.{related}
+use Rattle.charging.proofs.runs.Promised.{related}
 use Rattle.request_lines.proofs.line_answers.run_each.Goals as goal
 
 pub returns : goal.returns

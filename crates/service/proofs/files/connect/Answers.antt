@@ -1,4 +1,4 @@
-use Rattle.sql_keeper.proofs.HandedOn.{value_handed}
+use Rattle.sql_keeper.proofs.reads.HandedOn.{value_handed}
 use Rattle.service.proofs.files.connect.Goals as goal
 
 pub returns-clause-opened : goal.returns-clause-opened

@@ -1,6 +1,6 @@
 use Rattle.std.proofs.lemmas.Result.{IfOk-weaker}
 use Rattle.sqlite_wal.specs.Files.{image_at}
-use Rattle.sql_keeper.proofs.HandedOn.{value_handed}
+use Rattle.sql_keeper.proofs.reads.HandedOn.{value_handed}
 use Rattle.service.proofs.MakingLemmas.{not_made_told}
 use Rattle.service.proofs.OverLemmas.{made_fresh, made_in}
 use Rattle.service.proofs.making.make_over.Goals as goal

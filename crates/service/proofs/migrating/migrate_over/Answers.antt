@@ -1,6 +1,6 @@
 use Rattle.std.proofs.lemmas.Result.{IfOk-weaker}
 use Rattle.sqlite_wal.specs.Files.{image_at}
-use Rattle.sql_keeper.proofs.HandedOn.{value_handed}
+use Rattle.sql_keeper.proofs.reads.HandedOn.{value_handed}
 use Rattle.service.proofs.OverLemmas.{migrated_fresh, migrated_in}
 use Rattle.service.proofs.UnopenedFaults.{unopened_told}
 use Rattle.service.proofs.migrating.migrate_over.Goals as goal

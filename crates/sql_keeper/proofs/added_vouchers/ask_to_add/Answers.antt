@@ -1,6 +1,6 @@
 use Rattle.sqlite.specs.Held.{state}
-use Rattle.sql_keeper.proofs.SeenRows.{stands_after}
-use Rattle.sql_keeper.proofs.StillOpen.{committed_standing, standing_shut}
+use Rattle.sql_keeper.proofs.kept.SeenRows.{stands_after}
+use Rattle.sql_keeper.proofs.stops.StillOpen.{committed_standing, standing_shut}
 use Rattle.sql_keeper.proofs.added_vouchers.ask_to_add.Goals as goal
 
 pub make_addition-requires-clause-is_there : goal.make_addition-requires-clause-is_there

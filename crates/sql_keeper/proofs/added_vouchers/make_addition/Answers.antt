@@ -1,7 +1,8 @@
 use Rattle.std.proofs.Common.{arith, sym}
 use Rattle.std.proofs.lemmas.Result.{err_from_is_err_and}
 use Rattle.sqlite.specs.Held.{state}
-use Rattle.sql_keeper.proofs.Added.{become_added, not_put_at_once, put_at_once, refused_at_once}
+use Rattle.sql_keeper.proofs.commits.Added.{become_added, not_put_at_once, put_at_once}
+use Rattle.sql_keeper.proofs.commits.Added.{refused_at_once}
 use Rattle.sql_keeper.proofs.added_vouchers.make_addition.Goals as goal
 
 pub returns-in_err-write_addition-clause-commits : goal.returns-in_err-write_addition-clause-commits

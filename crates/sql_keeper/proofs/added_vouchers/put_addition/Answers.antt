@@ -1,5 +1,5 @@
 use Rattle.std.proofs.Common.{None}
-use Rattle.sql_keeper.proofs.Puts.{puts_addition}
+use Rattle.sql_keeper.proofs.puts.Puts.{puts_addition}
 use Rattle.sql_keeper.proofs.added_vouchers.put_addition.Goals as goal
 
 pub returns-clause-makes : goal.returns-clause-makes

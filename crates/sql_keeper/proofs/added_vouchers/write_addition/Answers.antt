@@ -2,8 +2,8 @@ use Rattle.std.proofs.Common.{◌≡◌, ◌∙◌, subst, sym}
 use Rattle.sqlite.specs.Held.{state}
 use Rattle.sql_keeper.specs.Additions.{with_addition_put}
 use Rattle.sql_keeper.specs.Commits.{Transacts}
-use Rattle.sql_keeper.proofs.Transacted.{transacted}
-use Rattle.sql_keeper.proofs.Whole.{begun_rules}
+use Rattle.sql_keeper.proofs.commits.Transacted.{transacted}
+use Rattle.sql_keeper.proofs.commits.Whole.{begun_rules}
 use Rattle.sql_keeper.proofs.added_vouchers.write_addition.Goals as goal
 
 pub put_addition-requires-clause-rules : goal.put_addition-requires-clause-rules

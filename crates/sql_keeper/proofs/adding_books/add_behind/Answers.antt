@@ -1,4 +1,4 @@
-use Rattle.sql_keeper.proofs.AddedBooks.{behind, fault_told}
+use Rattle.sql_keeper.proofs.shelf.AddedBooks.{behind, fault_told}
 use Rattle.sql_keeper.proofs.adding_books.add_behind.Goals as goal
 
 pub returns-clause-added : goal.returns-clause-added

@@ -1,6 +1,6 @@
 use Rattle.std.proofs.lemmas.Result.{err_from_is_err_and}
 use Rattle.sqlite.specs.Held.{state}
-use Rattle.sql_keeper.proofs.AddedBooks.{all_added, none_written}
+use Rattle.sql_keeper.proofs.shelf.AddedBooks.{all_added, none_written}
 use Rattle.sql_keeper.proofs.adding_books.add_to_all.Goals as goal
 
 pub returns-in_err-write_last-clause-adds : goal.returns-in_err-write_last-clause-adds

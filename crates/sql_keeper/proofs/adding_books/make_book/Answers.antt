@@ -1,6 +1,6 @@
 use Rattle.std.proofs.lemmas.Result.{err_from_is_err_and}
-use Rattle.sql_keeper.proofs.Added.{not_put_at_once, put_at_once}
-use Rattle.sql_keeper.proofs.Dated.{become_dated}
+use Rattle.sql_keeper.proofs.commits.Added.{not_put_at_once, put_at_once}
+use Rattle.sql_keeper.proofs.shelf.Dated.{become_dated}
 use Rattle.sql_keeper.proofs.adding_books.make_book.Goals as goal
 
 pub returns-in_err-write_book-clause-commits : goal.returns-in_err-write_book-clause-commits

@@ -1,6 +1,6 @@
 use Rattle.std.proofs.Common.{refl}
 use Rattle.sqlite.specs.Held.{state}
-use Rattle.sql_keeper.proofs.StillOpen.{asked_none, asked_shut}
+use Rattle.sql_keeper.proofs.stops.StillOpen.{asked_none, asked_shut}
 use Rattle.sql_keeper.proofs.asking.ask_for_last.Goals as goal
 
 pub returns-in_err-still_open : goal.returns-in_err-still_open

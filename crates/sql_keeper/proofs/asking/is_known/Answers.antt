@@ -1,5 +1,5 @@
 use Rattle.sqlite.specs.Held.{state}
-use Rattle.sql_keeper.proofs.SeenRows.{known_read}
+use Rattle.sql_keeper.proofs.kept.SeenRows.{known_read}
 use Rattle.sql_keeper.proofs.asking.is_known.Goals as goal
 
 pub returns : goal.returns

@@ -1,8 +1,8 @@
 use Rattle.std.proofs.Common.{map, sym, ◌∙◌}
 use Rattle.std.proofs.lemmas.Result.{err_from_is_err_and}
 use Rattle.sql_rows.specs.Texts.{book_at}
-use Rattle.sql_keeper.proofs.Shelving.{all_shelved, none_numbered, one_shelved, other_refused}
-use Rattle.sql_keeper.proofs.Shelving.{own_refused, some_numbered}
+use Rattle.sql_keeper.proofs.shelf.Shelving.{all_shelved, none_numbered, one_shelved, other_refused}
+use Rattle.sql_keeper.proofs.shelf.Shelving.{own_refused, some_numbered}
 use Rattle.sql_keeper.proofs.books.add_rows.Goals as goal
 
 pub returns-in_default-clause-shelved : goal.returns-in_default-clause-shelved

@@ -1,6 +1,6 @@
 use Rattle.std.proofs.Common.{◌≡◌, map}
 use Rattle.sql_rows.specs.Texts.{book_at}
-use Rattle.sql_keeper.proofs.Shelving.{AreShelvedTo}
+use Rattle.sql_keeper.proofs.shelf.Shelving.{AreShelvedTo}
 use Rattle.sql_keeper.proofs.books.add_rows.Given as goal
 
 abbrev pub invariant-numbers : goal.invariant-numbers

@@ -1,6 +1,6 @@
 use Rattle.std.proofs.Common.{refl}
 use Rattle.std.proofs.lemmas.Result.{err_from_is_err_and}
-use Rattle.sql_keeper.proofs.BookTexts.{memory_fault}
+use Rattle.sql_keeper.proofs.shelf.BookTexts.{memory_fault}
 use Rattle.sql_keeper.proofs.books.kept_text.Goals as goal
 
 pub returns-in_err-from_str-clause-fault : goal.returns-in_err-from_str-clause-fault

@@ -3,7 +3,7 @@ use Rattle.std.proofs.lemmas.Result.{IfOk-weaker}
 use Rattle.shelves.specs.Shelves.{Shelf, one_book}
 use Rattle.tariffs.specs.Books.{Book}
 use Rattle.sql_keeper.specs.Books.{IsBookOf}
-use Rattle.sql_keeper.proofs.HandedOn.{value_handed}
+use Rattle.sql_keeper.proofs.reads.HandedOn.{value_handed}
 use Rattle.sql_keeper.proofs.books.read_shelf.Goals as goal
 
 pub returns-clause-read : goal.returns-clause-read

@@ -1,7 +1,7 @@
 use Rattle.std.proofs.Common.{◌∙◌, map}
 use Rattle.shelves.specs.Shelves.{count}
 use Rattle.sql_rows.specs.Texts.{book_at}
-use Rattle.sql_keeper.proofs.Shelving.{no_shelf_read, shelf_read, up_is}
+use Rattle.sql_keeper.proofs.shelf.Shelving.{no_shelf_read, shelf_read, up_is}
 use Rattle.sql_keeper.proofs.books.read_shelves.Goals as goal
 
 pub returns-then-not-are_up_to-clause-rules : goal.returns-then-not-are_up_to-clause-rules

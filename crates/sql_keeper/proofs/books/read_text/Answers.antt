@@ -1,4 +1,4 @@
-use Rattle.sql_keeper.proofs.BookTexts.{book_told, fault_told, same_told}
+use Rattle.sql_keeper.proofs.shelf.BookTexts.{book_told, fault_told, same_told}
 use Rattle.sql_keeper.proofs.books.read_text.Goals as goal
 
 pub returns-clause-read : goal.returns-clause-read

@@ -1,5 +1,5 @@
 use Rattle.sqlite.specs.Held.{state}
-use Rattle.sql_keeper.proofs.BucketNumbers.{none_there, not_new, one_there}
+use Rattle.sql_keeper.proofs.reads.BucketNumbers.{none_there, not_new, one_there}
 use Rattle.sql_keeper.proofs.bucket_numbers.test_bucket.Goals as goal
 
 pub returns-then-number-first : goal.returns-then-number-first

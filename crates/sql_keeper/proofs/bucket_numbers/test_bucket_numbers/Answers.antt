@@ -1,5 +1,5 @@
 use Rattle.sqlite.specs.Held.{state}
-use Rattle.sql_keeper.proofs.BucketNumbers.{from_head}
+use Rattle.sql_keeper.proofs.reads.BucketNumbers.{from_head}
 use Rattle.sql_keeper.proofs.bucket_numbers.test_bucket_numbers.Goals as goal
 
 pub returns : goal.returns

@@ -1,7 +1,7 @@
 use Rattle.std.proofs.Common.{arith}
 use Rattle.sqlite.specs.Held.{state}
-use Rattle.sql_keeper.proofs.BucketNumbers.{all_tested, next_tested, none_tested}
-use Rattle.sql_keeper.proofs.InTurn.{failed_then}
+use Rattle.sql_keeper.proofs.reads.BucketNumbers.{all_tested, next_tested, none_tested}
+use Rattle.sql_keeper.proofs.reads.InTurn.{failed_then}
 use Rattle.sql_keeper.proofs.bucket_numbers.test_buckets.Goals as goal
 
 pub rows-init : goal.rows-init

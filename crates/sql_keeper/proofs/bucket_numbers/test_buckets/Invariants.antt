@@ -1,6 +1,6 @@
 use Rattle.std.proofs.Common.{take}
 use Rattle.sqlite.specs.Held.{state}
-use Rattle.sql_keeper.proofs.BucketNumbers.{HaveTested}
+use Rattle.sql_keeper.proofs.reads.BucketNumbers.{HaveTested}
 use Rattle.sql_keeper.proofs.bucket_numbers.test_buckets.Given as goal
 
 abbrev pub invariant-rows : goal.invariant-rows

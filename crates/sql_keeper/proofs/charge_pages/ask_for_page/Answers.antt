@@ -1,5 +1,5 @@
 use Rattle.sqlite.specs.Held.{state}
-use Rattle.sql_keeper.proofs.StillOpen.{asked_several, asked_shut}
+use Rattle.sql_keeper.proofs.stops.StillOpen.{asked_several, asked_shut}
 use Rattle.sql_keeper.proofs.charge_pages.ask_for_page.Goals as goal
 
 pub returns-in_err-still_open : goal.returns-in_err-still_open

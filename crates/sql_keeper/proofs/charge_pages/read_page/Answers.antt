@@ -3,8 +3,8 @@ use Rattle.std.specs.Prelude.{nat_le}
 use Rattle.sqlite.specs.Held.{state}
 use Rattle.keepers.specs.declared.pages.ChargePage.{ChargePage}
 use Rattle.sql_rows.specs.Content.{rows_in}
-use Rattle.sql_keeper.proofs.ChargePages.{page_told}
-use Rattle.sql_keeper.proofs.Told.{made_of, one_tells, several_tell, tell_both}
+use Rattle.sql_keeper.proofs.reads.ChargePages.{page_told}
+use Rattle.sql_keeper.proofs.reads.Told.{made_of, one_tells, several_tell, tell_both}
 use Rattle.sql_keeper.proofs.charge_pages.read_page.Goals as goal
 
 pub returns : goal.returns

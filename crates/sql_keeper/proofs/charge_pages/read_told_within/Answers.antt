@@ -2,8 +2,8 @@ use Rattle.std.proofs.Common.{◌∙◌, Ok, ap, map}
 use Rattle.sqlite.specs.Held.{state}
 use Rattle.sql_rows.specs.Content.{rows_in}
 use Rattle.sql_keeper.specs.Covered.{covered_charge}
-use Rattle.sql_keeper.proofs.ChargePages.{rise_with, told_with}
-use Rattle.sql_keeper.proofs.Told.{made_of, one_tells, tell_both}
+use Rattle.sql_keeper.proofs.reads.ChargePages.{rise_with, told_with}
+use Rattle.sql_keeper.proofs.reads.Told.{made_of, one_tells, tell_both}
 use Rattle.sql_keeper.proofs.charge_pages.read_told_within.Goals as goal
 
 pub returns-clause-reads : goal.returns-clause-reads

@@ -2,9 +2,9 @@ use Rattle.sqlite.specs.Held.{state}
 use Rattle.sql_rows.specs.Content.{rows_in}
 use Rattle.sql_keeper.specs.Content.{shelf_names}
 use Rattle.sql_keeper.specs.Numbers.{AreNumbersFree}
-use Rattle.sql_keeper.proofs.KeptRows.{still_kept}
-use Rattle.sql_keeper.proofs.SeenRows.{seen_after, stands_after}
-use Rattle.sql_keeper.proofs.StillOpen.{committed_standing, standing_shut, was_standing}
+use Rattle.sql_keeper.proofs.kept.KeptRows.{still_kept}
+use Rattle.sql_keeper.proofs.kept.SeenRows.{seen_after, stands_after}
+use Rattle.sql_keeper.proofs.stops.StillOpen.{committed_standing, standing_shut, was_standing}
 use Rattle.sql_keeper.proofs.committing.ask_to_change.Goals as goal
 
 pub make_change-requires-clause-seen : goal.make_change-requires-clause-seen

@@ -1,7 +1,7 @@
 use Rattle.std.proofs.Common.{arith}
 use Rattle.std.proofs.lemmas.Result.{err_from_is_err_and}
-use Rattle.sql_keeper.proofs.Commits.{become_at, free_at}
-use Rattle.sql_keeper.proofs.Whole.{written, not_written}
+use Rattle.sql_keeper.proofs.commits.Commits.{become_at, free_at}
+use Rattle.sql_keeper.proofs.commits.Whole.{written, not_written}
 use Rattle.sql_keeper.proofs.committing.make_change.Goals as goal
 
 pub returns-in_err-write_change-clause-commits : goal.returns-in_err-write_change-clause-commits

@@ -7,8 +7,8 @@ use Rattle.sql_keeper.specs.Commits.{Transacts}
 use Rattle.sql_keeper.specs.Content.{shelf_names}
 use Rattle.sql_keeper.specs.Numbers.{LacksThen, WasSo}
 use Rattle.sql_keeper.specs.Writes.{with_change_put}
-use Rattle.sql_keeper.proofs.Transacted.{transacted, was_so}
-use Rattle.sql_keeper.proofs.Whole.{begun_rules}
+use Rattle.sql_keeper.proofs.commits.Transacted.{transacted, was_so}
+use Rattle.sql_keeper.proofs.commits.Whole.{begun_rules}
 use Rattle.sql_keeper.proofs.committing.write_change.Goals as goal
 
 pub put_change-requires-clause-rules : goal.put_change-requires-clause-rules

@@ -1,5 +1,5 @@
 use Rattle.std.proofs.Common.{arith}
-use Rattle.sql_keeper.proofs.CountedRows.{next_live}
+use Rattle.sql_keeper.proofs.loads.CountedRows.{next_live}
 use Rattle.sql_keeper.proofs.counted_buckets.counted_from.Goals as goal
 
 pub rows-preserved : goal.rows-preserved

@@ -1,6 +1,6 @@
 use Rattle.std.proofs.Common.{◌∙◌, arith}
 use Rattle.sql_keeper.specs.Writes.{with_counted_over}
-use Rattle.sql_rows.proofs.Each.{put_next}
+use Rattle.sql_rows.proofs.puts.Each.{put_next}
 use Rattle.sql_keeper.proofs.counted_buckets.put_counted_over.Goals as goal
 
 pub rows-preserved : goal.rows-preserved

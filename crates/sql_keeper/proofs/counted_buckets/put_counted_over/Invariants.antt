@@ -1,7 +1,7 @@
 use Rattle.std.proofs.Common.{◌≡◌, drop}
 use Rattle.sqlite.specs.Held.{state}
 use Rattle.sql_keeper.specs.Writes.{with_counted_over}
-use Rattle.sql_rows.proofs.Each.{HasPut}
+use Rattle.sql_rows.proofs.puts.Each.{HasPut}
 use Rattle.sql_keeper.proofs.counted_buckets.put_counted_over.Given as goal
 
 abbrev pub invariant-rows : goal.invariant-rows

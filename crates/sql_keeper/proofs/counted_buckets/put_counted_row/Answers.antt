@@ -1,5 +1,5 @@
 use Rattle.std.proofs.Common.{sym}
-use Rattle.sql_keeper.proofs.KeptKinds.{over_known, over_unknown}
+use Rattle.sql_keeper.proofs.puts.KeptKinds.{over_known, over_unknown}
 use Rattle.sql_keeper.proofs.counted_buckets.put_counted_row.Goals as goal
 
 pub returns-then-is_counted-clause-makes : goal.returns-then-is_counted-clause-makes

@@ -1,7 +1,7 @@
 use Rattle.sql_rows.specs.Content.{with_bucket, with_rows}
 use Rattle.sql_rows.specs.Values.{plain_bucket}
 use Rattle.sql_keeper.specs.Writes.{with_scoped}
-use Rattle.sql_keeper.proofs.Puts.{makes_all_then}
+use Rattle.sql_keeper.proofs.puts.Puts.{makes_all_then}
 use Rattle.sql_keeper.proofs.counted_buckets.put_with_kind.Goals as goal
 
 pub returns-clause-makes : goal.returns-clause-makes

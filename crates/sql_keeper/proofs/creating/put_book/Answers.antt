@@ -1,4 +1,4 @@
-use Rattle.sql_keeper.proofs.Empty.{builds_book}
+use Rattle.sql_keeper.proofs.openings.Empty.{builds_book}
 use Rattle.sql_keeper.proofs.creating.put_book.Goals as goal
 
 pub returns-clause-makes : goal.returns-clause-makes

@@ -1,7 +1,7 @@
 use Rattle.sqlite.specs.Held.{state}
 use Rattle.sql_rows.specs.Content.{rows_in}
-use Rattle.sql_keeper.proofs.CountedRows.{dead_made}
-use Rattle.sql_keeper.proofs.Told.{made_of, one_tells, tell_both}
+use Rattle.sql_keeper.proofs.loads.CountedRows.{dead_made}
+use Rattle.sql_keeper.proofs.reads.Told.{made_of, one_tells, tell_both}
 use Rattle.sql_keeper.proofs.dead.dead_of.Goals as goal
 
 pub returns : goal.returns

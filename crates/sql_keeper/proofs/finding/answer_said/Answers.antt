@@ -1,4 +1,4 @@
-use Rattle.sql_keeper.proofs.HandedOn.{value_handed}
+use Rattle.sql_keeper.proofs.reads.HandedOn.{value_handed}
 use Rattle.sql_keeper.proofs.finding.answer_said.Goals as goal
 
 pub returns : goal.returns

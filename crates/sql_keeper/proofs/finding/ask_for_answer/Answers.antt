@@ -1,5 +1,5 @@
 use Rattle.sqlite.specs.Held.{state}
-use Rattle.sql_keeper.proofs.StillOpen.{asked_once, asked_shut}
+use Rattle.sql_keeper.proofs.stops.StillOpen.{asked_once, asked_shut}
 use Rattle.sql_keeper.proofs.finding.ask_for_answer.Goals as goal
 
 pub returns-in_err-still_open : goal.returns-in_err-still_open

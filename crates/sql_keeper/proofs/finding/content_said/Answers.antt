@@ -1,6 +1,6 @@
 use Rattle.std.proofs.Common.{◌≡◌, rules, subst, IfOk, Ok}
 use Rattle.wire.specs.Contents.{content_of}
-use Rattle.sql_keeper.proofs.HandedOn.{value_handed}
+use Rattle.sql_keeper.proofs.reads.HandedOn.{value_handed}
 use Rattle.sql_keeper.proofs.finding.content_said.Goals as goal
 
 pub returns : goal.returns

@@ -1,6 +1,6 @@
 use Rattle.std.proofs.Common.{sym}
 use Rattle.sql_keeper.specs.Content.{shelf_names}
-use Rattle.sql_keeper.proofs.KeptGroups.{over_held, over_kept}
+use Rattle.sql_keeper.proofs.puts.KeptGroups.{over_held, over_kept}
 use Rattle.sql_keeper.proofs.held_groups.put_group_over.Goals as goal
 
 pub returns-then-is_kept-clause-makes : goal.returns-then-is_kept-clause-makes

@@ -1,7 +1,7 @@
 use Rattle.std.proofs.Common.{◌∙◌, arith}
 use Rattle.sql_keeper.specs.Content.{shelf_names}
 use Rattle.sql_keeper.specs.Writes.{with_group_over}
-use Rattle.sql_rows.proofs.Each.{put_next}
+use Rattle.sql_rows.proofs.puts.Each.{put_next}
 use Rattle.sql_keeper.proofs.held_groups.put_groups_over.Goals as goal
 
 pub rows-preserved : goal.rows-preserved

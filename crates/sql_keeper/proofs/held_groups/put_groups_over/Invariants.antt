@@ -2,7 +2,7 @@ use Rattle.std.proofs.Common.{◌≡◌, drop}
 use Rattle.sqlite.specs.Held.{state}
 use Rattle.sql_keeper.specs.Content.{shelf_names}
 use Rattle.sql_keeper.specs.Writes.{with_group_over}
-use Rattle.sql_rows.proofs.Each.{HasPut}
+use Rattle.sql_rows.proofs.puts.Each.{HasPut}
 use Rattle.sql_keeper.proofs.held_groups.put_groups_over.Given as goal
 
 abbrev pub invariant-rows : goal.invariant-rows

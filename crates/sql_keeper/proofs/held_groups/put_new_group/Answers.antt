@@ -5,7 +5,7 @@ use Rattle.sql_rows.specs.Content.{with_group_row, with_rows}
 use Rattle.sql_rows.specs.Each.{with_holds}
 use Rattle.sql_keeper.specs.Content.{shelf_names}
 use Rattle.sql_keeper.specs.Writes.{columns_of, with_new_book}
-use Rattle.sql_keeper.proofs.Puts.{makes_all_then, makes_failed}
+use Rattle.sql_keeper.proofs.puts.Puts.{makes_all_then, makes_failed}
 use Rattle.sql_keeper.proofs.held_groups.put_new_group.Goals as goal
 
 pub returns-clause-makes : goal.returns-clause-makes

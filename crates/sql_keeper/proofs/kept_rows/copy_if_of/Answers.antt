@@ -3,9 +3,9 @@ use Rattle.std.specs.Prelude.{IfSome}
 use Rattle.sql_rows.specs.Content.{rows_in}
 use Rattle.sql_keeper.specs.KeptRows.{AreOf}
 use Rattle.sql_keeper.specs.declared.live_rows.LiveRows.{LiveRows}
-use Rattle.sql_keeper.proofs.HandedOn.{value_taken}
-use Rattle.sql_keeper.proofs.KeptRows.{copied}
-use Rattle.sql_keeper.proofs.SeenRows.{of_account}
+use Rattle.sql_keeper.proofs.reads.HandedOn.{value_taken}
+use Rattle.sql_keeper.proofs.kept.KeptRows.{copied}
+use Rattle.sql_keeper.proofs.kept.SeenRows.{of_account}
 use Rattle.sql_keeper.proofs.kept_rows.copy_if_of.Goals as goal
 
 pub returns : goal.returns

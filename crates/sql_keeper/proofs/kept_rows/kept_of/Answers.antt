@@ -1,8 +1,8 @@
 use Rattle.std.proofs.Common.{Option}
 use Rattle.sql_keeper.specs.KeptRows.{Keeps}
 use Rattle.sql_keeper.specs.declared.kept_rows.KeptRows.{KeptRows}
-use Rattle.sql_keeper.proofs.HandedOn.{value_taken}
-use Rattle.sql_keeper.proofs.KeptRows.{kept_loaded}
+use Rattle.sql_keeper.proofs.reads.HandedOn.{value_taken}
+use Rattle.sql_keeper.proofs.kept.KeptRows.{kept_loaded}
 use Rattle.sql_keeper.proofs.kept_rows.kept_of.Goals as goal
 
 pub returns : goal.returns

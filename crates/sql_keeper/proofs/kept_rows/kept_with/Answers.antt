@@ -1,6 +1,6 @@
 use Rattle.std.proofs.Common.{rules}
 use Rattle.sql_keeper.specs.KeptRows.{AreReplaced, is_unknown_in}
-use Rattle.sql_keeper.proofs.KeptRows.{kept_changed}
+use Rattle.sql_keeper.proofs.kept.KeptRows.{kept_changed}
 use Rattle.sql_keeper.proofs.kept_rows.kept_with.Goals as goal
 
 pub returns : goal.returns

@@ -1,4 +1,4 @@
-use Rattle.sql_keeper.proofs.Stopped.{opened_again}
+use Rattle.sql_keeper.proofs.stops.Stopped.{opened_again}
 use Rattle.sql_keeper.proofs.laws.a_stop_is_opened_again.Goals as goal
 
 pub returns : goal.returns

@@ -1,4 +1,4 @@
-use Rattle.sql_keeper.proofs.Stopped.{are_stopped_whole}
+use Rattle.sql_keeper.proofs.stops.Stopped.{are_stopped_whole}
 use Rattle.sql_keeper.proofs.laws.a_stopped_command_is_whole.Goals as goal
 
 pub returns : goal.returns

@@ -1,4 +1,4 @@
-use Rattle.sql_keeper.proofs.Held.{found_again}
+use Rattle.sql_keeper.proofs.openings.Held.{found_again}
 use Rattle.sql_keeper.proofs.laws.left_tables_are_found.Goals as goal
 
 pub returns : goal.returns

@@ -1,4 +1,4 @@
-use Rattle.sql_keeper.proofs.OneShelf.{one_shelf}
+use Rattle.sql_keeper.proofs.shelf.OneShelf.{one_shelf}
 use Rattle.sql_keeper.proofs.laws.shelves_are_one.Goals as goal
 
 pub returns : goal.returns

@@ -5,8 +5,8 @@ use Rattle.buckets.specs.Row.{BucketRow}
 use Rattle.buckets.specs.Spend.{AreDistinct}
 use Rattle.sql_rows.specs.Content.{rows_in}
 use Rattle.sql_rows.specs.Texts.{open_group_at}
-use Rattle.sql_keeper.proofs.GroupRows.{live_groups}
-use Rattle.sql_keeper.proofs.Told.{made_of, one_tells}
+use Rattle.sql_keeper.proofs.loads.GroupRows.{live_groups}
+use Rattle.sql_keeper.proofs.reads.Told.{made_of, one_tells}
 use Rattle.sql_keeper.proofs.live_groups.read_live_groups.Goals as goal
 use Rattle.sql_keeper.specs.Content.{shelf_names}
 

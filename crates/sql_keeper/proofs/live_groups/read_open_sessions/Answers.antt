@@ -3,8 +3,8 @@ use Rattle.sqlite.specs.Held.{state}
 use Rattle.reserving.proofs.Lists.{is_nothing}
 use Rattle.sql_rows.specs.Content.{rows_in}
 use Rattle.sql_keeper.specs.Content.{shelf_names}
-use Rattle.sql_keeper.proofs.InTurn.{gathers_from, have_read}
-use Rattle.sql_keeper.proofs.LiveGroups.{none_open}
+use Rattle.sql_keeper.proofs.reads.InTurn.{gathers_from, have_read}
+use Rattle.sql_keeper.proofs.loads.LiveGroups.{none_open}
 use Rattle.sql_keeper.proofs.live_groups.read_open_sessions.Goals as goal
 
 pub returns-then-is_none : goal.returns-then-is_none

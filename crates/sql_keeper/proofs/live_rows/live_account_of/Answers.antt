@@ -1,6 +1,6 @@
 use Rattle.std.proofs.Common.{subst}
 use Rattle.sql_keeper.specs.LiveRows.{IsReadAccount}
-use Rattle.sql_keeper.proofs.LiveRows.{live_read}
+use Rattle.sql_keeper.proofs.loads.LiveRows.{live_read}
 use Rattle.sql_keeper.proofs.live_rows.live_account_of.Goals as goal
 
 pub returns-in_default : goal.returns-in_default

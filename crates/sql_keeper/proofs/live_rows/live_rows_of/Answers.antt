@@ -4,7 +4,7 @@ use Rattle.sqlite.specs.Held.{state}
 use Rattle.sql_rows.specs.Content.{rows_in}
 use Rattle.sql_keeper.specs.Content.{shelf_names}
 use Rattle.sql_keeper.specs.KeptRows.{AreOf}
-use Rattle.sql_keeper.proofs.KeptRows.{told_kept}
+use Rattle.sql_keeper.proofs.kept.KeptRows.{told_kept}
 use Rattle.sql_keeper.proofs.live_rows.live_rows_of.Goals as goal
 
 pub returns-in-Some : goal.returns-in-Some

@@ -1,8 +1,8 @@
 use Rattle.std.proofs.lemmas.Result.{IfOk-weaker}
 use Rattle.sqlite.specs.Held.{state}
 use Rattle.sql_rows.specs.Content.{rows_in}
-use Rattle.sql_keeper.proofs.Repeating.{first_told}
-use Rattle.sql_keeper.proofs.Told.{made_of, one_tells}
+use Rattle.sql_keeper.proofs.reads.Repeating.{first_told}
+use Rattle.sql_keeper.proofs.reads.Told.{made_of, one_tells}
 use Rattle.sql_keeper.proofs.live_rows.read_cycles.Goals as goal
 
 pub returns : goal.returns

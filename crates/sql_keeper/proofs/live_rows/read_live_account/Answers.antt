@@ -1,6 +1,6 @@
 use Rattle.sqlite.specs.Held.{state}
 use Rattle.sql_rows.specs.Content.{rows_in}
-use Rattle.sql_keeper.proofs.InTurn.{gathers_made}
+use Rattle.sql_keeper.proofs.reads.InTurn.{gathers_made}
 use Rattle.sql_keeper.proofs.live_rows.read_live_account.Goals as goal
 use Rattle.sql_keeper.specs.Content.{shelf_names}
 

@@ -1,5 +1,5 @@
 use Rattle.sqlite.specs.Held.{state}
-use Rattle.sql_keeper.proofs.Told.{made_of, several_tell, tell_both}
+use Rattle.sql_keeper.proofs.reads.Told.{made_of, several_tell, tell_both}
 use Rattle.sql_keeper.proofs.live_rows.read_live_rows.Goals as goal
 
 pub returns : goal.returns

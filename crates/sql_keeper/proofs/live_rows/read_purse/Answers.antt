@@ -1,7 +1,7 @@
 use Rattle.sqlite.specs.Held.{state}
 use Rattle.sql_rows.specs.Content.{rows_in}
-use Rattle.sql_keeper.proofs.CountedRows.{purse_told}
-use Rattle.sql_keeper.proofs.Told.{made_of, one_tells}
+use Rattle.sql_keeper.proofs.loads.CountedRows.{purse_told}
+use Rattle.sql_keeper.proofs.reads.Told.{made_of, one_tells}
 use Rattle.sql_keeper.proofs.live_rows.read_purse.Goals as goal
 
 pub returns : goal.returns

@@ -1,8 +1,8 @@
 use Rattle.std.proofs.Common.{sym, ◌∙◌}
 use Rattle.sqlite.specs.Held.{state}
 use Rattle.sql_keeper.specs.Content.{shelf_names}
-use Rattle.sql_keeper.proofs.KeptRows.{still_kept}
-use Rattle.sql_keeper.proofs.Told.{made_of, several_tell, tell_both}
+use Rattle.sql_keeper.proofs.kept.KeptRows.{still_kept}
+use Rattle.sql_keeper.proofs.reads.Told.{made_of, several_tell, tell_both}
 use Rattle.sql_keeper.proofs.live_rows.read_rows_at.Goals as goal
 
 pub live_rows_of-requires-clause-kept : goal.live_rows_of-requires-clause-kept

@@ -5,8 +5,8 @@ use Rattle.buckets.specs.Row.{BucketRow}
 use Rattle.buckets.specs.Spend.{AreDistinct}
 use Rattle.sql_rows.specs.Content.{rows_in}
 use Rattle.sql_rows.specs.Texts.{open_group_at}
-use Rattle.sql_rows.proofs.Within.{within_made}
-use Rattle.sql_keeper.proofs.GroupRows.{live_groups}
+use Rattle.sql_rows.proofs.queries.Within.{within_made}
+use Rattle.sql_keeper.proofs.loads.GroupRows.{live_groups}
 use Rattle.sql_keeper.proofs.live_within.read_groups_within.Goals as goal
 use Rattle.sql_keeper.specs.Content.{shelf_names}
 

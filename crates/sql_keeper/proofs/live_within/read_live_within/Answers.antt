@@ -1,5 +1,6 @@
 use Rattle.sqlite.specs.Held.{state}
-use Rattle.sql_rows.proofs.Within.{book_still, failed_within, have_within, rules_still, within_both}
+use Rattle.sql_rows.proofs.queries.Within.{book_still, failed_within, have_within, rules_still}
+use Rattle.sql_rows.proofs.queries.Within.{within_both}
 use Rattle.sql_keeper.proofs.live_within.read_live_within.Goals as goal
 
 pub read_sessions_within-requires-clause-book : goal.read_sessions_within-requires-clause-book

@@ -1,7 +1,7 @@
 use Rattle.sqlite.specs.Held.{state}
 use Rattle.sql_rows.specs.Content.{rows_in}
-use Rattle.sql_rows.proofs.Within.{within_made}
-use Rattle.sql_keeper.proofs.CountedRows.{purse_told}
+use Rattle.sql_rows.proofs.queries.Within.{within_made}
+use Rattle.sql_keeper.proofs.loads.CountedRows.{purse_told}
 use Rattle.sql_keeper.proofs.live_within.read_purse_within.Goals as goal
 
 pub returns-clause-reads : goal.returns-clause-reads

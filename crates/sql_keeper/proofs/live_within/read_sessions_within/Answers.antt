@@ -2,10 +2,10 @@ use Rattle.std.proofs.Common.{◌∙◌, sym}
 use Rattle.sqlite.specs.Held.{state}
 use Rattle.reserving.proofs.Lists.{is_nothing}
 use Rattle.sql_rows.specs.Content.{rows_in}
-use Rattle.sql_rows.proofs.Within.{book_still, failed_within, have_within, rules_still, within_both}
-use Rattle.sql_rows.proofs.Within.{within_made}
+use Rattle.sql_rows.proofs.queries.Within.{book_still, failed_within, have_within, rules_still}
+use Rattle.sql_rows.proofs.queries.Within.{within_both, within_made}
 use Rattle.sql_keeper.specs.Content.{shelf_names}
-use Rattle.sql_keeper.proofs.LiveGroups.{none_open}
+use Rattle.sql_keeper.proofs.loads.LiveGroups.{none_open}
 use Rattle.sql_keeper.proofs.live_within.read_sessions_within.Goals as goal
 
 pub read_groups_within-requires-clause-book : goal.read_groups_within-requires-clause-book

@@ -1,9 +1,9 @@
 use Rattle.sqlite.specs.Held.{state}
 use Rattle.sql_rows.specs.Content.{rows_in}
-use Rattle.sql_rows.proofs.Within.{within_made}
+use Rattle.sql_rows.proofs.queries.Within.{within_made}
 use Rattle.sql_keeper.specs.Content.{shelf_names}
 use Rattle.sql_keeper.specs.LiveRows.{without_counters}
-use Rattle.sql_keeper.proofs.LiveRows.{for_each}
+use Rattle.sql_keeper.proofs.loads.LiveRows.{for_each}
 use Rattle.sql_keeper.proofs.live_within.read_uncounted_within.Goals as goal
 
 pub returns-clause-reads : goal.returns-clause-reads

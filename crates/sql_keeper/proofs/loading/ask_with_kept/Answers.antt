@@ -1,7 +1,7 @@
 use Rattle.sqlite.specs.Held.{state}
 use Rattle.sql_keeper.specs.Content.{shelf_names}
-use Rattle.sql_keeper.proofs.KeptRows.{still_kept}
-use Rattle.sql_keeper.proofs.StillOpen.{asked_several, asked_shut}
+use Rattle.sql_keeper.proofs.kept.KeptRows.{still_kept}
+use Rattle.sql_keeper.proofs.stops.StillOpen.{asked_several, asked_shut}
 use Rattle.sql_keeper.proofs.loading.ask_with_kept.Goals as goal
 
 pub load_of-requires-clause-kept : goal.load_of-requires-clause-kept

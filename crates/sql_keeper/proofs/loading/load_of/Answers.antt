@@ -1,7 +1,7 @@
 use Rattle.sqlite.specs.Held.{state}
 use Rattle.sql_rows.specs.Content.{rows_in}
-use Rattle.sql_keeper.proofs.InTurn.{gathers_made}
-use Rattle.sql_keeper.proofs.LiveRows.{load_made}
+use Rattle.sql_keeper.proofs.reads.InTurn.{gathers_made}
+use Rattle.sql_keeper.proofs.loads.LiveRows.{load_made}
 use Rattle.sql_keeper.proofs.loading.load_of.Goals as goal
 use Rattle.sql_keeper.specs.Content.{shelf_names}
 

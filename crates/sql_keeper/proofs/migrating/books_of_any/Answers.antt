@@ -1,9 +1,10 @@
 use Rattle.std.proofs.lemmas.Result.{err_from_is_err_and}
 use Rattle.sqlite.specs.Held.{state}
-use Rattle.sql_keeper.proofs.Causes.{latest_known}
-use Rattle.sql_keeper.proofs.Moved.{any_err, any_latest, any_migrated, any_none, any_unread}
-use Rattle.sql_keeper.proofs.Moved.{any_unruled, below_latest, found_at, latest_schema}
-use Rattle.sql_keeper.proofs.Opens.{idle_book}
+use Rattle.sql_keeper.proofs.openings.Causes.{latest_known}
+use Rattle.sql_keeper.proofs.migrations.Moved.{any_err, any_latest, any_migrated, any_none}
+use Rattle.sql_keeper.proofs.migrations.Moved.{any_unread, any_unruled, below_latest, found_at}
+use Rattle.sql_keeper.proofs.migrations.Moved.{latest_schema}
+use Rattle.sql_keeper.proofs.openings.Opens.{idle_book}
 use Rattle.sql_keeper.proofs.migrating.books_of_any.Goals as goal
 
 pub returns-in_err-version-clause-finds : goal.returns-in_err-version-clause-finds

@@ -1,10 +1,10 @@
 use Rattle.std.proofs.Common.{sym, subst}
 use Rattle.std.proofs.lemmas.Result.{err_from_is_err_and}
 use Rattle.std.proofs.lemmas.Str.{IsUtf8-string_bytes}
-use Rattle.sql_keeper.proofs.Brought.{HasRows, brought, brought_err, made_book, made_first}
-use Rattle.sql_keeper.proofs.Brought.{made_inside, made_rules, meta_read, no_meta, no_rows}
-use Rattle.sql_keeper.proofs.Brought.{no_shelf}
-use Rattle.sql_keeper.proofs.Brought.{not_made, not_put, rows_read}
+use Rattle.sql_keeper.proofs.migrations.Brought.{HasRows, brought, brought_err, made_book}
+use Rattle.sql_keeper.proofs.migrations.Brought.{made_first, made_inside, made_rules, meta_read}
+use Rattle.sql_keeper.proofs.migrations.Brought.{no_meta, no_rows, no_shelf, not_made, not_put}
+use Rattle.sql_keeper.proofs.migrations.Brought.{rows_read}
 use Rattle.sql_keeper.proofs.migrating.bring_to_latest.Goals as goal
 
 pub make_later-requires-clause-known : goal.make_later-requires-clause-known

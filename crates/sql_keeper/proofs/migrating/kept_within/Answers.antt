@@ -1,5 +1,5 @@
-use Rattle.sql_keeper.proofs.MetaFound.{meta_read_within, meta_told, meta_unread_within}
-use Rattle.sql_keeper.proofs.MetaFound.{meta_untold}
+use Rattle.sql_keeper.proofs.openings.MetaFound.{meta_read_within, meta_told, meta_unread_within}
+use Rattle.sql_keeper.proofs.openings.MetaFound.{meta_untold}
 use Rattle.sql_keeper.proofs.migrating.kept_within.Goals as goal
 
 pub returns-in-Ok-clause-reads : goal.returns-in-Ok-clause-reads

@@ -1,7 +1,8 @@
 use Rattle.std.proofs.lemmas.Result.{err_from_is_err_and}
 use Rattle.sqlite.specs.Held.{state}
-use Rattle.sql_keeper.proofs.MovedRuled.{asked, asked_schema, moved_ruled, ruled_err, tested}
-use Rattle.sql_keeper.proofs.MovedRuled.{tested_at, tested_rows, unasked, unshelved, untested_rows}
+use Rattle.sql_keeper.proofs.migrations.MovedRuled.{asked, asked_schema, moved_ruled, ruled_err}
+use Rattle.sql_keeper.proofs.migrations.MovedRuled.{tested, tested_at, tested_rows, unasked}
+use Rattle.sql_keeper.proofs.migrations.MovedRuled.{unshelved, untested_rows}
 use Rattle.sql_keeper.proofs.migrating.migrate_ruled.Goals as goal
 
 pub returns-in_err-read-clause-migrates : goal.returns-in_err-read-clause-migrates

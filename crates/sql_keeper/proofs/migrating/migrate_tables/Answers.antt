@@ -1,7 +1,7 @@
 use Rattle.std.proofs.Common.{◌≡◌, ◌∙◌, sym, subst, Ok, Err}
 use Rattle.sqlite.specs.Held.{state}
 use Rattle.sql_keeper.specs.Migrates.{MigratesTables}
-use Rattle.sql_keeper.proofs.Moved.{begun_ruled, migrated, not_committed}
+use Rattle.sql_keeper.proofs.migrations.Moved.{begun_ruled, migrated, not_committed}
 use Rattle.sql_keeper.proofs.migrating.migrate_tables.Goals as goal
 
 pub bring_to_latest-requires-clause-ruled : goal.bring_to_latest-requires-clause-ruled

@@ -1,6 +1,6 @@
 use Rattle.std.proofs.Common.{sym, arith, ltb-true, ltb-false}
 use Rattle.sqlite.specs.Held.{state}
-use Rattle.sql_keeper.proofs.Granted.{grants_at, grants_none, unruled_at}
+use Rattle.sql_keeper.proofs.migrations.Granted.{grants_at, grants_none, unruled_at}
 use Rattle.sql_keeper.proofs.migrating.put_all_numbers.Goals as goal
 
 pub returns-then-has_no_numbers-clause-makes : goal.returns-then-has_no_numbers-clause-makes

@@ -1,4 +1,4 @@
-use Rattle.sql_keeper.proofs.Granted.{grants_rows, still_book, still_inside}
+use Rattle.sql_keeper.proofs.migrations.Granted.{grants_rows, still_book, still_inside}
 use Rattle.sql_keeper.proofs.migrating.put_first_numbers.Goals as goal
 
 pub put_numbers-requires-clause-open : goal.put_numbers-requires-clause-open

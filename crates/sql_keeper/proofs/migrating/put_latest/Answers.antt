@@ -2,7 +2,7 @@ use Rattle.sql_rows.specs.Content.{with_meta}
 use Rattle.sql_rows.specs.Texts.{meta_of}
 use Rattle.sql_tables.specs.Schema.{latest}
 use Rattle.sql_keeper.specs.Migrates.{with_granted}
-use Rattle.sql_keeper.proofs.Granted.{all_makes_then, puts_meta}
+use Rattle.sql_keeper.proofs.migrations.Granted.{all_makes_then, puts_meta}
 use Rattle.sql_keeper.proofs.migrating.put_latest.Goals as goal
 
 pub returns-clause-makes : goal.returns-clause-makes

@@ -1,7 +1,7 @@
 use Rattle.std.proofs.Common.{◌∙◌, arith}
 use Rattle.sql_rows.specs.Content.{with_grant_book, with_rows}
 use Rattle.sql_rows.specs.declared.reserved_rows.ReservedColumns.{ReservedColumns}
-use Rattle.sql_rows.proofs.Each.{put_next}
+use Rattle.sql_rows.proofs.puts.Each.{put_next}
 use Rattle.sql_keeper.proofs.migrating.put_numbers.Goals as goal
 
 pub rows-preserved : goal.rows-preserved

@@ -2,7 +2,7 @@ use Rattle.std.proofs.Common.{◌≡◌, drop}
 use Rattle.sqlite.specs.Held.{state}
 use Rattle.sql_rows.specs.Content.{with_grant_book, with_rows}
 use Rattle.sql_rows.specs.declared.reserved_rows.ReservedColumns.{ReservedColumns}
-use Rattle.sql_rows.proofs.Each.{HasPut}
+use Rattle.sql_rows.proofs.puts.Each.{HasPut}
 use Rattle.sql_keeper.proofs.migrating.put_numbers.Given as goal
 
 abbrev pub invariant-rows : goal.invariant-rows

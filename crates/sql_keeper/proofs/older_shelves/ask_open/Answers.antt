@@ -1,5 +1,5 @@
 use Rattle.sqlite.specs.Held.{state}
-use Rattle.sql_keeper.proofs.StillOpen.{asked_spares}
+use Rattle.sql_keeper.proofs.stops.StillOpen.{asked_spares}
 use Rattle.sql_keeper.proofs.older_shelves.ask_open.Goals as goal
 
 pub returns-in_err-map_err-clause-spares : goal.returns-in_err-map_err-clause-spares

@@ -1,8 +1,8 @@
 use Rattle.std.proofs.Common.{sym, subst}
 use Rattle.std.proofs.lemmas.Result.{err_from_is_err_and}
-use Rattle.sql_keeper.proofs.Brought.{HasRows, made_book, made_first, made_rules, meta_read}
-use Rattle.sql_keeper.proofs.Brought.{no_meta, no_rows, not_made, rows_read}
-use Rattle.sql_keeper.proofs.Brought.{shelf_err, shelf_read}
+use Rattle.sql_keeper.proofs.migrations.Brought.{HasRows, made_book, made_first, made_rules}
+use Rattle.sql_keeper.proofs.migrations.Brought.{meta_read, no_meta, no_rows, not_made, rows_read}
+use Rattle.sql_keeper.proofs.migrations.Brought.{shelf_err, shelf_read}
 use Rattle.sql_keeper.proofs.older_shelves.shelf_within.Goals as goal
 
 pub make_later-requires-clause-known : goal.make_later-requires-clause-known

@@ -1,7 +1,6 @@
 use Rattle.std.proofs.lemmas.Result.{err_from_is_err_and}
-use Rattle.sql_keeper.proofs.Brought.{asked_err, asks_meta, asks_no_meta, asks_not_made, made_book}
-use Rattle.sql_keeper.proofs.Brought.{made_first}
-use Rattle.sql_keeper.proofs.Brought.{made_rules, meta_read}
+use Rattle.sql_keeper.proofs.migrations.Brought.{asked_err, asks_meta, asks_no_meta, asks_not_made}
+use Rattle.sql_keeper.proofs.migrations.Brought.{made_book, made_first, made_rules, meta_read}
 use Rattle.sql_keeper.proofs.older_versions.ask_version.Goals as goal
 
 pub make_later-requires-clause-known : goal.make_later-requires-clause-known

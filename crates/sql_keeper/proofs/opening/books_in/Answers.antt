@@ -2,8 +2,8 @@ use Rattle.std.proofs.Common.{Err, ap, subst, sym, ◌∙◌}
 use Rattle.std.proofs.lemmas.Result.{err_from_is_err_and}
 use Rattle.sqlite.specs.Held.{state}
 use Rattle.sql_keeper.specs.Finds.{FindsBooks}
-use Rattle.sql_keeper.proofs.Moved.{below_latest, found_at}
-use Rattle.sql_keeper.proofs.Opens.{finds_books, finds_none, finds_older, idle_book}
+use Rattle.sql_keeper.proofs.migrations.Moved.{below_latest, found_at}
+use Rattle.sql_keeper.proofs.openings.Opens.{finds_books, finds_none, finds_older, idle_book}
 use Rattle.sql_keeper.proofs.opening.books_in.Goals as goal
 
 pub latest_books-requires : goal.latest_books-requires

@@ -1,4 +1,4 @@
-use Rattle.sql_keeper.proofs.MetaFound.{meta_read, meta_told, meta_unread, meta_untold}
+use Rattle.sql_keeper.proofs.openings.MetaFound.{meta_read, meta_told, meta_unread, meta_untold}
 use Rattle.sql_keeper.proofs.opening.find_meta.Goals as goal
 
 pub returns-in-Ok-clause-reads : goal.returns-in-Ok-clause-reads

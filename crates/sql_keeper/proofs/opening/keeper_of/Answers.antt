@@ -1,4 +1,4 @@
-use Rattle.sql_keeper.proofs.Made.{keeper_made}
+use Rattle.sql_keeper.proofs.openings.Made.{keeper_made}
 use Rattle.sql_keeper.proofs.opening.keeper_of.Goals as goal
 
 pub invariant_of-keeper : goal.invariant_of-keeper

@@ -2,7 +2,7 @@ use Rattle.std.proofs.Common.{Err, ap, subst, sym, ◌∙◌}
 use Rattle.std.proofs.lemmas.Result.{err_from_is_err_and}
 use Rattle.sqlite.specs.Held.{state}
 use Rattle.sql_keeper.specs.Finds.{ReadsBooks}
-use Rattle.sql_keeper.proofs.Opens.{reads_books, reads_no_books, reads_no_meta}
+use Rattle.sql_keeper.proofs.openings.Opens.{reads_books, reads_no_books, reads_no_meta}
 use Rattle.sql_keeper.proofs.opening.latest_books.Goals as goal
 
 pub returns-in_err-meta-clause-reads : goal.returns-in_err-meta-clause-reads

@@ -4,7 +4,7 @@ use Rattle.std.proofs.lemmas.Result.{IfErr-weaker}
 use Rattle.sql_rows.specs.declared.session_book_rows.SessionBook.{SessionBook}
 use Rattle.reserving.proofs.order.Searched.{Searched, searched}
 use Rattle.sql_keeper.specs.GroupRows.{compare_books, is_book}
-use Rattle.sql_keeper.proofs.BookPlaces.{book_ties, books_ascend, books_total}
+use Rattle.sql_keeper.proofs.loads.BookPlaces.{book_ties, books_ascend, books_total}
 use Rattle.sql_keeper.proofs.own_rows.book_place.Goals as goal
 
 -- a row of the session and group that are looked for

@@ -1,7 +1,7 @@
 use Rattle.std.proofs.Common.{rules, of_calls}
 use Rattle.std.proofs.lemmas.Fn.{always_returns_same}
 use Rattle.sql_keeper.specs.GroupRows.{precedes}
-use Rattle.sql_keeper.proofs.HoldRuns.{parted}
+use Rattle.sql_keeper.proofs.loads.HoldRuns.{parted}
 use Rattle.sql_keeper.proofs.own_rows.first_held.Goals as goal
 
 pub returns-clause-parted : goal.returns-clause-parted

@@ -1,7 +1,7 @@
 use Rattle.std.proofs.Common.{refl, length, ◌∙◌}
 use Rattle.std.proofs.lemmas.Result.{IfOk-weaker}
 use Rattle.std.specs.Prelude.{slice_range}
-use Rattle.sql_keeper.proofs.HoldRuns.{held_from, run_from}
+use Rattle.sql_keeper.proofs.loads.HoldRuns.{held_from, run_from}
 use Rattle.sql_keeper.proofs.own_rows.held_for.Goals as goal
 
 pub run_of-requires : goal.run_of-requires

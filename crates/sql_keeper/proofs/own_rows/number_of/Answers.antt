@@ -1,5 +1,5 @@
 use Rattle.std.proofs.Common.{sym}
-use Rattle.sql_keeper.proofs.BookPlaces.{book_at, no_book}
+use Rattle.sql_keeper.proofs.loads.BookPlaces.{book_at, no_book}
 use Rattle.sql_keeper.proofs.own_rows.number_of.Goals as goal
 
 pub returns : goal.returns

@@ -2,7 +2,7 @@ use Rattle.std.proofs.Common.{arith, sym, ap, ◌∙◌}
 use Rattle.std.proofs.lemmas.Bool.{not-true}
 use Rattle.sql_tables.specs.Keyed.{same_name}
 use Rattle.sql_rows.specs.declared.session_hold_rows.SessionHold.{SessionHold}
-use Rattle.sql_keeper.proofs.HoldRuns.{ended}
+use Rattle.sql_keeper.proofs.loads.HoldRuns.{ended}
 use Rattle.sql_keeper.proofs.own_rows.run_of.Goals as goal
 
 pub returns-then-ne : goal.returns-then-ne

@@ -1,7 +1,7 @@
 use Rattle.std.proofs.Common.{ap, ◌∙◌}
 use Rattle.ledger.specs.declared.charge.ChargeRow.{ChargeRow}
 use Rattle.sql_keeper.specs.Writes.{some_blocks}
-use Rattle.sql_keeper.proofs.NewCharges.{charged_free, charged_new, not_charged}
+use Rattle.sql_keeper.proofs.puts.NewCharges.{charged_free, charged_new, not_charged}
 use Rattle.sql_keeper.proofs.paid_charges.put_charged.Goals as goal
 
 pub returns-then-added-clause-makes : goal.returns-then-added-clause-makes

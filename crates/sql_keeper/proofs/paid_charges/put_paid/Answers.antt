@@ -1,7 +1,7 @@
 use Rattle.std.proofs.Common.{◌∙◌, arith}
 use Rattle.sql_keeper.specs.Writes.{with_charged}
-use Rattle.sql_rows.proofs.Each.{put_all, put_next}
-use Rattle.sql_keeper.proofs.NewCharges.{all_lacked, next_lacked}
+use Rattle.sql_rows.proofs.puts.Each.{put_all, put_next}
+use Rattle.sql_keeper.proofs.puts.NewCharges.{all_lacked, next_lacked}
 use Rattle.sql_keeper.proofs.paid_charges.put_paid.Goals as goal
 
 pub rows-preserved : goal.rows-preserved

@@ -1,8 +1,8 @@
 use Rattle.std.proofs.Common.{◌≡◌, drop, take}
 use Rattle.sqlite.specs.Held.{state}
 use Rattle.sql_keeper.specs.Writes.{with_charged}
-use Rattle.sql_rows.proofs.Each.{HasPut}
-use Rattle.sql_keeper.proofs.NewCharges.{HaveLacked}
+use Rattle.sql_rows.proofs.puts.Each.{HasPut}
+use Rattle.sql_keeper.proofs.puts.NewCharges.{HaveLacked}
 use Rattle.sql_keeper.proofs.paid_charges.put_paid.Given as goal
 
 abbrev pub invariant-rows : goal.invariant-rows

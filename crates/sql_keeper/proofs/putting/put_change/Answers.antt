@@ -6,8 +6,8 @@ use Rattle.sql_keeper.specs.Content.{shelf_names}
 use Rattle.sql_keeper.specs.Numbers.{LacksCharges}
 use Rattle.sql_keeper.specs.Writes.{with_changed_rows, with_kept, with_moment_put, with_named}
 use Rattle.sql_keeper.specs.Writes.{with_redeemed}
-use Rattle.sql_keeper.proofs.NewCharges.{so_before}
-use Rattle.sql_keeper.proofs.Puts.{list_failed, list_makes, makes_all_then, makes_failed}
+use Rattle.sql_keeper.proofs.puts.NewCharges.{so_before}
+use Rattle.sql_keeper.proofs.puts.Puts.{list_failed, list_makes, makes_all_then, makes_failed}
 use Rattle.sql_keeper.proofs.putting.put_change.Goals as goal
 
 pub returns-clause-makes : goal.returns-clause-makes

@@ -1,7 +1,7 @@
 use Rattle.std.proofs.lemmas.Result.{err_from_is_err_and}
 use Rattle.sql_keeper.specs.Content.{shelf_names}
 use Rattle.sql_keeper.specs.Writes.{with_groups_put, with_money}
-use Rattle.sql_keeper.proofs.Puts.{makes_failed, puts_groups}
+use Rattle.sql_keeper.proofs.puts.Puts.{makes_failed, puts_groups}
 use Rattle.sql_keeper.proofs.putting.put_named.Goals as goal
 
 pub returns-clause-makes : goal.returns-clause-makes

@@ -1,5 +1,5 @@
 use Rattle.std.proofs.lemmas.Result.{err_from_is_err_and}
-use Rattle.sql_keeper.proofs.Puts.{makes_failed, puts_money}
+use Rattle.sql_keeper.proofs.puts.Puts.{makes_failed, puts_money}
 use Rattle.sql_keeper.proofs.putting.put_named_money.Goals as goal
 
 pub returns-clause-makes : goal.returns-clause-makes

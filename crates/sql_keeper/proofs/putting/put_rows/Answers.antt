@@ -1,7 +1,7 @@
 use Rattle.sql_keeper.specs.Content.{shelf_names}
 use Rattle.sql_keeper.specs.Writes.{with_all_charged, with_named}
-use Rattle.sql_keeper.proofs.NewCharges.{lacked_then}
-use Rattle.sql_keeper.proofs.Puts.{makes_all_then, puts_paid}
+use Rattle.sql_keeper.proofs.puts.NewCharges.{lacked_then}
+use Rattle.sql_keeper.proofs.puts.Puts.{makes_all_then, puts_paid}
 use Rattle.sql_keeper.proofs.putting.put_rows.Goals as goal
 
 pub returns-clause-makes : goal.returns-clause-makes

@@ -1,7 +1,7 @@
 use Rattle.std.proofs.Common.{arith, rules}
 use Rattle.std.specs.List.Sorted.{IsPermutation}
-use Rattle.sql_keeper.proofs.CountedRows.{next_counted}
-use Rattle.sql_keeper.proofs.SortedNumbers.{among_sorted}
+use Rattle.sql_keeper.proofs.loads.CountedRows.{next_counted}
+use Rattle.sql_keeper.proofs.reads.SortedNumbers.{among_sorted}
 use Rattle.sql_keeper.proofs.rebuilding.buckets_of.Goals as goal
 
 pub rows-preserved : goal.rows-preserved

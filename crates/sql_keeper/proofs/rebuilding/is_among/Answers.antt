@@ -1,5 +1,5 @@
 use Rattle.std.proofs.Common.{◌∙◌}
-use Rattle.sql_keeper.proofs.SortedNumbers.{among}
+use Rattle.sql_keeper.proofs.reads.SortedNumbers.{among}
 use Rattle.sql_keeper.proofs.rebuilding.is_among.Goals as goal
 
 pub returns : goal.returns

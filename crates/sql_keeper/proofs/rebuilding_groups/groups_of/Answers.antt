@@ -2,7 +2,7 @@ use Rattle.std.proofs.Common.{◌≡◌, List, ap, arith, get_or, length, subst}
 use Rattle.sql_rows.specs.declared.open_group_rows.OpenGroup.{OpenGroup}
 use Rattle.sql_keeper.specs.Content.{shelf_names}
 use Rattle.sql_keeper.specs.GroupRows.{IsGroupOf}
-use Rattle.sql_keeper.proofs.GroupRows.{row_made}
+use Rattle.sql_keeper.proofs.loads.GroupRows.{row_made}
 use Rattle.sql_keeper.proofs.rebuilding_groups.groups_of.Goals as goal
 
 pub rows-preserved : goal.rows-preserved

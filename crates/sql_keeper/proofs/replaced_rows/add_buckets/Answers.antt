@@ -2,7 +2,7 @@ use Rattle.std.proofs.Common.{arith, refl}
 use Rattle.std.specs.Prelude.{◌==◌, filter, not}
 use Rattle.buckets.specs.Row.{BucketRow}
 use Rattle.reserving.specs.Left.{bucket_in, first_of, is_dead}
-use Rattle.sql_keeper.proofs.RowsAdded.{all_with, next_with}
+use Rattle.sql_keeper.proofs.puts.RowsAdded.{all_with, next_with}
 use Rattle.sql_keeper.proofs.replaced_rows.add_buckets.Goals as goal
 
 pub loop-row-init : goal.loop-row-init

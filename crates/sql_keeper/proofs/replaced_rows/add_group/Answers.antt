@@ -1,6 +1,6 @@
 use Rattle.std.proofs.Common.{subst, sym}
 use Rattle.sql_keeper.specs.KeptRows.{IsPutIn}
-use Rattle.sql_keeper.proofs.RowsAdded.{group_added, group_unadded}
+use Rattle.sql_keeper.proofs.puts.RowsAdded.{group_added, group_unadded}
 use Rattle.sql_keeper.proofs.replaced_rows.add_group.Goals as goal
 
 pub returns-then-not-is_new_group : goal.returns-then-not-is_new_group

@@ -3,7 +3,7 @@ use Rattle.std.specs.Prelude.{filter, is_some}
 use Rattle.reserving.specs.declared.session.SessionGroup.{SessionGroup}
 use Rattle.reserving.specs.Left.{first_of}
 use Rattle.reserving.specs.Sessions.{group_in, is_of, session_in}
-use Rattle.sql_keeper.proofs.RowsAdded.{all_with, next_with}
+use Rattle.sql_keeper.proofs.puts.RowsAdded.{all_with, next_with}
 use Rattle.sql_keeper.proofs.replaced_rows.add_groups.Goals as goal
 
 pub loop-row-init : goal.loop-row-init

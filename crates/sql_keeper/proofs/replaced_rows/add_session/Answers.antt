@@ -1,6 +1,6 @@
 use Rattle.std.proofs.Common.{◌≡◌, subst, sym, rules}
 use Rattle.sql_keeper.specs.KeptRows.{IsPutIn}
-use Rattle.sql_keeper.proofs.RowsAdded.{session_added, session_unadded}
+use Rattle.sql_keeper.proofs.puts.RowsAdded.{session_added, session_unadded}
 use Rattle.sql_keeper.proofs.replaced_rows.add_session.Goals as goal
 
 pub returns-then-not-is_new_session : goal.returns-then-not-is_new_session

@@ -3,7 +3,7 @@ use Rattle.std.specs.Prelude.{filter}
 use Rattle.reserving.specs.declared.session.Session.{Session}
 use Rattle.reserving.specs.Left.{first_of}
 use Rattle.reserving.specs.Sessions.{is_open, is_session, session_in}
-use Rattle.sql_keeper.proofs.RowsAdded.{all_with, next_with}
+use Rattle.sql_keeper.proofs.puts.RowsAdded.{all_with, next_with}
 use Rattle.sql_keeper.proofs.replaced_rows.add_sessions.Goals as goal
 
 pub loop-row-init : goal.loop-row-init

@@ -1,4 +1,4 @@
-use Rattle.sql_keeper.proofs.RowsAdded.{groups_made}
+use Rattle.sql_keeper.proofs.puts.RowsAdded.{groups_made}
 use Rattle.sql_keeper.proofs.replaced_rows.groups_over.Goals as goal
 
 pub returns : goal.returns

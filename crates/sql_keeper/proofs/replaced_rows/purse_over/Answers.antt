@@ -1,4 +1,4 @@
-use Rattle.sql_keeper.proofs.RowsAdded.{purse_made}
+use Rattle.sql_keeper.proofs.puts.RowsAdded.{purse_made}
 use Rattle.sql_keeper.proofs.replaced_rows.purse_over.Goals as goal
 
 pub returns : goal.returns

@@ -1,4 +1,4 @@
-use Rattle.sql_keeper.proofs.RowsAdded.{sessions_made}
+use Rattle.sql_keeper.proofs.puts.RowsAdded.{sessions_made}
 use Rattle.sql_keeper.proofs.replaced_rows.sessions_over.Goals as goal
 
 pub returns : goal.returns

@@ -2,8 +2,9 @@ use Rattle.std.proofs.Common.{Err, ap, subst, sym, ◌∙◌}
 use Rattle.std.proofs.lemmas.Result.{err_from_is_err_and}
 use Rattle.sqlite.specs.Held.{state}
 use Rattle.sql_keeper.specs.RuledOpening.{FindsRuled}
-use Rattle.sql_keeper.proofs.Causes.{latest_known}
-use Rattle.sql_keeper.proofs.RuledOpening.{rows_told, rows_unasked, rows_untold, ruled_schema}
+use Rattle.sql_keeper.proofs.openings.Causes.{latest_known}
+use Rattle.sql_keeper.proofs.openings.RuledOpening.{rows_told, rows_unasked, rows_untold}
+use Rattle.sql_keeper.proofs.openings.RuledOpening.{ruled_schema}
 use Rattle.sql_keeper.proofs.ruled_opening.ruled_books_in.Goals as goal
 
 pub test_rows-requires-clause-known : goal.test_rows-requires-clause-known

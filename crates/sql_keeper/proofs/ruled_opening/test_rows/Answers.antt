@@ -2,7 +2,7 @@ use Rattle.std.proofs.Common.{Err, ap, subst, sym, ◌∙◌}
 use Rattle.std.proofs.lemmas.Result.{err_from_is_err_and}
 use Rattle.sqlite.specs.Held.{state}
 use Rattle.sql_rules.specs.Tables.{AreRuled, Tells}
-use Rattle.sql_keeper.proofs.RuledOpening.{retold, retold_err, untested}
+use Rattle.sql_keeper.proofs.openings.RuledOpening.{retold, retold_err, untested}
 use Rattle.sql_keeper.proofs.ruled_opening.test_rows.Goals as goal
 
 pub returns-in_err-rules_of-clause-tells : goal.returns-in_err-rules_of-clause-tells

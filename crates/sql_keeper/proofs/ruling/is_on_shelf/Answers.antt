@@ -1,7 +1,7 @@
 use Rattle.std.proofs.Common.{◌≡◌, ◌∙◌, arith, length}
 use Rattle.sql_rules.specs.Columns.{is_in_bounds}
 use Rattle.sql_keeper.specs.Content.{shelf_names}
-use Rattle.sql_keeper.proofs.RuledRows.{names_count}
+use Rattle.sql_keeper.proofs.rules.RuledRows.{names_count}
 use Rattle.sql_keeper.proofs.ruling.is_on_shelf.Goals as goal
 
 pub returns : goal.returns

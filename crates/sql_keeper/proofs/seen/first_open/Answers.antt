@@ -1,6 +1,6 @@
 use Rattle.std.proofs.Common.{◌∙◌, ap, sym}
 use Rattle.std.specs.Prelude.{option_copied}
-use Rattle.sql_keeper.proofs.SeenRows.{first_named}
+use Rattle.sql_keeper.proofs.kept.SeenRows.{first_named}
 use Rattle.sql_keeper.proofs.seen.first_open.Goals as goal
 
 pub returns : goal.returns

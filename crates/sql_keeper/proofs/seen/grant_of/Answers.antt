@@ -1,6 +1,6 @@
 use Rattle.std.proofs.Common.{◌∙◌, ap, sym}
 use Rattle.std.specs.Prelude.{option_copied}
-use Rattle.sql_keeper.proofs.SeenRows.{grant_first}
+use Rattle.sql_keeper.proofs.kept.SeenRows.{grant_first}
 use Rattle.sql_keeper.proofs.seen.grant_of.Goals as goal
 
 pub returns : goal.returns

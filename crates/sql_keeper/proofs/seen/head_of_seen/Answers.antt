@@ -1,5 +1,5 @@
 use Rattle.sql_rows.specs.Content.{rows_in}
-use Rattle.sql_keeper.proofs.SeenRows.{head_told, of_account}
+use Rattle.sql_keeper.proofs.kept.SeenRows.{head_told, of_account}
 use Rattle.std.proofs.Common.{◌≡◌, Some}
 use Rattle.std.specs.Prelude.{IfSome}
 use Rattle.sql_rows.specs.declared.head.HeadColumns.{HeadColumns}

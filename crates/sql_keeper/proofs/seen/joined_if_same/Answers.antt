@@ -1,4 +1,4 @@
-use Rattle.sql_keeper.proofs.SeenRows.{joined_seen}
+use Rattle.sql_keeper.proofs.kept.SeenRows.{joined_seen}
 use Rattle.sql_keeper.proofs.seen.joined_if_same.Goals as goal
 
 pub returns : goal.returns

@@ -1,4 +1,4 @@
-use Rattle.sql_keeper.proofs.SeenRows.{alone_seen, noted}
+use Rattle.sql_keeper.proofs.kept.SeenRows.{alone_seen, noted}
 use Rattle.sql_keeper.proofs.seen.noted.Goals as goal
 
 pub returns-then-not-is_same_account : goal.returns-then-not-is_same_account

@@ -1,4 +1,4 @@
-use Rattle.sql_keeper.proofs.SeenRows.{alone_seen}
+use Rattle.sql_keeper.proofs.kept.SeenRows.{alone_seen}
 use Rattle.sql_keeper.proofs.seen.noted_first.Goals as goal
 
 pub returns-in-None : goal.returns-in-None

@@ -1,4 +1,4 @@
-use Rattle.sql_keeper.proofs.SeenRows.{name_open}
+use Rattle.sql_keeper.proofs.kept.SeenRows.{name_open}
 use Rattle.sql_keeper.proofs.seen.open_name.Goals as goal
 
 pub returns : goal.returns

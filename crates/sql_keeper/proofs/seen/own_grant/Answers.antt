@@ -1,4 +1,4 @@
-use Rattle.sql_keeper.proofs.SeenRows.{own_is}
+use Rattle.sql_keeper.proofs.kept.SeenRows.{own_is}
 use Rattle.sql_keeper.proofs.seen.own_grant.Goals as goal
 
 pub returns : goal.returns

@@ -1,6 +1,6 @@
 use Rattle.std.proofs.Common.{Some, ap, refl, ◌∙◌}
 use Rattle.reserving.specs.Stored.{StoredRows}
-use Rattle.sql_keeper.proofs.SeenRows.{grant_of_live, live_of}
+use Rattle.sql_keeper.proofs.kept.SeenRows.{grant_of_live, live_of}
 use Rattle.sql_keeper.proofs.seen.seen_as.Goals as goal
 
 pub returns : goal.returns

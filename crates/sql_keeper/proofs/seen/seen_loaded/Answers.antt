@@ -1,4 +1,4 @@
-use Rattle.sql_keeper.proofs.SeenRows.{load_seen}
+use Rattle.sql_keeper.proofs.kept.SeenRows.{load_seen}
 use Rattle.sql_keeper.proofs.seen.seen_loaded.Goals as goal
 
 pub returns : goal.returns

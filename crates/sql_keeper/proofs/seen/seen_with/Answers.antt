@@ -1,5 +1,5 @@
 use Rattle.std.proofs.Common.{refl}
-use Rattle.sql_keeper.proofs.SeenRows.{not_known}
+use Rattle.sql_keeper.proofs.kept.SeenRows.{not_known}
 use Rattle.sql_keeper.proofs.seen.seen_with.Goals as goal
 
 pub returns : goal.returns

@@ -2,7 +2,7 @@ use Rattle.std.proofs.Common.{subst, sym}
 use Rattle.std.specs.Prelude.{IfSome}
 use Rattle.sql_rows.specs.Content.{rows_in}
 use Rattle.sql_keeper.specs.Seen.{IsStanding}
-use Rattle.sql_keeper.proofs.SeenRows.{of_account, standing_told}
+use Rattle.sql_keeper.proofs.kept.SeenRows.{of_account, standing_told}
 use Rattle.sql_keeper.proofs.seen.standing_of_seen.Goals as goal
 
 pub returns : goal.returns

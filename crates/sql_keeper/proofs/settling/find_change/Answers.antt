@@ -1,8 +1,8 @@
 use Rattle.std.proofs.Common.{refl}
 use Rattle.sqlite.specs.Held.{state}
 use Rattle.sql_keeper.specs.Content.{shelf_names}
-use Rattle.sql_keeper.proofs.SeenRows.{seen_after}
-use Rattle.sql_keeper.proofs.Tested.{change_found, change_unsettled}
+use Rattle.sql_keeper.proofs.kept.SeenRows.{seen_after}
+use Rattle.sql_keeper.proofs.commits.Tested.{change_found, change_unsettled}
 use Rattle.sql_keeper.proofs.settling.find_change.Goals as goal
 
 pub find_sessions-requires-clause-seen : goal.find_sessions-requires-clause-seen

@@ -3,7 +3,7 @@ use Rattle.std.specs.List.{list_all}
 use Rattle.sqlite.specs.Held.{state}
 use Rattle.sql_rows.specs.Texts.{group_at}
 use Rattle.sql_keeper.specs.Tests.{is_beside}
-use Rattle.sql_keeper.proofs.Tested.{all_map, found_groups, found_new, found_stays}
+use Rattle.sql_keeper.proofs.commits.Tested.{all_map, found_groups, found_new, found_stays}
 use Rattle.sql_keeper.proofs.settling.find_session.Goals as goal
 
 pub returns-then-is_unknown : goal.returns-then-is_unknown

@@ -1,8 +1,8 @@
 use Rattle.std.proofs.Common.{arith}
 use Rattle.sqlite.specs.Held.{state}
-use Rattle.sql_keeper.proofs.InTurn.{failed_then}
-use Rattle.sql_keeper.proofs.SeenRows.{seen_after}
-use Rattle.sql_keeper.proofs.Tested.{next_found, none_found, one_unsettled, sessions_found}
+use Rattle.sql_keeper.proofs.reads.InTurn.{failed_then}
+use Rattle.sql_keeper.proofs.kept.SeenRows.{seen_after}
+use Rattle.sql_keeper.proofs.commits.Tested.{next_found, none_found, one_unsettled, sessions_found}
 use Rattle.sql_keeper.proofs.settling.find_sessions.Goals as goal
 
 pub sessions-init : goal.sessions-init

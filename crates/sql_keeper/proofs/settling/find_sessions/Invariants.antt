@@ -1,6 +1,6 @@
 use Rattle.std.proofs.Common.{take}
 use Rattle.sqlite.specs.Held.{state}
-use Rattle.sql_keeper.proofs.Tested.{HasFound}
+use Rattle.sql_keeper.proofs.commits.Tested.{HasFound}
 use Rattle.sql_keeper.proofs.settling.find_sessions.Given as goal
 
 abbrev pub invariant-sessions : goal.invariant-sessions

@@ -3,7 +3,7 @@ use Rattle.std.specs.Prelude.{IfSome}
 use Rattle.sqlite.specs.Held.{state}
 use Rattle.sql_rows.specs.Content.{rows_in}
 use Rattle.sql_keeper.specs.Seen.{IsStanding}
-use Rattle.sql_keeper.proofs.SeenRows.{told_seen}
+use Rattle.sql_keeper.proofs.kept.SeenRows.{told_seen}
 use Rattle.sql_keeper.proofs.settling.find_standing.Goals as goal
 
 pub returns-in-Some : goal.returns-in-Some

@@ -1,5 +1,5 @@
 use Rattle.sqlite.specs.Held.{state}
-use Rattle.sql_keeper.proofs.SeenRows.{standing_read}
+use Rattle.sql_keeper.proofs.kept.SeenRows.{standing_read}
 use Rattle.sql_keeper.proofs.settling.read_standing.Goals as goal
 
 pub returns : goal.returns

@@ -1,8 +1,8 @@
 use Rattle.sqlite.specs.Held.{state}
 use Rattle.sql_keeper.specs.Content.{shelf_names}
-use Rattle.sql_keeper.proofs.InTurn.{failed_then, have_gathered}
-use Rattle.sql_keeper.proofs.SeenRows.{seen_after}
-use Rattle.sql_keeper.proofs.Tested.{tested}
+use Rattle.sql_keeper.proofs.reads.InTurn.{failed_then, have_gathered}
+use Rattle.sql_keeper.proofs.kept.SeenRows.{seen_after}
+use Rattle.sql_keeper.proofs.commits.Tested.{tested}
 use Rattle.sql_keeper.proofs.settling.test_change.Goals as goal
 
 pub find_change-requires-clause-seen : goal.find_change-requires-clause-seen

@@ -1,6 +1,6 @@
 use Rattle.std.proofs.Common.{[]}
 use Rattle.sqlite.specs.Held.{state}
-use Rattle.sql_keeper.proofs.StillOpen.{tested_open, tested_shut}
+use Rattle.sql_keeper.proofs.stops.StillOpen.{tested_open, tested_shut}
 use Rattle.sql_keeper.proofs.still_open.still_open.Goals as goal
 
 pub returns-in_err-_plan : goal.returns-in_err-_plan

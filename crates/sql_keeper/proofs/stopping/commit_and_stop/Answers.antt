@@ -1,4 +1,4 @@
-use Rattle.sql_keeper.proofs.Reopening.{changed_after}
+use Rattle.sql_keeper.proofs.stops.Reopening.{changed_after}
 use Rattle.sql_keeper.proofs.stopping.commit_and_stop.Goals as goal
 
 pub returns-clause-whole : goal.returns-clause-whole

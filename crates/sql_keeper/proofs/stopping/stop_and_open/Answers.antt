@@ -1,4 +1,4 @@
-use Rattle.sql_keeper.proofs.Reopening.{found_stopped, refused_stopped}
+use Rattle.sql_keeper.proofs.stops.Reopening.{found_stopped, refused_stopped}
 use Rattle.sql_keeper.proofs.stopping.stop_and_open.Goals as goal
 
 pub returns-in-Ok-open-clause-found : goal.returns-in-Ok-open-clause-found

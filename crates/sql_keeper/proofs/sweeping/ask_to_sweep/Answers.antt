@@ -1,7 +1,7 @@
 use Rattle.std.proofs.Common.{◌≡◌, arith}
 use Rattle.sql_rows.specs.Content.{tables_content}
 use Rattle.sqlite.specs.Held.{state}
-use Rattle.sql_keeper.proofs.StillOpen.{committed_standing, standing_shut, told_standing}
+use Rattle.sql_keeper.proofs.stops.StillOpen.{committed_standing, standing_shut, told_standing}
 use Rattle.sql_keeper.proofs.sweeping.ask_to_sweep.Goals as goal
 
 pub make_sweep-requires-clause-plain : goal.make_sweep-requires-clause-plain

@@ -1,8 +1,8 @@
 use Rattle.std.proofs.Common.{arith, sym}
 use Rattle.sqlite.specs.Held.{state}
 use Rattle.sql_keeper.specs.Content.{shelf_names}
-use Rattle.sql_keeper.proofs.SweptReads.{sweep_written}
-use Rattle.sql_keeper.proofs.Whole.{untouched}
+use Rattle.sql_keeper.proofs.sweeps.SweptReads.{sweep_written}
+use Rattle.sql_keeper.proofs.commits.Whole.{untouched}
 use Rattle.sql_keeper.proofs.sweeping.make_sweep.Goals as goal
 
 pub returns-then-not-is_moment-clause-commits : goal.returns-then-not-is_moment-clause-commits

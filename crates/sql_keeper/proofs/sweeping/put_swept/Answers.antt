@@ -2,7 +2,7 @@ use Rattle.std.proofs.Common.{[]}
 use Rattle.std.proofs.lemmas.Result.{err_from_is_err_and}
 use Rattle.sqlite.specs.Held.{state}
 use Rattle.sql_keeper.specs.Content.{shelf_names}
-use Rattle.sql_keeper.proofs.Puts.{four_lists, list_failed, puts_swept, three_lists, two_lists}
+use Rattle.sql_keeper.proofs.puts.Puts.{four_lists, list_failed, puts_swept, three_lists, two_lists}
 use Rattle.sql_keeper.proofs.sweeping.put_swept.Goals as goal
 
 pub returns-in_err-put_counters-clause-makes : goal.returns-in_err-put_counters-clause-makes

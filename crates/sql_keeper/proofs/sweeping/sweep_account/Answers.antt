@@ -1,9 +1,9 @@
 use Rattle.std.proofs.Common.{refl, sym}
 use Rattle.sqlite.specs.Held.{state}
-use Rattle.sql_rows.proofs.Within.{book_still, ended_within, gave_up, have_within, inside_still}
-use Rattle.sql_rows.proofs.Within.{stopped_within}
+use Rattle.sql_rows.proofs.queries.Within.{book_still, ended_within, gave_up, have_within}
+use Rattle.sql_rows.proofs.queries.Within.{inside_still, stopped_within}
 use Rattle.sql_keeper.specs.Content.{shelf_names}
-use Rattle.sql_keeper.proofs.SweptReads.{one_swept}
+use Rattle.sql_keeper.proofs.sweeps.SweptReads.{one_swept}
 use Rattle.sql_keeper.proofs.sweeping.sweep_account.Goals as goal
 
 pub put_swept-requires-clause-open : goal.put_swept-requires-clause-open

@@ -1,11 +1,11 @@
 use Rattle.std.proofs.Common.{◌∙◌}
 use Rattle.sqlite.specs.Held.{state}
 use Rattle.sqlite.specs.State.{IsUnchanged}
-use Rattle.sql_rows.proofs.Within.{have_within}
+use Rattle.sql_rows.proofs.queries.Within.{have_within}
 use Rattle.sql_keeper.specs.Content.{shelf_names}
-use Rattle.sql_keeper.proofs.SweptInTurn.{next_of, not_brought, so_many, swept_all}
-use Rattle.sql_keeper.proofs.SweptInTurn.{up_to_next, up_to_none}
-use Rattle.sql_keeper.proofs.SweptReads.{none_swept, not_swept}
+use Rattle.sql_keeper.proofs.sweeps.SweptInTurn.{next_of, not_brought, so_many, swept_all}
+use Rattle.sql_keeper.proofs.sweeps.SweptInTurn.{up_to_next, up_to_none}
+use Rattle.sql_keeper.proofs.sweeps.SweptReads.{none_swept, not_swept}
 use Rattle.sql_keeper.proofs.sweeping.sweep_each.Goals as goal
 
 pub accounts-init : goal.accounts-init

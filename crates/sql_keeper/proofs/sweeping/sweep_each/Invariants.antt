@@ -1,7 +1,7 @@
 use Rattle.std.proofs.Common.{◌≡◌}
 use Rattle.sqlite.specs.Held.{state}
 use Rattle.sql_keeper.specs.Content.{shelf_names}
-use Rattle.sql_keeper.proofs.SweptInTurn.{HasSweptUpTo}
+use Rattle.sql_keeper.proofs.sweeps.SweptInTurn.{HasSweptUpTo}
 use Rattle.sql_keeper.proofs.sweeping.sweep_each.Given as goal
 
 abbrev pub invariant-accounts : goal.invariant-accounts

@@ -1,7 +1,7 @@
 use Rattle.std.proofs.Common.{rules, ◌≡◌, ◌∙◌, Some, ap}
 use Rattle.std.specs.Prelude.{is_some}
 use Rattle.shelves.specs.Shelves.{book_numbered}
-use Rattle.sql_keeper.proofs.Writable.{copied_some, name_there}
+use Rattle.sql_keeper.proofs.commits.Writable.{copied_some, name_there}
 use Rattle.sql_keeper.proofs.testing.is_named.Goals as goal
 
 pub returns-in-Some-clause-back : goal.returns-in-Some-clause-back

@@ -1,7 +1,7 @@
 use Rattle.std.proofs.Common.{arith}
 use Rattle.std.proofs.lemmas.Result.{IfOk-weaker}
 use Rattle.sql_tables.proofs.Columns.{row_is}
-use Rattle.sql_rows.proofs.MetaRules.{at_ok}
+use Rattle.sql_rows.proofs.rules.MetaRules.{at_ok}
 use Rattle.sql_rows.proofs.account_rows.account_from.Goals as goal
 
 pub returns : goal.returns

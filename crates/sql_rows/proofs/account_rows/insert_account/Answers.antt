@@ -1,6 +1,6 @@
 use Rattle.std.proofs.Common.{Ok}
-use Rattle.sql_rows.proofs.PutAccount.{makes_account, rules_account}
-use Rattle.sql_rows.proofs.Writes.{ran_with}
+use Rattle.sql_rows.proofs.puts.PutAccount.{makes_account, rules_account}
+use Rattle.sql_rows.proofs.writes.Writes.{ran_with}
 use Rattle.sql_rows.proofs.account_rows.insert_account.Goals as goal
 
 pub returns-clause-makes : goal.returns-clause-makes

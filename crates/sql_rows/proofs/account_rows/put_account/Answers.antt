@@ -1,5 +1,5 @@
 use Rattle.sql_rows.specs.Content.{has_account, with_account}
-use Rattle.sql_rows.proofs.Replaces.{was_put}
+use Rattle.sql_rows.proofs.writes.Replaces.{was_put}
 use Rattle.sql_rows.proofs.account_rows.put_account.Goals as goal
 
 pub returns-clause-makes : goal.returns-clause-makes

@@ -2,7 +2,8 @@ use Rattle.std.proofs.Common.{[], ◌∷◌, map, ap, ◌∙◌}
 use Rattle.sqlite.specs.Values.{bound_value}
 use Rattle.sqlite_value.specs.declared.value.Value.TheVariants.{Text}
 use Rattle.sql_tables.proofs.Telling.{reads_within_as}
-use Rattle.sql_rows.proofs.ReadNextAccount.{read_after_text, read_after_plain, after_read}
+use Rattle.sql_rows.proofs.selections.ReadNextAccount.{read_after_text, read_after_plain}
+use Rattle.sql_rows.proofs.selections.ReadNextAccount.{after_read}
 use Rattle.sql_rows.proofs.account_rows.read_account_after.Goals as goal
 
 pub read_within-requires-clause-plain : goal.read_within-requires-clause-plain

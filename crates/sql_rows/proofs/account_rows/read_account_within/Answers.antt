@@ -2,7 +2,8 @@ use Rattle.std.proofs.Common.{[], ◌∷◌, map, ap, ◌∙◌}
 use Rattle.sqlite.specs.Values.{bound_value}
 use Rattle.sqlite_value.specs.declared.value.Value.TheVariants.{Text}
 use Rattle.sql_tables.proofs.Telling.{reads_within_as}
-use Rattle.sql_rows.proofs.ReadAccount.{read_account_text, read_account_plain, account_read}
+use Rattle.sql_rows.proofs.selections.ReadAccount.{read_account_text, read_account_plain}
+use Rattle.sql_rows.proofs.selections.ReadAccount.{account_read}
 use Rattle.sql_rows.proofs.account_rows.read_account_within.Goals as goal
 
 pub read_within-requires-clause-plain : goal.read_within-requires-clause-plain

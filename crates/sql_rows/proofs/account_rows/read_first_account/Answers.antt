@@ -1,6 +1,7 @@
 use Rattle.std.proofs.Common.{refl}
 use Rattle.sql_tables.proofs.Telling.{reads_within_as}
-use Rattle.sql_rows.proofs.ReadNextAccount.{read_first_text, read_first_plain, first_read}
+use Rattle.sql_rows.proofs.selections.ReadNextAccount.{read_first_text, read_first_plain}
+use Rattle.sql_rows.proofs.selections.ReadNextAccount.{first_read}
 use Rattle.sql_rows.proofs.account_rows.read_first_account.Goals as goal
 
 pub read_within-requires-clause-plain : goal.read_within-requires-clause-plain

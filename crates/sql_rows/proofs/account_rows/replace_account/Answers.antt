@@ -1,4 +1,4 @@
-use Rattle.sql_rows.proofs.ReplaceAccount.{replaces_account, rules_account_replaced}
+use Rattle.sql_rows.proofs.puts.ReplaceAccount.{replaces_account, rules_account_replaced}
 use Rattle.sql_rows.proofs.account_rows.replace_account.Goals as goal
 
 pub returns-clause-replaces : goal.returns-clause-replaces

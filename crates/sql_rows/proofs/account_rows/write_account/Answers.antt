@@ -1,8 +1,8 @@
 use Rattle.std.proofs.Common.{rules, ◌∙◌, ap}
 use Rattle.sqlite_value.specs.declared.value.Value.TheVariants.{Text}
 use Rattle.sql_rows.specs.Values.{nat, head_values}
-use Rattle.sql_rows.proofs.PutAccount.{bound_account}
-use Rattle.sql_rows.proofs.Writes.{runs_with}
+use Rattle.sql_rows.proofs.puts.PutAccount.{bound_account}
+use Rattle.sql_rows.proofs.writes.Writes.{runs_with}
 use Rattle.sql_rows.proofs.account_rows.write_account.Goals as goal
 
 pub returns : goal.returns

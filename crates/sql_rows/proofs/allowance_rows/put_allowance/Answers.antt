@@ -1,6 +1,6 @@
 use Rattle.std.proofs.Common.{rules, ◌∙◌, ap}
 use Rattle.sqlite_value.specs.declared.value.Value.TheVariants.{Text}
-use Rattle.sql_rows.proofs.PutAllowance.{makes_allowance, bound_allowance}
+use Rattle.sql_rows.proofs.puts.PutAllowance.{makes_allowance, bound_allowance}
 use Rattle.sql_rows.proofs.allowance_rows.put_allowance.Goals as goal
 
 pub returns : goal.returns

@@ -2,8 +2,8 @@ use Rattle.std.proofs.Common.{[], ◌∷◌, map, ap, ◌∙◌}
 use Rattle.sqlite.specs.Values.{bound_value}
 use Rattle.sqlite_value.specs.declared.value.Value.TheVariants.{Text}
 use Rattle.sql_tables.proofs.Telling.{reads_as}
-use Rattle.sql_rows.proofs.ReadAllowances.{read_allowances_text, read_allowances_plain}
-use Rattle.sql_rows.proofs.ReadAllowances.{allowances_read}
+use Rattle.sql_rows.proofs.selections.ReadAllowances.{read_allowances_text, read_allowances_plain}
+use Rattle.sql_rows.proofs.selections.ReadAllowances.{allowances_read}
 use Rattle.sql_rows.proofs.allowance_rows.read_allowances.Goals as goal
 
 pub read-requires-clause-plain : goal.read-requires-clause-plain

@@ -1,6 +1,6 @@
 use Rattle.std.proofs.Common.{rules, ◌∙◌, ap}
 use Rattle.sqlite_value.specs.declared.value.Value.TheVariants.{Text}
-use Rattle.sql_rows.proofs.RemoveAllowance.{makes_none, bound_key}
+use Rattle.sql_rows.proofs.removals.RemoveAllowance.{makes_none, bound_key}
 use Rattle.sql_rows.proofs.allowance_rows.remove_allowance.Goals as goal
 
 pub returns : goal.returns

@@ -1,7 +1,7 @@
 use Rattle.std.proofs.Common.{rules, ◌∙◌, ap}
 use Rattle.sqlite_value.specs.declared.value.Value.TheVariants.{Text}
 use Rattle.sql_rows.specs.Texts.{kept_of}
-use Rattle.sql_rows.proofs.PutAnswer.{makes_answer, bound_answer}
+use Rattle.sql_rows.proofs.puts.PutAnswer.{makes_answer, bound_answer}
 use Rattle.sql_rows.proofs.answer_rows.put_answer.Goals as goal
 
 pub returns : goal.returns

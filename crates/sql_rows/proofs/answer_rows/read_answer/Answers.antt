@@ -5,7 +5,7 @@ use Rattle.std.specs.Prelude.{option_map}
 use Rattle.sql_rows.specs.Texts.{kept_of}
 use Rattle.sql_rows.specs.Values.{answer_key}
 use Rattle.sql_tables.proofs.Telling.{reads_as}
-use Rattle.sql_rows.proofs.ReadAnswer.{read_answer_text, read_answer_plain, answer_read}
+use Rattle.sql_rows.proofs.selections.ReadAnswer.{read_answer_text, read_answer_plain, answer_read}
 use Rattle.sql_rows.proofs.answer_rows.read_answer.Goals as goal
 
 pub read-requires-clause-plain : goal.read-requires-clause-plain

@@ -1,7 +1,7 @@
 use Rattle.std.proofs.Common.{sym, subst, arith}
 use Rattle.std.specs.Option.{option_map}
 use Rattle.std.proofs.lemmas.List.{drop_all}
-use Rattle.sql_rows.proofs.Rising.{AscendAfter, none_after}
+use Rattle.sql_rows.proofs.lists.Rising.{AscendAfter, none_after}
 use Rattle.sql_rows.proofs.ascending.do_ascend.Goals as goal
 
 pub returns : goal.returns

@@ -1,7 +1,7 @@
 use Rattle.std.proofs.Common.{drop}
 use Rattle.std.specs.Option.{option_map}
 use Rattle.sql_rows.specs.Lists.{Ascends}
-use Rattle.sql_rows.proofs.Rising.{AscendAfter}
+use Rattle.sql_rows.proofs.lists.Rising.{AscendAfter}
 use Rattle.sql_rows.proofs.ascending.do_ascend.Given as goal
 
 abbrev pub invariant-rows : goal.invariant-rows

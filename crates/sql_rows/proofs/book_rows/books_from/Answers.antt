@@ -2,7 +2,7 @@ use Rattle.std.proofs.Common.{sym, ◌∙◌, arith}
 use Rattle.std.proofs.lemmas.Result.{err_from_is_err_and}
 use Rattle.sql_rows.specs.Lists.{book_at_cells}
 use Rattle.sql_rows.specs.Ruled.{IsRuledBook}
-use Rattle.sql_rows.proofs.RowRules.{row_refused}
+use Rattle.sql_rows.proofs.rules.RowRules.{row_refused}
 use Rattle.sql_rows.proofs.book_rows.books_from.Goals as goal
 
 pub returns-in_err-book : goal.returns-in_err-book

@@ -1,6 +1,6 @@
 use Rattle.std.proofs.Common.{rules, ◌∙◌, ap}
 use Rattle.sql_rows.specs.Values.{nat, BookRow}
-use Rattle.sql_rows.proofs.PutBook.{makes_book, bound_book}
+use Rattle.sql_rows.proofs.puts.PutBook.{makes_book, bound_book}
 use Rattle.sql_rows.proofs.book_rows.put_book.Goals as goal
 
 pub returns : goal.returns

@@ -1,9 +1,9 @@
 use Rattle.std.proofs.Common.{map, refl, ◌∙◌}
 use Rattle.sql_rows.specs.Texts.{book_at}
 use Rattle.sql_tables.proofs.Telling.{reads_as}
-use Rattle.sql_rows.proofs.BookRules.{books_refused}
-use Rattle.sql_rows.proofs.MetaRules.{at_err, at_ok}
-use Rattle.sql_rows.proofs.ReadBooks.{read_books_text, read_books_plain, books_read}
+use Rattle.sql_rows.proofs.rules.BookRules.{books_refused}
+use Rattle.sql_rows.proofs.rules.MetaRules.{at_err, at_ok}
+use Rattle.sql_rows.proofs.selections.ReadBooks.{read_books_text, read_books_plain, books_read}
 use Rattle.sql_rows.proofs.book_rows.read_books.Goals as goal
 
 pub read-requires-clause-plain : goal.read-requires-clause-plain

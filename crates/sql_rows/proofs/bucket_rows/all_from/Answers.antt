@@ -1,6 +1,6 @@
 use Rattle.std.proofs.Common.{rules}
 use Rattle.sql_rows.specs.Texts.{bucket_row}
-use Rattle.sql_rows.proofs.Rising.{rises_map}
+use Rattle.sql_rows.proofs.lists.Rising.{rises_map}
 use Rattle.sql_rows.proofs.bucket_rows.all_from.Goals as goal
 
 pub returns-clause-order : goal.returns-clause-order

@@ -2,8 +2,8 @@ use Rattle.std.proofs.Common.{rules, ap, map, ◌∙◌}
 use Rattle.std.proofs.lemmas.Fn.{filter_same}
 use Rattle.sql_rows.specs.Lists.{is_dead_bucket}
 use Rattle.sql_rows.specs.Texts.{bucket_row}
-use Rattle.sql_rows.proofs.Dead.{filter_rows}
-use Rattle.sql_rows.proofs.Rising.{rises_map}
+use Rattle.sql_rows.proofs.lists.Dead.{filter_rows}
+use Rattle.sql_rows.proofs.lists.Rising.{rises_map}
 use Rattle.sql_rows.proofs.bucket_rows.dead_among.Goals as goal
 
 pub returns-clause-dead : goal.returns-clause-dead

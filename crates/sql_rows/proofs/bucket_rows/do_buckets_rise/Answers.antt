@@ -1,7 +1,7 @@
 use Rattle.std.proofs.Common.{sym, subst, arith}
 use Rattle.std.specs.Option.{option_map}
 use Rattle.std.proofs.lemmas.List.{drop_all}
-use Rattle.sql_rows.proofs.Rising.{RiseAfter, nothing_after}
+use Rattle.sql_rows.proofs.lists.Rising.{RiseAfter, nothing_after}
 use Rattle.sql_rows.proofs.bucket_rows.do_buckets_rise.Goals as goal
 
 pub returns : goal.returns

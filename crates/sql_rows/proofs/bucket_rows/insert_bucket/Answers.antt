@@ -1,7 +1,7 @@
 use Rattle.std.proofs.Common.{Ok, refl}
 use Rattle.sql_rows.specs.Values.{plain_bucket}
-use Rattle.sql_rows.proofs.PutBucket.{makes_bucket}
-use Rattle.sql_rows.proofs.Writes.{ran_with}
+use Rattle.sql_rows.proofs.puts.PutBucket.{makes_bucket}
+use Rattle.sql_rows.proofs.writes.Writes.{ran_with}
 use Rattle.sql_rows.proofs.bucket_rows.insert_bucket.Goals as goal
 
 pub returns : goal.returns

@@ -1,7 +1,7 @@
 use Rattle.std.proofs.Common.{◌∙◌}
 use Rattle.sql_rows.specs.Values.{plain_bucket}
 use Rattle.sql_rows.specs.Content.{has_bucket, with_bucket, with_rows}
-use Rattle.sql_rows.proofs.Replaces.{was_put}
+use Rattle.sql_rows.proofs.writes.Replaces.{was_put}
 use Rattle.sql_rows.proofs.bucket_rows.put_bucket.Goals as goal
 
 pub returns : goal.returns

@@ -2,7 +2,7 @@ use Rattle.std.proofs.Common.{◌∙◌, arith}
 use Rattle.sqlite.specs.Held.{state}
 use Rattle.sql_rows.specs.Content.{with_rows, with_bucket}
 use Rattle.sql_rows.specs.Values.{plain_bucket}
-use Rattle.sql_rows.proofs.Each.{put_all, put_next}
+use Rattle.sql_rows.proofs.puts.Each.{put_all, put_next}
 use Rattle.sql_rows.proofs.bucket_rows.put_buckets.Goals as goal
 
 pub rows-preserved : goal.rows-preserved

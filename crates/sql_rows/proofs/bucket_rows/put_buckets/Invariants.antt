@@ -2,7 +2,7 @@ use Rattle.std.proofs.Common.{◌≡◌, drop}
 use Rattle.sqlite.specs.Held.{state}
 use Rattle.sql_rows.specs.Content.{with_rows, with_bucket}
 use Rattle.sql_rows.specs.Values.{plain_bucket}
-use Rattle.sql_rows.proofs.Each.{HasPut}
+use Rattle.sql_rows.proofs.puts.Each.{HasPut}
 use Rattle.sql_rows.proofs.bucket_rows.put_buckets.Given as goal
 
 abbrev pub invariant-rows : goal.invariant-rows

@@ -3,7 +3,7 @@ use Rattle.sqlite.specs.Values.{bound_value}
 use Rattle.sqlite_value.specs.declared.value.Value.TheVariants.{Text}
 use Rattle.sql_rows.specs.Texts.{bucket_row}
 use Rattle.sql_tables.proofs.Telling.{reads_as}
-use Rattle.sql_rows.proofs.ReadBucket.{read_bucket_text, read_bucket_plain, bucket_read}
+use Rattle.sql_rows.proofs.selections.ReadBucket.{read_bucket_text, read_bucket_plain, bucket_read}
 use Rattle.sql_rows.proofs.bucket_rows.read_bucket.Goals as goal
 
 pub read-requires-clause-plain : goal.read-requires-clause-plain

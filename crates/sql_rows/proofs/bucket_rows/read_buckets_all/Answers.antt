@@ -3,7 +3,8 @@ use Rattle.sqlite.specs.Values.{bound_value}
 use Rattle.sqlite_value.specs.declared.value.Value.TheVariants.{Text}
 use Rattle.sql_rows.specs.Texts.{bucket_row}
 use Rattle.sql_tables.proofs.Telling.{reads_as}
-use Rattle.sql_rows.proofs.ReadBuckets.{read_buckets_all_text, read_buckets_all_plain, all_read}
+use Rattle.sql_rows.proofs.selections.ReadBuckets.{read_buckets_all_text, read_buckets_all_plain}
+use Rattle.sql_rows.proofs.selections.ReadBuckets.{all_read}
 use Rattle.sql_rows.proofs.bucket_rows.read_buckets_all.Goals as goal
 
 pub read-requires-clause-plain : goal.read-requires-clause-plain

@@ -3,7 +3,7 @@ use Rattle.sqlite.specs.Held.{state}
 use Rattle.sql_tables.proofs.Keeps.{on_ok}
 use Rattle.sql_rows.specs.Content.{rows_in}
 use Rattle.sql_rows.specs.Texts.{bucket_row}
-use Rattle.sql_rows.proofs.Dead.{dead_told, dead_rise}
+use Rattle.sql_rows.proofs.lists.Dead.{dead_told, dead_rise}
 use Rattle.sql_rows.proofs.bucket_rows.read_buckets_dead.Goals as goal
 
 pub returns-clause-reads : goal.returns-clause-reads

@@ -1,6 +1,6 @@
 use Rattle.std.proofs.Common.{refl}
 use Rattle.sql_rows.specs.Values.{plain_bucket}
-use Rattle.sql_rows.proofs.ReplaceBucket.{replaces_bucket}
+use Rattle.sql_rows.proofs.puts.ReplaceBucket.{replaces_bucket}
 use Rattle.sql_rows.proofs.bucket_rows.replace_bucket.Goals as goal
 
 pub returns-clause-replaces : goal.returns-clause-replaces

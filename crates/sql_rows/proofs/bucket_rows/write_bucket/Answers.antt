@@ -2,8 +2,8 @@ use Rattle.std.proofs.Common.{rules, refl, ◌∙◌, ap}
 use Rattle.sqlite.specs.Values.{or_null}
 use Rattle.sqlite_value.specs.declared.value.Value.TheVariants.{Text}
 use Rattle.sql_rows.specs.Values.{nat, bucket_values, plain_bucket}
-use Rattle.sql_rows.proofs.PutBucket.{bound_bucket}
-use Rattle.sql_rows.proofs.Writes.{runs_with}
+use Rattle.sql_rows.proofs.puts.PutBucket.{bound_bucket}
+use Rattle.sql_rows.proofs.writes.Writes.{runs_with}
 use Rattle.sql_rows.proofs.bucket_rows.write_bucket.Goals as goal
 
 pub returns : goal.returns

@@ -1,6 +1,6 @@
 use Rattle.std.proofs.Common.{refl}
 use Rattle.sql_rows.specs.Values.{plain_charge}
-use Rattle.sql_rows.proofs.AddCharge.{adds_charge}
+use Rattle.sql_rows.proofs.puts.AddCharge.{adds_charge}
 use Rattle.sql_rows.proofs.charge_rows.add_charge.Goals as goal
 
 pub returns-clause-adds : goal.returns-clause-adds

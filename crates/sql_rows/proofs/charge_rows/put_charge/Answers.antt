@@ -1,7 +1,7 @@
 use Rattle.std.proofs.Common.{Ok, refl}
 use Rattle.sql_rows.specs.Values.{plain_charge}
-use Rattle.sql_rows.proofs.PutCharge.{makes_charge}
-use Rattle.sql_rows.proofs.Writes.{ran_with}
+use Rattle.sql_rows.proofs.puts.PutCharge.{makes_charge}
+use Rattle.sql_rows.proofs.writes.Writes.{ran_with}
 use Rattle.sql_rows.proofs.charge_rows.put_charge.Goals as goal
 
 pub returns : goal.returns

@@ -2,7 +2,7 @@ use Rattle.std.proofs.Common.{◌≡◌, drop}
 use Rattle.sqlite.specs.Held.{state}
 use Rattle.sql_rows.specs.Content.{with_rows, with_charge_row}
 use Rattle.sql_rows.specs.Values.{plain_charge}
-use Rattle.sql_rows.proofs.Each.{HasPut}
+use Rattle.sql_rows.proofs.puts.Each.{HasPut}
 use Rattle.sql_rows.proofs.charge_rows.put_charges.Given as goal
 
 abbrev pub invariant-rows : goal.invariant-rows

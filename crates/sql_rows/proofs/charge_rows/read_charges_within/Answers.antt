@@ -2,8 +2,8 @@ use Rattle.std.proofs.Common.{[], ◌∷◌, map, ap, ◌∙◌}
 use Rattle.sqlite.specs.Values.{bound_value}
 use Rattle.sqlite_value.specs.declared.value.Value.TheVariants.{Text}
 use Rattle.sql_tables.proofs.Telling.{reads_as}
-use Rattle.sql_rows.proofs.ReadCharges.{read_charges_within_text, read_charges_within_plain}
-use Rattle.sql_rows.proofs.ReadCharges.{charges_read}
+use Rattle.sql_rows.proofs.selections.ReadCharges.{read_charges_within_text}
+use Rattle.sql_rows.proofs.selections.ReadCharges.{read_charges_within_plain, charges_read}
 use Rattle.sql_rows.proofs.charge_rows.read_charges_within.Goals as goal
 
 pub read-requires-clause-plain : goal.read-requires-clause-plain

@@ -2,8 +2,8 @@ use Rattle.std.proofs.Common.{rules, refl, ◌∙◌, ap}
 use Rattle.sqlite_value.specs.declared.value.Value.TheVariants.{Text}
 use Rattle.ledger.specs.declared.charge.ChargeRow.{ChargeRow}
 use Rattle.sql_rows.specs.Values.{nat, charge_values, plain_charge}
-use Rattle.sql_rows.proofs.PutCharge.{bound_charge}
-use Rattle.sql_rows.proofs.Writes.{runs_with}
+use Rattle.sql_rows.proofs.puts.PutCharge.{bound_charge}
+use Rattle.sql_rows.proofs.writes.Writes.{runs_with}
 use Rattle.sql_rows.proofs.charge_rows.write_charge.Goals as goal
 
 pub returns : goal.returns

@@ -1,6 +1,6 @@
 use Rattle.std.proofs.Common.{Ok}
-use Rattle.sql_rows.proofs.PutCounter.{makes_counter}
-use Rattle.sql_rows.proofs.Writes.{ran_with}
+use Rattle.sql_rows.proofs.puts.PutCounter.{makes_counter}
+use Rattle.sql_rows.proofs.writes.Writes.{ran_with}
 use Rattle.sql_rows.proofs.counter_rows.insert_counter.Goals as goal
 
 pub returns : goal.returns

@@ -1,6 +1,6 @@
 use Rattle.std.proofs.Common.{◌∙◌}
 use Rattle.sql_rows.specs.Content.{has_counter, with_counter_row, with_rows}
-use Rattle.sql_rows.proofs.Replaces.{was_put}
+use Rattle.sql_rows.proofs.writes.Replaces.{was_put}
 use Rattle.sql_rows.proofs.counter_rows.put_counter.Goals as goal
 
 pub returns : goal.returns

@@ -1,7 +1,7 @@
 use Rattle.std.proofs.Common.{◌∙◌, arith}
 use Rattle.sqlite.specs.Held.{state}
 use Rattle.sql_rows.specs.Content.{with_rows, with_counter_row}
-use Rattle.sql_rows.proofs.Each.{put_all, put_at}
+use Rattle.sql_rows.proofs.puts.Each.{put_all, put_at}
 use Rattle.sql_rows.proofs.counter_rows.put_counters.Goals as goal
 
 pub rows-preserved : goal.rows-preserved

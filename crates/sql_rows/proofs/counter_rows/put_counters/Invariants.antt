@@ -1,7 +1,7 @@
 use Rattle.std.proofs.Common.{◌≡◌, drop}
 use Rattle.sqlite.specs.Held.{state}
 use Rattle.sql_rows.specs.Content.{with_rows, with_counter_row}
-use Rattle.sql_rows.proofs.Each.{HasPut}
+use Rattle.sql_rows.proofs.puts.Each.{HasPut}
 use Rattle.sql_rows.proofs.counter_rows.put_counters.Given as goal
 
 abbrev pub invariant-rows : goal.invariant-rows

@@ -2,7 +2,8 @@ use Rattle.std.proofs.Common.{[], ◌∷◌, map, ap, ◌∙◌}
 use Rattle.sqlite.specs.Values.{bound_value}
 use Rattle.sqlite_value.specs.declared.value.Value.TheVariants.{Text}
 use Rattle.sql_tables.proofs.Telling.{reads_as}
-use Rattle.sql_rows.proofs.ReadCounter.{read_counter_text, read_counter_plain, counter_read}
+use Rattle.sql_rows.proofs.selections.ReadCounter.{read_counter_text, read_counter_plain}
+use Rattle.sql_rows.proofs.selections.ReadCounter.{counter_read}
 use Rattle.sql_rows.proofs.counter_rows.read_counter.Goals as goal
 
 pub read-requires-clause-plain : goal.read-requires-clause-plain

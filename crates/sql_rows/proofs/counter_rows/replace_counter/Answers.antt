@@ -1,4 +1,4 @@
-use Rattle.sql_rows.proofs.ReplaceCounter.{replaces_counter}
+use Rattle.sql_rows.proofs.puts.ReplaceCounter.{replaces_counter}
 use Rattle.sql_rows.proofs.counter_rows.replace_counter.Goals as goal
 
 pub returns-clause-replaces : goal.returns-clause-replaces

@@ -1,8 +1,8 @@
 use Rattle.std.proofs.Common.{rules, ◌∙◌, ap}
 use Rattle.sqlite_value.specs.declared.value.Value.TheVariants.{Text}
 use Rattle.sql_rows.specs.Values.{counter_values}
-use Rattle.sql_rows.proofs.PutCounter.{bound_counter}
-use Rattle.sql_rows.proofs.Writes.{runs_with}
+use Rattle.sql_rows.proofs.puts.PutCounter.{bound_counter}
+use Rattle.sql_rows.proofs.writes.Writes.{runs_with}
 use Rattle.sql_rows.proofs.counter_rows.write_counter.Goals as goal
 
 pub returns : goal.returns

@@ -1,7 +1,7 @@
 use Rattle.std.proofs.Common.{rules, ◌∙◌, ap}
 use Rattle.sqlite_value.specs.declared.value.Value.TheVariants.{Text}
 use Rattle.sql_rows.specs.declared.covered_rows.CoveredColumns.{CoveredColumns}
-use Rattle.sql_rows.proofs.PutCovered.{makes_covered, bound_covered}
+use Rattle.sql_rows.proofs.puts.PutCovered.{makes_covered, bound_covered}
 use Rattle.sql_rows.proofs.covered_rows.put_covered.Goals as goal
 
 pub returns : goal.returns

@@ -2,7 +2,8 @@ use Rattle.std.proofs.Common.{[], ◌∷◌, map, ap, ◌∙◌}
 use Rattle.sqlite.specs.Values.{bound_value}
 use Rattle.sqlite_value.specs.declared.value.Value.TheVariants.{Text}
 use Rattle.sql_tables.proofs.Telling.{reads_as}
-use Rattle.sql_rows.proofs.ReadCovered.{read_covered_text, read_covered_plain, covered_read}
+use Rattle.sql_rows.proofs.selections.ReadCovered.{read_covered_text, read_covered_plain}
+use Rattle.sql_rows.proofs.selections.ReadCovered.{covered_read}
 use Rattle.sql_rows.proofs.covered_rows.read_covered_within.Goals as goal
 
 pub read-requires-clause-plain : goal.read-requires-clause-plain

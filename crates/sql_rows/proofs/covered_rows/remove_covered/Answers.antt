@@ -1,6 +1,6 @@
 use Rattle.std.proofs.Common.{rules, ◌∙◌, ap}
 use Rattle.sqlite_value.specs.declared.value.Value.TheVariants.{Text}
-use Rattle.sql_rows.proofs.RemoveCovered.{makes_none, bound_key}
+use Rattle.sql_rows.proofs.removals.RemoveCovered.{makes_none, bound_key}
 use Rattle.sql_rows.proofs.covered_rows.remove_covered.Goals as goal
 
 pub returns : goal.returns

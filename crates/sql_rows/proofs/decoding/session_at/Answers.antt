@@ -1,6 +1,6 @@
 use Rattle.std.proofs.Common.{sym, ◌∙◌}
 use Rattle.std.proofs.lemmas.Result.{err_from_is_err_and}
-use Rattle.sql_rows.proofs.NamedTexts.{session_utf8}
+use Rattle.sql_rows.proofs.names.NamedTexts.{session_utf8}
 use Rattle.sql_rows.proofs.decoding.session_at.Goals as goal
 
 pub returns-in_err-name : goal.returns-in_err-name

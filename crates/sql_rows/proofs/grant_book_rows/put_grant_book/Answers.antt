@@ -1,6 +1,6 @@
 use Rattle.std.proofs.Common.{rules, ◌∙◌, ap}
 use Rattle.sqlite_value.specs.declared.value.Value.TheVariants.{Text}
-use Rattle.sql_rows.proofs.PutGrantBook.{makes_grant_book, bound_grant_book}
+use Rattle.sql_rows.proofs.puts.PutGrantBook.{makes_grant_book, bound_grant_book}
 use Rattle.sql_rows.proofs.grant_book_rows.put_grant_book.Goals as goal
 
 pub returns : goal.returns

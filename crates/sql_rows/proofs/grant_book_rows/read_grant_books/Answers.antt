@@ -2,8 +2,8 @@ use Rattle.std.proofs.Common.{[], ◌∷◌, map, ap, ◌∙◌}
 use Rattle.sqlite.specs.Values.{bound_value}
 use Rattle.sqlite_value.specs.declared.value.Value.TheVariants.{Text}
 use Rattle.sql_tables.proofs.Telling.{reads_as}
-use Rattle.sql_rows.proofs.ReadGrantBooks.{read_grant_books_text, read_grant_books_plain}
-use Rattle.sql_rows.proofs.ReadGrantBooks.{grant_books_read}
+use Rattle.sql_rows.proofs.selections.ReadGrantBooks.{read_grant_books_text, read_grant_books_plain}
+use Rattle.sql_rows.proofs.selections.ReadGrantBooks.{grant_books_read}
 use Rattle.sql_rows.proofs.grant_book_rows.read_grant_books.Goals as goal
 
 pub read-requires-clause-plain : goal.read-requires-clause-plain

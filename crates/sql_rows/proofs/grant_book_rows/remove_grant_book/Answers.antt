@@ -1,6 +1,6 @@
 use Rattle.std.proofs.Common.{rules, ◌∙◌, ap}
 use Rattle.sqlite_value.specs.declared.value.Value.TheVariants.{Text}
-use Rattle.sql_rows.proofs.RemoveGrantBook.{makes_none, bound_key}
+use Rattle.sql_rows.proofs.removals.RemoveGrantBook.{makes_none, bound_key}
 use Rattle.sql_rows.proofs.grant_book_rows.remove_grant_book.Goals as goal
 
 pub returns : goal.returns

@@ -3,9 +3,9 @@ use Rattle.std.specs.Prelude.{is_some, option_map}
 use Rattle.sqlite_value.specs.declared.value.Value.TheVariants.{Text}
 use Rattle.sql_rows.specs.Texts.{names_put}
 use Rattle.sql_rows.specs.Values.{nat, flag_number}
-use Rattle.sql_rows.proofs.AddGroup.{adds_group}
-use Rattle.sql_rows.proofs.PutGroup.{bound_group}
-use Rattle.sql_rows.proofs.NamesPut.{before_put, after_put, there_put}
+use Rattle.sql_rows.proofs.puts.AddGroup.{adds_group}
+use Rattle.sql_rows.proofs.puts.PutGroup.{bound_group}
+use Rattle.sql_rows.proofs.names.NamesPut.{before_put, after_put, there_put}
 use Rattle.sql_rows.proofs.group_rows.add_group.Goals as goal
 
 pub returns : goal.returns

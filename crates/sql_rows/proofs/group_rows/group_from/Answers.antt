@@ -1,7 +1,7 @@
 use Rattle.std.proofs.Common.{sym, ap, ◌∙◌, arith}
 use Rattle.sql_tables.proofs.Columns.{row_is}
 use Rattle.sql_rows.specs.Values.{nat, flag_number}
-use Rattle.sql_rows.proofs.Periods.{is_some_names, before_names, after_names}
+use Rattle.sql_rows.proofs.names.Periods.{is_some_names, before_names, after_names}
 use Rattle.sql_rows.proofs.group_rows.group_from.Goals as goal
 
 pub returns : goal.returns

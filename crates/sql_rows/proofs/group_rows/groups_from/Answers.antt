@@ -1,7 +1,7 @@
 use Rattle.std.proofs.Common.{rules}
 use Rattle.sql_rows.specs.Lists.{group_at_before}
 use Rattle.sql_rows.specs.Texts.{group_at}
-use Rattle.sql_rows.proofs.Rising.{ascends_map}
+use Rattle.sql_rows.proofs.lists.Rising.{ascends_map}
 use Rattle.sql_rows.proofs.group_rows.groups_from.Goals as goal
 
 pub returns-clause-order : goal.returns-clause-order

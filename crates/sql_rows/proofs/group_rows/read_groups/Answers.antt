@@ -3,7 +3,7 @@ use Rattle.sqlite.specs.Values.{bound_value}
 use Rattle.sqlite_value.specs.declared.value.Value.TheVariants.{Text}
 use Rattle.sql_rows.specs.Texts.{group_at}
 use Rattle.sql_tables.proofs.Telling.{reads_as}
-use Rattle.sql_rows.proofs.ReadGroups.{read_groups_text, read_groups_plain, groups_read}
+use Rattle.sql_rows.proofs.selections.ReadGroups.{read_groups_text, read_groups_plain, groups_read}
 use Rattle.sql_rows.proofs.group_rows.read_groups.Goals as goal
 
 pub read-requires-clause-plain : goal.read-requires-clause-plain

@@ -2,8 +2,9 @@ use Rattle.std.proofs.Common.{[], ◌∷◌, map, ap, ◌∙◌}
 use Rattle.sqlite.specs.Values.{bound_value}
 use Rattle.sqlite_value.specs.declared.value.Value.TheVariants.{Text}
 use Rattle.sql_tables.proofs.Telling.{reads_as}
-use Rattle.sql_rows.proofs.ReadHeadCounters.{head_counters_read, read_head_counters_plain}
-use Rattle.sql_rows.proofs.ReadHeadCounters.{read_head_counters_text}
+use Rattle.sql_rows.proofs.selections.ReadHeadCounters.{head_counters_read}
+use Rattle.sql_rows.proofs.selections.ReadHeadCounters.{read_head_counters_plain}
+use Rattle.sql_rows.proofs.selections.ReadHeadCounters.{read_head_counters_text}
 use Rattle.sql_rows.proofs.head_counter_rows.read_head_counters.Goals as goal
 
 pub read-requires-clause-plain : goal.read-requires-clause-plain

@@ -2,8 +2,8 @@ use Rattle.std.proofs.Common.{[], ◌∷◌, map, ap, ◌∙◌}
 use Rattle.sqlite.specs.Values.{bound_value}
 use Rattle.sqlite_value.specs.declared.value.Value.TheVariants.{Text}
 use Rattle.sql_tables.proofs.Telling.{reads_as}
-use Rattle.sql_rows.proofs.ReadHeadCycles.{head_cycles_read, read_head_cycles_plain}
-use Rattle.sql_rows.proofs.ReadHeadCycles.{read_head_cycles_text}
+use Rattle.sql_rows.proofs.selections.ReadHeadCycles.{head_cycles_read, read_head_cycles_plain}
+use Rattle.sql_rows.proofs.selections.ReadHeadCycles.{read_head_cycles_text}
 use Rattle.sql_rows.proofs.head_counter_rows.read_head_cycles.Goals as goal
 
 pub read-requires-clause-plain : goal.read-requires-clause-plain

@@ -1,6 +1,6 @@
 use Rattle.std.proofs.Common.{rules, ◌∙◌, ap}
 use Rattle.sqlite_value.specs.declared.value.Value.TheVariants.{Text}
-use Rattle.sql_rows.proofs.PutHold.{makes_hold, bound_hold}
+use Rattle.sql_rows.proofs.puts.PutHold.{makes_hold, bound_hold}
 use Rattle.sql_rows.proofs.hold_rows.put_hold.Goals as goal
 
 pub returns : goal.returns

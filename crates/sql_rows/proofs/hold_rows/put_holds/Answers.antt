@@ -1,7 +1,7 @@
 use Rattle.std.proofs.Common.{◌∙◌, arith}
 use Rattle.sqlite.specs.Held.{state}
 use Rattle.sql_rows.specs.Content.{with_rows, with_hold_row}
-use Rattle.sql_rows.proofs.Each.{put_all, put_at}
+use Rattle.sql_rows.proofs.puts.Each.{put_all, put_at}
 use Rattle.sql_rows.proofs.hold_rows.put_holds.Goals as goal
 
 pub rows-preserved : goal.rows-preserved

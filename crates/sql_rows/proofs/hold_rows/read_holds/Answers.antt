@@ -2,7 +2,7 @@ use Rattle.std.proofs.Common.{[], ◌∷◌, map, ap, ◌∙◌}
 use Rattle.sqlite.specs.Values.{bound_value}
 use Rattle.sqlite_value.specs.declared.value.Value.TheVariants.{Text}
 use Rattle.sql_tables.proofs.Telling.{reads_as}
-use Rattle.sql_rows.proofs.ReadHolds.{read_holds_text, read_holds_plain, holds_read}
+use Rattle.sql_rows.proofs.selections.ReadHolds.{read_holds_text, read_holds_plain, holds_read}
 use Rattle.sql_rows.proofs.hold_rows.read_holds.Goals as goal
 
 pub read-requires-clause-plain : goal.read-requires-clause-plain

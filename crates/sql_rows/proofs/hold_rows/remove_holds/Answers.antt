@@ -1,6 +1,6 @@
 use Rattle.std.proofs.Common.{rules, ◌∙◌, ap}
 use Rattle.sqlite_value.specs.declared.value.Value.TheVariants.{Text}
-use Rattle.sql_rows.proofs.RemoveHolds.{makes_none, bound_group}
+use Rattle.sql_rows.proofs.removals.RemoveHolds.{makes_none, bound_group}
 use Rattle.sql_rows.proofs.hold_rows.remove_holds.Goals as goal
 
 pub returns : goal.returns

@@ -2,7 +2,7 @@ use Rattle.std.proofs.Common.{[], ◌∷◌, map, ap, ◌∙◌}
 use Rattle.sqlite.specs.Values.{bound_value}
 use Rattle.sqlite_value.specs.declared.value.Value.TheVariants.{Text}
 use Rattle.sql_tables.proofs.Telling.{reads_within_as}
-use Rattle.sql_rows.proofs.ReadLive.{live_read, read_live_plain, read_live_text}
+use Rattle.sql_rows.proofs.selections.ReadLive.{live_read, read_live_plain, read_live_text}
 use Rattle.sql_rows.proofs.live_bucket_rows.read_buckets_live_within.Goals as goal
 
 pub read_within-requires-clause-plain : goal.read_within-requires-clause-plain

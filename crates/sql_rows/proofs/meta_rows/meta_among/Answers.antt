@@ -2,7 +2,7 @@ use Rattle.std.proofs.Common.{◌∙◌}
 use Rattle.std.specs.Prelude.{option_map}
 use Rattle.std.proofs.lemmas.Result.{err_from_is_err_and}
 use Rattle.sql_tables.specs.Selects.{one_or_none}
-use Rattle.sql_rows.proofs.MetaRules.{none_refused, one_read, several_refused}
+use Rattle.sql_rows.proofs.rules.MetaRules.{none_refused, one_read, several_refused}
 use Rattle.sql_rows.proofs.meta_rows.meta_among.Goals as goal
 
 pub returns-in_err-row-clause-read : goal.returns-in_err-row-clause-read

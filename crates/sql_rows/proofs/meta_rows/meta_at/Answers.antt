@@ -1,7 +1,7 @@
 use Rattle.std.proofs.Common.{sym, ◌∙◌}
 use Rattle.std.proofs.lemmas.Result.{err_from_is_err_and}
 use Rattle.sql_rows.specs.Texts.{meta_of}
-use Rattle.sql_rows.proofs.MetaRules.{other_version, own_version, same_row}
+use Rattle.sql_rows.proofs.rules.MetaRules.{other_version, own_version, same_row}
 use Rattle.sql_rows.proofs.meta_rows.meta_at.Goals as goal
 
 pub returns-then-not-branch-clause-read : goal.returns-then-not-branch-clause-read

@@ -1,6 +1,7 @@
 use Rattle.std.proofs.Common.{◌∙◌, ap}
 use Rattle.sql_rows.specs.Values.{nat}
-use Rattle.sql_rows.proofs.PutLastMoment.{bound_last_moment, makes_last_moment, rules_last_moment}
+use Rattle.sql_rows.proofs.puts.PutLastMoment.{bound_last_moment, makes_last_moment}
+use Rattle.sql_rows.proofs.puts.PutLastMoment.{rules_last_moment}
 use Rattle.sql_rows.proofs.meta_rows.put_last_moment.Goals as goal
 
 pub returns-clause-makes : goal.returns-clause-makes

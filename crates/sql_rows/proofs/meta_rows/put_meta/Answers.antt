@@ -1,6 +1,6 @@
 use Rattle.std.proofs.Common.{◌∙◌, ap}
 use Rattle.sql_rows.specs.Values.{nat}
-use Rattle.sql_rows.proofs.PutMeta.{makes_meta, rules_meta, bound_meta}
+use Rattle.sql_rows.proofs.puts.PutMeta.{makes_meta, rules_meta, bound_meta}
 use Rattle.sql_rows.proofs.meta_rows.put_meta.Goals as goal
 
 pub returns-clause-makes : goal.returns-clause-makes

@@ -1,8 +1,8 @@
 use Rattle.std.proofs.Common.{refl, ◌∙◌}
 use Rattle.sql_tables.proofs.Telling.{reads_within_as}
 use Rattle.sql_rows.specs.Ruled.{IsMetaRead, IsRefusedMeta}
-use Rattle.sql_rows.proofs.MetaRules.{at_err, at_ok, meta_told}
-use Rattle.sql_rows.proofs.ReadMeta.{read_meta_text, read_meta_plain}
+use Rattle.sql_rows.proofs.rules.MetaRules.{at_err, at_ok, meta_told}
+use Rattle.sql_rows.proofs.selections.ReadMeta.{read_meta_text, read_meta_plain}
 use Rattle.sql_rows.proofs.meta_rows.read_meta_within.Goals as goal
 
 pub read_within-requires-clause-plain : goal.read_within-requires-clause-plain

@@ -2,7 +2,8 @@ use Rattle.std.proofs.Common.{[], ◌∷◌, map, ap, ◌∙◌}
 use Rattle.sqlite.specs.Values.{bound_value}
 use Rattle.sqlite_value.specs.declared.value.Value.TheVariants.{Text}
 use Rattle.sql_tables.proofs.Telling.{reads_within_as}
-use Rattle.sql_rows.proofs.ReadOpenRows.{open_rows_read, read_open_rows_plain, read_open_rows_text}
+use Rattle.sql_rows.proofs.selections.ReadOpenRows.{open_rows_read, read_open_rows_plain}
+use Rattle.sql_rows.proofs.selections.ReadOpenRows.{read_open_rows_text}
 use Rattle.sql_rows.proofs.open_rows.read_open_rows_within.Goals as goal
 
 pub read_within-requires-clause-plain : goal.read_within-requires-clause-plain

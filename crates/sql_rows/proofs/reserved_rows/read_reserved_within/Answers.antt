@@ -1,9 +1,10 @@
 use Rattle.std.proofs.Common.{map, refl, ◌∙◌}
 use Rattle.sql_rows.specs.Texts.{reserved_at}
 use Rattle.sql_tables.proofs.Telling.{reads_within_as}
-use Rattle.sql_rows.proofs.MetaRules.{at_err, at_ok}
-use Rattle.sql_rows.proofs.ReadReserved.{read_reserved_text, read_reserved_plain, reserved_read}
-use Rattle.sql_rows.proofs.ReservedRules.{all_refused}
+use Rattle.sql_rows.proofs.rules.MetaRules.{at_err, at_ok}
+use Rattle.sql_rows.proofs.selections.ReadReserved.{read_reserved_text, read_reserved_plain}
+use Rattle.sql_rows.proofs.selections.ReadReserved.{reserved_read}
+use Rattle.sql_rows.proofs.rules.ReservedRules.{all_refused}
 use Rattle.sql_rows.proofs.reserved_rows.read_reserved_within.Goals as goal
 
 pub read_within-requires-clause-plain : goal.read_within-requires-clause-plain

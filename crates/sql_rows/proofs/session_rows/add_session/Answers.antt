@@ -1,6 +1,6 @@
 use Rattle.std.proofs.Common.{Ok}
-use Rattle.sql_rows.proofs.AddSession.{adds_session}
-use Rattle.sql_rows.proofs.Writes.{ran_with}
+use Rattle.sql_rows.proofs.puts.AddSession.{adds_session}
+use Rattle.sql_rows.proofs.writes.Writes.{ran_with}
 use Rattle.sql_rows.proofs.session_rows.add_session.Goals as goal
 
 pub returns : goal.returns

@@ -1,8 +1,8 @@
 use Rattle.std.proofs.Common.{◌∙◌, arith}
 use Rattle.sqlite.specs.Held.{state}
 use Rattle.sql_rows.specs.Content.{with_rows, with_session_row}
-use Rattle.sql_rows.proofs.Inserts.{done_makes}
-use Rattle.sql_rows.proofs.Each.{put_all, put_next}
+use Rattle.sql_rows.proofs.writes.Inserts.{done_makes}
+use Rattle.sql_rows.proofs.puts.Each.{put_all, put_next}
 use Rattle.sql_rows.proofs.session_rows.add_sessions.Goals as goal
 
 pub rows-preserved : goal.rows-preserved

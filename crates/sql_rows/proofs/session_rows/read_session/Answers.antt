@@ -3,8 +3,8 @@ use Rattle.sqlite.specs.Held.{state}
 use Rattle.sqlite.specs.Values.{bound_value}
 use Rattle.sqlite_value.specs.declared.value.Value.TheVariants.{Text}
 use Rattle.sql_tables.proofs.Telling.{reads_as}
-use Rattle.sql_rows.proofs.ReadSession.{read_session_text, read_session_plain, session_read}
-use Rattle.sql_rows.proofs.ReadSession.{none_told}
+use Rattle.sql_rows.proofs.selections.ReadSession.{read_session_text, read_session_plain}
+use Rattle.sql_rows.proofs.selections.ReadSession.{session_read, none_told}
 use Rattle.sql_rows.proofs.session_rows.read_session.Goals as goal
 
 pub read-requires-clause-plain : goal.read-requires-clause-plain

@@ -2,7 +2,8 @@ use Rattle.std.proofs.Common.{[], ◌∷◌, map, ap, ◌∙◌}
 use Rattle.sqlite.specs.Values.{bound_value}
 use Rattle.sqlite_value.specs.declared.value.Value.TheVariants.{Text}
 use Rattle.sql_tables.proofs.Telling.{reads_as}
-use Rattle.sql_rows.proofs.ReadOpen.{read_sessions_open_text, read_sessions_open_plain, open_read}
+use Rattle.sql_rows.proofs.selections.ReadOpen.{read_sessions_open_text, read_sessions_open_plain}
+use Rattle.sql_rows.proofs.selections.ReadOpen.{open_read}
 use Rattle.sql_rows.proofs.session_rows.read_sessions_open.Goals as goal
 
 pub read-requires-clause-plain : goal.read-requires-clause-plain

@@ -1,8 +1,8 @@
 use Rattle.std.proofs.Common.{rules, ◌∙◌, ap}
 use Rattle.sqlite_value.specs.declared.value.Value.TheVariants.{Text}
 use Rattle.sql_rows.specs.Values.{nat, session_values}
-use Rattle.sql_rows.proofs.PutSession.{bound_session}
-use Rattle.sql_rows.proofs.Writes.{runs_with}
+use Rattle.sql_rows.proofs.puts.PutSession.{bound_session}
+use Rattle.sql_rows.proofs.writes.Writes.{runs_with}
 use Rattle.sql_rows.proofs.session_rows.write_session.Goals as goal
 
 pub returns : goal.returns

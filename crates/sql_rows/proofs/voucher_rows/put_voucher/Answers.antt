@@ -1,7 +1,7 @@
 use Rattle.std.proofs.Common.{rules, ◌∙◌, ap}
 use Rattle.std.specs.Option.{option_copied}
 use Rattle.sql_rows.specs.Values.{nat}
-use Rattle.sql_rows.proofs.PutVoucher.{makes_voucher, bound_voucher}
+use Rattle.sql_rows.proofs.puts.PutVoucher.{makes_voucher, bound_voucher}
 use Rattle.sql_rows.proofs.voucher_rows.put_voucher.Goals as goal
 
 pub returns : goal.returns

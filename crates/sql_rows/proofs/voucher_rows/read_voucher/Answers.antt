@@ -1,7 +1,8 @@
 use Rattle.std.proofs.Common.{[], ◌∷◌, map}
 use Rattle.sqlite.specs.Values.{bound_value}
 use Rattle.sql_tables.proofs.Telling.{reads_as}
-use Rattle.sql_rows.proofs.ReadVoucher.{read_voucher_text, read_voucher_plain, voucher_read}
+use Rattle.sql_rows.proofs.selections.ReadVoucher.{read_voucher_text, read_voucher_plain}
+use Rattle.sql_rows.proofs.selections.ReadVoucher.{voucher_read}
 use Rattle.sql_rows.proofs.voucher_rows.read_voucher.Goals as goal
 
 pub read-requires-clause-plain : goal.read-requires-clause-plain

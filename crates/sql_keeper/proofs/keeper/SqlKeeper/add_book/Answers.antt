@@ -1,5 +1,5 @@
 use Rattle.std.proofs.Common.{refl}
-use Rattle.sql_keeper.proofs.AddedBooks.{added_keeper, adds_book}
+use Rattle.sql_keeper.proofs.shelf.AddedBooks.{added_keeper, adds_book}
 use Rattle.sql_keeper.proofs.keeper.SqlKeeper.add_book.Goals as goal
 
 pub add_to_all-added-requires-clause-last : goal.add_to_all-added-requires-clause-last

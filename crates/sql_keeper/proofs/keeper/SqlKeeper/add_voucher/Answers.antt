@@ -1,10 +1,10 @@
 use Rattle.std.proofs.Common.{refl}
 use Rattle.sql_keeper.specs.Additions.{BecomesAdded}
 use Rattle.sql_keeper.specs.Content.{shelf_names}
-use Rattle.sql_keeper.proofs.Held.{held_added, held_stands}
-use Rattle.sql_keeper.proofs.Committed.{added_law}
-use Rattle.sql_keeper.proofs.Standing.{keeps, standing_keeper, standing_whole}
-use Rattle.sql_keeper.proofs.Whole.{handed_on}
+use Rattle.sql_keeper.proofs.openings.Held.{held_added, held_stands}
+use Rattle.sql_keeper.proofs.commits.Committed.{added_law}
+use Rattle.sql_keeper.proofs.stops.Standing.{keeps, standing_keeper, standing_whole}
+use Rattle.sql_keeper.proofs.commits.Whole.{handed_on}
 use Rattle.sql_keeper.proofs.keeper.SqlKeeper.add_voucher.Goals as goal
 
 pub ask_to_add-made-requires-clause-is_there : goal.ask_to_add-made-requires-clause-is_there

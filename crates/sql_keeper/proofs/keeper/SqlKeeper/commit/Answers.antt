@@ -4,12 +4,12 @@ use Rattle.sql_keeper.specs.Content.{shelf_names}
 use Rattle.sql_keeper.specs.Commits.{Becomes}
 use Rattle.sql_keeper.specs.KeptRows.{BecomesOver, Keeps}
 use Rattle.sql_keeper.specs.Seen.{Sees}
-use Rattle.sql_keeper.proofs.Held.{held_committed, held_stands}
-use Rattle.sql_keeper.proofs.Committed.{committed}
-use Rattle.sql_keeper.proofs.KeptRows.{becomes_standing, kept_made}
-use Rattle.sql_keeper.proofs.SeenRows.{none_seen}
-use Rattle.sql_keeper.proofs.Standing.{keeps, ok_handed, standing_keeper, standing_whole}
-use Rattle.sql_keeper.proofs.Whole.{handed_on}
+use Rattle.sql_keeper.proofs.openings.Held.{held_committed, held_stands}
+use Rattle.sql_keeper.proofs.commits.Committed.{committed}
+use Rattle.sql_keeper.proofs.kept.KeptRows.{becomes_standing, kept_made}
+use Rattle.sql_keeper.proofs.kept.SeenRows.{none_seen}
+use Rattle.sql_keeper.proofs.stops.Standing.{keeps, ok_handed, standing_keeper, standing_whole}
+use Rattle.sql_keeper.proofs.commits.Whole.{handed_on}
 use Rattle.sql_keeper.proofs.keeper.SqlKeeper.commit.Goals as goal
 
 pub ask_to_change-made-requires-clause-is_there : goal.ask_to_change-made-requires-clause-is_there

@@ -2,8 +2,8 @@ use Rattle.std.proofs.Common.{◌∙◌}
 use Rattle.std.specs.String.{string_bytes}
 use Rattle.std.proofs.lemmas.Str.{IsUtf8-string_bytes}
 use Rattle.sqlite.specs.Held.{state}
-use Rattle.sql_keeper.proofs.Made.{created_read}
-use Rattle.sql_keeper.proofs.Opens.{created, not_created}
+use Rattle.sql_keeper.proofs.openings.Made.{created_read}
+use Rattle.sql_keeper.proofs.openings.Opens.{created, not_created}
 use Rattle.sql_keeper.proofs.keeper.SqlKeeper.create.Goals as goal
 
 pub keeper_of-requires-clause-read : goal.keeper_of-requires-clause-read

@@ -1,10 +1,10 @@
 use Rattle.std.proofs.Common.{refl}
 use Rattle.sqlite.specs.Held.{state}
 use Rattle.sql_keeper.specs.Content.{shelf_names}
-use Rattle.sql_keeper.proofs.Asked.{keeper_after}
-use Rattle.sql_keeper.proofs.KeptRows.{still_kept}
-use Rattle.sql_keeper.proofs.SeenRows.{seen_after}
-use Rattle.sql_keeper.proofs.Standing.{asked, asked_whole}
+use Rattle.sql_keeper.proofs.reads.Asked.{keeper_after}
+use Rattle.sql_keeper.proofs.kept.KeptRows.{still_kept}
+use Rattle.sql_keeper.proofs.kept.SeenRows.{seen_after}
+use Rattle.sql_keeper.proofs.stops.Standing.{asked, asked_whole}
 use Rattle.sql_keeper.proofs.keeper.SqlKeeper.dead_buckets.Goals as goal
 
 pub invariant_of-self : goal.invariant_of-self

@@ -2,10 +2,10 @@ use Rattle.std.proofs.Common.{refl, sym, ◌∙◌}
 use Rattle.sqlite.specs.Held.{state}
 use Rattle.sql_tables.proofs.Found.{is_some_map}
 use Rattle.sql_keeper.specs.Content.{head_in, shelf_names}
-use Rattle.sql_keeper.proofs.Asked.{keeper_after}
-use Rattle.sql_keeper.proofs.KeptRows.{still_kept}
-use Rattle.sql_keeper.proofs.SeenRows.{seen_after}
-use Rattle.sql_keeper.proofs.Standing.{asked, asked_whole}
+use Rattle.sql_keeper.proofs.reads.Asked.{keeper_after}
+use Rattle.sql_keeper.proofs.kept.KeptRows.{still_kept}
+use Rattle.sql_keeper.proofs.kept.SeenRows.{seen_after}
+use Rattle.sql_keeper.proofs.stops.Standing.{asked, asked_whole}
 use Rattle.sql_keeper.proofs.keeper.SqlKeeper.has_account.Goals as goal
 
 pub invariant_of-self : goal.invariant_of-self

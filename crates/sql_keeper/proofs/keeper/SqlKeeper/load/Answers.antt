@@ -5,10 +5,10 @@ use Rattle.sql_keeper.specs.Content.{shelf_names}
 use Rattle.sql_keeper.specs.KeptRows.{Keeps}
 use Rattle.sql_keeper.specs.LiveRows.{IsLoadStored}
 use Rattle.sql_keeper.specs.Seen.{Sees}
-use Rattle.sql_keeper.proofs.Asked.{keeper_after}
-use Rattle.sql_keeper.proofs.KeptRows.{kept_asked}
-use Rattle.sql_keeper.proofs.SeenRows.{seen_asked}
-use Rattle.sql_keeper.proofs.Standing.{asked, asked_whole}
+use Rattle.sql_keeper.proofs.reads.Asked.{keeper_after}
+use Rattle.sql_keeper.proofs.kept.KeptRows.{kept_asked}
+use Rattle.sql_keeper.proofs.kept.SeenRows.{seen_asked}
+use Rattle.sql_keeper.proofs.stops.Standing.{asked, asked_whole}
 use Rattle.sql_keeper.proofs.keeper.SqlKeeper.load.Goals as goal
 
 pub ask_to_load-read-requires-clause-kept : goal.ask_to_load-read-requires-clause-kept

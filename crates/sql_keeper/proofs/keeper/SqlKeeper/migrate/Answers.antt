@@ -1,5 +1,5 @@
 use Rattle.std.proofs.lemmas.Str.{IsUtf8-string_bytes}
-use Rattle.sql_keeper.proofs.Moved.{any_idle, any_open, any_read, is_migrated}
+use Rattle.sql_keeper.proofs.migrations.Moved.{any_idle, any_open, any_read, is_migrated}
 use Rattle.sql_keeper.proofs.keeper.SqlKeeper.migrate.Goals as goal
 
 pub keeper_of-requires-clause-idle : goal.keeper_of-requires-clause-idle

@@ -1,8 +1,8 @@
 use Rattle.std.proofs.Common.{refl}
 use Rattle.std.specs.String.{string_bytes}
 use Rattle.std.proofs.lemmas.Str.{IsUtf8-string_bytes}
-use Rattle.sql_keeper.proofs.Made.{ruled_read}
-use Rattle.sql_keeper.proofs.Opens.{opened}
+use Rattle.sql_keeper.proofs.openings.Made.{ruled_read}
+use Rattle.sql_keeper.proofs.openings.Opens.{opened}
 use Rattle.sql_keeper.proofs.keeper.SqlKeeper.open.Goals as goal
 
 pub keeper_of-requires-clause-read : goal.keeper_of-requires-clause-read

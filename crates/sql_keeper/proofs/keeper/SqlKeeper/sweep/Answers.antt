@@ -1,11 +1,11 @@
 use Rattle.std.proofs.Common.{refl}
 use Rattle.sql_keeper.specs.Content.{shelf_names}
 use Rattle.sql_keeper.specs.Sweeps.{BecomesSwept}
-use Rattle.sql_keeper.proofs.Held.{held_swept}
-use Rattle.sql_keeper.proofs.Asked.{handed}
-use Rattle.sql_keeper.proofs.Committed.{swept_law}
-use Rattle.sql_keeper.proofs.Standing.{keeps, standing_keeper, standing_whole}
-use Rattle.sql_keeper.proofs.Whole.{handed_on}
+use Rattle.sql_keeper.proofs.openings.Held.{held_swept}
+use Rattle.sql_keeper.proofs.reads.Asked.{handed}
+use Rattle.sql_keeper.proofs.commits.Committed.{swept_law}
+use Rattle.sql_keeper.proofs.stops.Standing.{keeps, standing_keeper, standing_whole}
+use Rattle.sql_keeper.proofs.commits.Whole.{handed_on}
 use Rattle.sql_keeper.proofs.keeper.SqlKeeper.sweep.Goals as goal
 
 pub invariant_of-self : goal.invariant_of-self

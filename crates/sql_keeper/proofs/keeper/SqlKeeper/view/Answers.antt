@@ -1,6 +1,6 @@
 use Rattle.sql_keeper.specs.Inside.{tables_in}
 use Rattle.sql_keeper.specs.Stops.{as_seen}
-use Rattle.sql_keeper.proofs.LiveRows.{viewed}
+use Rattle.sql_keeper.proofs.loads.LiveRows.{viewed}
 use Rattle.sql_keeper.proofs.keeper.SqlKeeper.view.Goals as goal
 
 pub returns : goal.returns

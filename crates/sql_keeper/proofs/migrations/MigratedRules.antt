@@ -1,0 +1,162 @@
+-- The rows of an older version are in the rules of the latest once the tables that it hasn't are
+-- made.
+use Rattle.std.proofs.Common.{◌≡◌, ◌<◌, ◌⊎◌, inl, inr, ℕ, zero, suc, List, [], ◌∷◌, ◌++◌, length}
+use Rattle.std.proofs.Common.{Option, Some, Bool, true, false, refl, sym, ap, subst, arith, IsTrue}
+use Rattle.std.proofs.Common.{◌∙◌}
+use Rattle.std.specs.Prelude.{if◌then◌else◌, is_some, nat_le, slice_index_or}
+use Rattle.std.proofs.lemmas.Bool.Decides.{nat_tests}
+use Rattle.std.specs.List.{AllByRecursion}
+use Rattle.shelves.specs.Shelves.{Shelf, count}
+use Rattle.sqlite_trees.specs.Tree.{Trees}
+use Rattle.sqlite_schema.specs.Rules.{Fits}
+use Rattle.sqlite_schema.specs.declared.schema.Table.{Table}
+use Rattle.sqlite_catalog.specs.Change.{KeepsRows}
+use Rattle.sql_tables.specs.Keyed.{IsStored}
+use Rattle.sql_tables.specs.Opens.{IsVersion}
+use Rattle.sql_tables.specs.Schema.{book_schema, latest, pieces_to, schema_at}
+use Rattle.sql_tables.specs.Schema as table
+use Rattle.sql_tables.specs.Stages.{AreEmpty, tables_between}
+use Rattle.sql_rows.specs.Content.{TablesContent, TableRows, tables_content}
+use Rattle.sql_rows.specs.Makes.{Turns}
+use Rattle.sql_rows.specs.Plain.{ArePlain}
+use Rattle.sql_rows.specs.Values.{Meta}
+use Rattle.sql_rules.specs.Columns.{is_in_bounds}
+use Rattle.sql_rules.specs.Rules.{rule_at}
+use Rattle.sql_rules.specs.Ruled.{AreInRules, IsInRules}
+use Rattle.sql_rules.specs.Tables.{AreRuled, AreRuledTo, IsRuledAt, table_at}
+use Rattle.sql_rules.proofs.Contents.{content_ruled}
+use Rattle.sql_rules.proofs.KeptRules.{meta_kept}
+use Rattle.sql_keeper.specs.Content.{is_reserved}
+use Rattle.sql_keeper.specs.Migrates.{granted_in, with_granted}
+use Rattle.sql_keeper.proofs.migrations.Migrated.{AreKept, with_latest}
+use Rattle.sql_keeper.proofs.rules.PlainRows.{rows_plain}
+
+-- the table at a place of a list keeps its rows, or has none
+abbrev KeepsAt : Trees → Trees → List Table → ℕ → Type 0
+KeepsAt old mid tables at =
+    mid (slice_index_or tables at table.meta).tree ≡ old (slice_index_or tables at table.meta).tree
+
+abbrev IsEmptyAt : Trees → List Table → ℕ → Type 0
+IsEmptyAt mid tables at = mid (slice_index_or tables at table.meta).tree ≡ []
+
+-- one of those whose rows stay, or of those that are new
+in_parts : (old mid : Trees) (first later : List Table) → KeepsRows first old mid
+    → AreEmpty later mid → (at : ℕ) → at < length (first ++ later)
+    → ((at < length first) × KeepsAt old mid (first ++ later) at)
+    ⊎ IsEmptyAt mid (first ++ later) at
+in_parts old mid [] [] kept none at low = absurd (omega (arith, low))
+in_parts old mid [] (t ∷ later) kept none zero low = inr none.0
+in_parts old mid [] (t ∷ later) kept none (suc at) low =
+    elim (in_parts old mid [] later tt none.1 at (omega (arith, low))) [
+      | inl stays ↦ absurd (omega (arith, stays.0))
+      | inr empty ↦ inr empty
+    ]
+in_parts old mid (t ∷ first) later kept none zero low = inl (omega arith, kept.0)
+in_parts old mid (t ∷ first) later kept none (suc at) low =
+    elim (in_parts old mid first later kept.1 none at (omega (arith, low))) [
+      | inl stays ↦ inl (omega (arith, stays.0), stays.1)
+      | inr empty ↦ inr empty
+    ]
+
+module _ (shelf : Shelf) (old mid : Trees) where
+  -- a table whose rows stay
+  still_ruled : (at : ℕ) → mid (table_at at).tree ≡ old (table_at at).tree
+      → IsRuledAt shelf at old → IsRuledAt shelf at mid
+  still_ruled at same r = record {
+    stored = subst IsStored (sym same) r.stored;
+    rows = subst (AllByRecursion (λ row. IsTrue (rule_at shelf at row))) (sym same) r.rows;
+  }
+
+  -- a table without rows
+  none_ruled : (at : ℕ) → mid (table_at at).tree ≡ [] → IsRuledAt shelf at mid
+  none_ruled at none = record {
+    stored = subst IsStored (sym none) (tt, tt);
+    rows = subst (AllByRecursion (λ row. IsTrue (rule_at shelf at row))) (sym none) tt;
+  }
+
+  -- the tables of a version whose rows stay, and no row of those that are new
+  ruled_tables : (first later : List Table) → first ++ later ≡ book_schema.tables
+      → KeepsRows first old mid → AreEmpty later mid → AreRuledTo shelf (length first) old
+      → AreRuledTo shelf (length (first ++ later)) mid
+  ruled_tables first later is kept none all at low =
+      elim (in_parts old mid first later kept none at low) [
+        | inl stays ↦
+            still_ruled at (subst (λ ts. KeepsAt old mid ts at) is stays.1) (all at stays.0)
+        | inr empty ↦ none_ruled at (subst (λ ts. IsEmptyAt mid ts at) is empty)
+      ]
+
+  -- those of each older version
+  -- rule: database-migrated.ruled-version
+  pub ruled_since : (v : ℕ) → IsVersion v → v < latest → AreKept v old mid → AreRuled shelf v old →
+      AreRuled shelf latest mid
+  ruled_since zero known less kept all = absurd (omega (arith, known.0))
+  ruled_since (suc zero) known less kept all =
+      ruled_tables (schema_at 1).tables
+      (tables_between (length (pieces_to 1)) (length (pieces_to latest))) refl kept.0 kept.1 all
+  ruled_since (suc (suc zero)) known less kept all =
+      ruled_tables (schema_at 2).tables
+      (tables_between (length (pieces_to 2)) (length (pieces_to latest))) refl kept.0 kept.1 all
+  ruled_since (suc (suc (suc n))) known less kept all =
+      let low : suc (suc (suc n)) < 3 = less in absurd (omega (arith, low))
+
+-- ---- the number of the first book for each reservation
+
+first_within : (shelf : Shelf) (o : Option ℕ) (b : Bool) (n : ℕ)
+    → ((m : ℕ) → o ≡ Some m → IsTrue (is_in_bounds 1 (count shelf) m))
+    → (if b then Some 1 else o) ≡ Some n → IsTrue (is_in_bounds 1 (count shelf) n)
+first_within shelf o true n some e =
+    let is : 1 ≡ n = cc e in
+    subst (λ m. is_in_bounds 1 (count shelf) m ≡ true) is (grind (arith, nat_tests))
+first_within shelf o false n some e = some n e
+
+granted_rows : (shelf : Shelf) (a : List ℕ) (r : TableRows) → AreInRules shelf a r →
+    AreInRules shelf a (granted_in r)
+granted_rows shelf a r in' = record {
+  head = in'.head;
+  buckets = in'.buckets;
+  counters = in'.counters;
+  sessions = in'.sessions;
+  groups = in'.groups;
+  holds = in'.holds;
+  answers = in'.answers;
+  charges = in'.charges;
+  grant_books = λ s g n e. first_within shelf (r.grant_books s g) (is_reserved (r.groups s g)) n
+      (in'.grant_books s g) e;
+  allowances = in'.allowances;
+  covered = in'.covered;
+}
+
+granted_by : (shelf : Shelf) (b : Bool) (c : TablesContent) → IsInRules shelf c
+    → IsInRules shelf (if b then c else record c { rows = λ a. granted_in (c.rows a) })
+granted_by shelf true c in' = in'
+granted_by shelf false c in' = record {
+  once = in'.once;
+  meta = in'.meta;
+  rows = λ a. granted_rows shelf a (c.rows a) (in'.rows a);
+  vouchers = in'.vouchers;
+  books = in'.books;
+}
+
+granted_meta : (b : Bool) (c : TablesContent)
+    → (if b then c else record c { rows = λ a. granted_in (c.rows a) }).meta ≡ c.meta
+granted_meta true c = refl
+granted_meta false c = refl
+
+-- ---- what a migration leaves
+
+module _ (shelf : Shelf) (v : ℕ) (mid new : Trees) (m : Meta) (all : AreRuled shelf latest mid)
+    (is : (tables_content mid).meta ≡ Some m) (turns : Turns (with_latest v m) mid new) where
+  -- rule: database-migrated.ruled-version
+  pub latest_ruled : Fits book_schema mid → IsInRules shelf (tables_content new)
+  latest_ruled fits =
+      let held = content_ruled shelf mid fits all in
+      let given = with_granted v (tables_content mid) in
+      let same = granted_meta (nat_le 2 v) (tables_content mid) ∙ is in
+      subst (IsInRules shelf) (sym turns.content)
+      (meta_kept shelf given (granted_by shelf (nat_le 2 v) (tables_content mid) held)
+      (record m { version = latest }) (held.meta m is)
+      (λ none. absurd (let some : is_some given.meta ≡ true = ap is_some same in
+      let clash : true ≡ false = sym some ∙ none in cc)))
+
+  pub latest_plain : ArePlain new
+  latest_plain = turns.plain (rows_plain shelf mid all)

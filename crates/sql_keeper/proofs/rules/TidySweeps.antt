@@ -1,0 +1,71 @@
+-- What a sweep leaves of tables in which no row is without a meaning.
+use Rattle.std.proofs.Common.{◌≡◌, ◌∙◌, ℕ, List, Option, Some, None, refl, sym, ap, subst}
+use Rattle.std.specs.Prelude.{is_some}
+use Rattle.shelves.specs.Shelves.{Shelf, IsShelf}
+use Rattle.reserving.specs.declared.session.Reservation.{Reservation}
+use Rattle.reserving.specs.declared.session.Session.{Session}
+use Rattle.reserving.specs.declared.session.SessionGroup.{SessionGroup}
+use Rattle.reserving.specs.Sessions.{group_in}
+use Rattle.reserving.specs.Stored.{StoredRows}
+use Rattle.sql_rows.specs.Content.{TablesContent, TableRows}
+use Rattle.sql_keeper.specs.Content.{Names, is_numbered}
+use Rattle.sql_keeper.specs.Sweeps.{AreAllSwept, AreSweptRows, IsSweptOf, with_sweep}
+use Rattle.sql_keeper.specs.Tests.{IsWritable, MayStand}
+use Rattle.sql_keeper.specs.Tidy.{AreTidyRows, IsTidy}
+use Rattle.sql_keeper.specs.Writes.{head_columns_of, meta_at}
+use Rattle.sql_keeper.specs.declared.swept_rows.SweptAccount.{SweptAccount}
+use Rattle.sql_keeper.proofs.commits.Changed.{may_at, over_stored}
+use Rattle.sql_keeper.proofs.sweeps.Swept.{found_one, next_is, row_after, rows_are, swept_at}
+use Rattle.sql_keeper.proofs.sweeps.Swept.{swept_kept, swept_meta}
+use Rattle.sql_keeper.proofs.sweeps.SweptNamed.{after, may_swept, opens_swept, settled_swept}
+use Rattle.sql_keeper.proofs.rules.Tidy.{tidy_meta, tidy_stored}
+use Rattle.sql_keeper.proofs.rules.TidyChanges.{ends_settled}
+
+-- ---- what is written of an account
+
+module _ (names : Names) (shelf : Shelf) (t : ℕ) (a : List ℕ) (r : TableRows)
+    (tidy : AreTidyRows names a r) (w : StoredRows) (swept : AreSweptRows names shelf t r w) where
+  abbrev among : List Session
+  among = (after names shelf t r w swept).sessions
+
+  tidy_swept : AreTidyRows names a (over_stored names w r)
+  tidy_swept = tidy_stored names a w r tidy
+      (ends_settled w r (settled_swept names shelf t r w swept)) (record {
+        live = λ s g x y is has. opens_swept names shelf t r w swept s (stands s g x y is has).live;
+        before = λ s g x y is has. (stands s g x y is has).before;
+        after = λ s g x y is has. (stands s g x y is has).after;
+        numbers = λ n is. sym (ap (is_numbered n) ((swept.live shelf t).0 ∙ ap (λ m. Some (record
+            (head_columns_of swept.before) { next_charge = m })) next_same)) ∙ is;
+      })
+    where
+      next_same : swept.before.next_charge ≡ w.next_charge
+      next_same = sym (ap (λ (x : StoredRows). x.next_charge) swept.is
+          ∙ next_is shelf t swept.before)
+
+      stands : (s : List ℕ) (g : ℕ) (x : SessionGroup) (y : Reservation)
+          → group_in s g w.groups ≡ Some x → x.reservation ≡ Some y → IsWritable names among s y
+      stands s g x y is has = subst (MayStand names among s) has
+          (may_at names among w.groups (may_swept names shelf t r w swept) s g x is)
+
+-- ---- all accounts
+
+-- rule: tidy-rows
+pub tidy_sweep : (names : Names) (text : List ℕ) (shelf : Shelf) (t : ℕ) (c : TablesContent)
+    (xs : List SweptAccount) → IsShelf shelf → AreAllSwept names shelf t c xs → IsTidy names c
+    → IsTidy names (with_sweep names text t xs c)
+tidy_sweep names text shelf t c xs ranges all tidy =
+    let m = tidy_meta names (meta_at text t) c tidy in
+    record {
+      there = ap is_some (swept_meta names text shelf t c xs ranges all);
+      once = swept_kept names text shelf t c xs ranges all ∙ m.once;
+      rows = λ a. subst (AreTidyRows names a)
+          (sym (rows_are names text shelf t c xs ranges all a)) (at a (swept_at a xs) refl);
+    }
+  where
+    at : (a : List ℕ) (o : Option SweptAccount) → swept_at a xs ≡ o →
+        AreTidyRows names a (row_after names o (c.rows a))
+    at a None e = tidy.rows a
+    at a (Some x) e =
+        let one = found_one (IsSweptOf names shelf t c) a xs x all.each e in
+        tidy_swept names shelf t a (c.rows a) (tidy.rows a) x.rows
+        (subst (λ n. AreSweptRows names shelf t (c.rows n) x.rows) one.1 one.0)

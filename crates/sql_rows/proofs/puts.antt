@@ -1,0 +1,23 @@
+-- What the texts that put, add and replace rows do.
+pub mod AddCharge
+pub mod AddGroup
+pub mod AddSession
+pub mod Each
+pub mod PutAccount
+pub mod PutAllowance
+pub mod PutAnswer
+pub mod PutBook
+pub mod PutBucket
+pub mod PutCharge
+pub mod PutCounter
+pub mod PutCovered
+pub mod PutGrantBook
+pub mod PutGroup
+pub mod PutHold
+pub mod PutLastMoment
+pub mod PutMeta
+pub mod PutSession
+pub mod PutVoucher
+pub mod ReplaceAccount
+pub mod ReplaceBucket
+pub mod ReplaceCounter

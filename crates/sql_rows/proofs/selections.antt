@@ -1,0 +1,27 @@
+-- What the texts of the reads answer.
+pub mod ReadAccount
+pub mod ReadAllGrantBooks
+pub mod ReadAllHolds
+pub mod ReadAllowances
+pub mod ReadAnswer
+pub mod ReadBooks
+pub mod ReadBucket
+pub mod ReadBuckets
+pub mod ReadCharges
+pub mod ReadCounter
+pub mod ReadCounters
+pub mod ReadCovered
+pub mod ReadGrantBooks
+pub mod ReadGroups
+pub mod ReadHeadCounters
+pub mod ReadHeadCycles
+pub mod ReadHolds
+pub mod ReadLive
+pub mod ReadMeta
+pub mod ReadNextAccount
+pub mod ReadOpen
+pub mod ReadOpenGroups
+pub mod ReadOpenRows
+pub mod ReadReserved
+pub mod ReadSession
+pub mod ReadVoucher
