@@ -12,6 +12,7 @@ import subprocess
 from dataclasses import dataclass
 
 import offices
+import transcripts
 from hostile_streams import SECONDS, Answer, Ended, need
 
 MEMORY = 8 << 30
@@ -152,18 +153,24 @@ def allowances():
     return [("allow", "db", *one, "--at", BEGUN) for one in given]
 
 
-def lines_of(path):
-    """The requests of a file of lines."""
-    lines = path.read_bytes().split(b"\n")
-    return [line.split(b" ", 1)[1] for line in lines if b" {" in line]
+def lines_of(text):
+    """The requests of lines."""
+    return [line.split(b" ", 1)[1] for line in text.split(b"\n") if b" {" in line]
+
+
+def lines_in(folder):
+    """The requests that a scenario replays, by the names of their files."""
+    steps = [step for step in transcripts.read(folder).steps if step.words[:1] == ["replay"]]
+    texts = {step.written: step.given for step in steps if step.written}
+    texts |= {path.name: path.read_bytes() for path in folder.glob("lines*.txt")}
+    return [one for name in sorted(texts) for one in lines_of(texts[name])]
 
 
 def prepare(built, base):
     """Makes the database with which all batches begin, and reads what they change."""
     tests = offices.TOP / "tests"
-    bodies = [lines_of(path) for path in sorted(tests.glob("streams/*.in"))]
-    for folder in sorted(tests.glob("scenarios/*")):
-        bodies.append([one for path in sorted(folder.glob("lines*.txt")) for one in lines_of(path)])
+    bodies = [lines_of(path.read_bytes()) for path in sorted(tests.glob("streams/*.in"))]
+    bodies += [lines_in(folder) for folder in sorted(transcripts.SCENARIOS.iterdir())]
     books, vouchers = ([path.read_bytes() for path in sorted(offices.TOP.glob(f"*/**/*.{kind}"))]
                        for kind in ("toml", "csv"))
     shutil.copy(BOOK, base / "book.toml")
@@ -176,7 +183,7 @@ def prepare(built, base):
     for words in (*made, later, *opening(), *allowances()):
         need((ended := run(built, base, *words)).status == 0, words, ended)
         due.append(run(built, base, *STATEMENT).out)
-    asked = lines_of(tests / "streams/all-05.in")[:60]
+    asked = lines_of((tests / "streams/all-05.in").read_bytes())[:60]
     lines = [b"%d %s\n" % (BEGUN + 20 * at, body) for at, body in enumerate(asked)]
     for line in lines:
         replayed(built, base, line)
