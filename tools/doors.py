@@ -27,7 +27,7 @@ DOORS = {
         ("rows", "rows", "the selections of docs/rows.sql", "sqlite3"),
         ("examples", "examples", "examples/ and the session of README", "curl"),
         ("days", "reckoned", "days of chance beside a model of the rules", ""),
-        ("day", "day", "a day of 1,000 accounts with kills", ""),
+        ("day", "day", "a day of 1,000 accounts with kills, beside the same model", ""),
         ("lines", "deploy", "each line of deploy/README.md by systemd, as root", "root, HAProxy, systemd"),
         ("shards", "shards", "what HAProxy does with an office's configuration", "HAProxy"),
         ("cluster", "cluster", "four shards beside one, account by account", "HAProxy"),

@@ -1,7 +1,7 @@
 """What accounts are answered, and their rows and texts, by docs/RULES.md and docs/FORMATS.md alone: an
 account is its ledger, lists of dated facts that only grow, and each balance is a sum over them.
-Nothing of it is shared with the program or with tools/lib/reckoning.py: blocks are priced one by one, a
-switch is looked for minute by minute, and rows are made anew from all facts.
+Nothing of it is shared with the program: blocks are priced one by one, a switch is looked for minute by
+minute, and rows are made anew from all facts.
 
 Zone, Book and Shelf have the periods, the prices and the civil time of a moment. Office answers
 commands, and gives the rows of the tables, balances, statements and exports."""

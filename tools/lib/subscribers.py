@@ -4,10 +4,10 @@ Each subscriber draws from a source of chance of its own, so that a seed gives t
 long as the program answers the same."""
 import random
 
-from offices import subscription
-from reckoning import (
-    CHECK, DEBIT, DONE, ENQUIRY, EVENT, INITIAL, REFUND, TERMINATION, UPDATE, Account, agree,
+from ledgers import (
+    CHECK, DEBIT, ENQUIRY, EVENT, INITIAL, REFUND, TERMINATION, UNITS, UPDATE,
 )
+from offices import subscription
 
 MIB = 1 << 20
 # What is wanted of a group at once, by its kind of unit.
@@ -15,7 +15,7 @@ WANTED = {"time": (30, 1800), "octets": (MIB // 2, 60 * MIB), "events": (1, 6)}
 AMOUNTS = (250_000, 1_000_000, 5_000_000, 20_000_000)
 # Free blocks that are given at once.
 FREE = (1, 120)
-DENIED_BY_BAR = 4010
+DONE = 2001
 
 
 def vouchers(chance, count):
@@ -31,17 +31,19 @@ def vouchers(chance, count):
     }
 
 
+def is_read(asked):
+    """Whether a request only reads: it is answered anew each time."""
+    return asked.get("Requested-Action") in (CHECK, ENQUIRY)
+
+
 class Subscriber:
     """An account and who uses it: at most one session at a time, and events."""
 
     def __init__(self, shelf, number, seed):
         self.chance = random.Random(f"{seed} {number}")
         self.shelf, self.number = shelf, number
-        self.book = shelf.first
-        self.account = Account(shelf, number)
-        self.session, self.barred, self.checked = None, False, None
-        self.given = self.credits = self.allowances = 0
-        self.codes = []
+        self.book, self.session = shelf.at(0), None
+        self.given = self.credits = self.allowances = self.cards = 0
 
     def happens(self, share):
         """Whether something happens that does so this often."""
@@ -70,9 +72,10 @@ class Subscriber:
         """A group of the book of a moment."""
         return self.chance.choice(sorted(self.shelf.at(moment).groups))
 
-    def redemption(self):
-        """A redemption's body."""
-        return {"Subscription-Id-Data": self.number, "Reference": f"card-{len(self.codes) + 1}"}
+    def reference(self):
+        """The reference of a redemption."""
+        self.cards += 1
+        return f"card-{self.cards}"
 
     def first_credits(self, moment):
         """What the account is given in the morning: money, and for some a gift with an end."""
@@ -92,6 +95,10 @@ class Subscriber:
         if self.happens(0.12):
             yield from self.events()
 
+    def unit(self, group):
+        """The name of the member that has a group's units."""
+        return UNITS[self.book.groups[group]["unit"]]
+
     def name(self, kind):
         """A new Session-Id."""
         self.given += 1
@@ -108,7 +115,7 @@ class Subscriber:
         kind = self.book.groups[group]["unit"]
         if self.happens(0.2):
             return {}
-        return {self.account.unit(group): self.chance.randint(*WANTED[kind])}
+        return {self.unit(group): self.chance.randint(*WANTED[kind])}
 
     def initial(self):
         """An initial request of one or two groups."""
@@ -140,7 +147,7 @@ class Subscriber:
     def used(self, group, moment):
         """The parts of a report: mostly within the grant, two where a switch was passed."""
         units, switch = self.session[3].get(group, (0, None))
-        unit, block = self.account.unit(group), self.book.groups[group]["block"]
+        unit, block = self.unit(group), self.book.groups[group]["block"]
         amount = units if self.happens(0.3) else self.chance.randint(0, units)
         if self.happens(0.05):
             amount += self.chance.randint(1, 3 * block)
@@ -153,7 +160,7 @@ class Subscriber:
         ]
 
     def events(self):
-        """An event; a debit only after a check of the same units, whose answer it has to fit."""
+        """An event; a debit comes after a check of the same units."""
         action = self.chance.choice((DEBIT, DEBIT, DEBIT, REFUND, ENQUIRY))
         if action == REFUND:
             yield self.refund()
@@ -174,35 +181,18 @@ class Subscriber:
             self.name("refund"), EVENT, 0, Requested_Action=REFUND,
             Requested_Service_Unit={"CC-Money": money})
 
-    def heard(self, moment, asked, answer):
-        """Notes the first answer to a request."""
-        self.account.answered(moment, asked, answer)
-        if asked["CC-Request-Type"] == EVENT:
-            self.heard_of_event(asked, answer)
-        else:
-            self.heard_of_session(asked, answer)
-
-    def heard_of_event(self, asked, answer):
-        """A debit is charged exactly where the check before it said that there is enough."""
-        action = asked["Requested-Action"]
-        if action == CHECK:
-            self.checked = answer["Check-Balance-Result"]
-        elif action == DEBIT:
-            wanted = DENIED_BY_BAR if self.barred else (DONE, 4012)[self.checked]
-            agree(f"a debit of {self.number}", answer["Result-Code"], wanted)
-
-    def heard_of_session(self, asked, answer):
+    def heard(self, asked, answer):
         """Notes the session's grants, or that there is none any more."""
         kind, done = asked["CC-Request-Type"], answer["Result-Code"] == DONE
-        if kind == INITIAL and self.barred:
-            agree(f"a barred account {self.number}", answer["Result-Code"], DENIED_BY_BAR)
+        if kind == EVENT:
+            return
         if not done or kind == TERMINATION or self.happens(0.03):
             self.session = None
             return
         _, _, groups, grants = self.session or (None, None, [], {})
         for service in answer["Multiple-Services-Credit-Control"]:
             group, units = service["Rating-Group"], service.get("Granted-Service-Unit", {})
-            told = units.get(self.account.unit(group), 0), units.get("Tariff-Time-Change")
+            told = units.get(self.unit(group), 0), units.get("Tariff-Time-Change")
             grants = {**grants, group: told}
         groups = groups or list(grants)
         self.session = asked["Session-Id"], asked["CC-Request-Number"], groups, grants
