@@ -20,16 +20,19 @@ ROWS = """[...document.querySelectorAll(PLACE + ' tbody tr')].map(row =>
 class Agent:
     """The process of the office's agent."""
 
-    def __init__(self, world: World) -> None:
+    def __init__(self, world: World, path: str = "") -> None:
         self.world, self.socket = world, world.place / "agent.sock"
+        # Folders of commands that it finds before this machine's.
+        self.path = path + os.environ["PATH"]
         self.process: subprocess.Popen[bytes] | None = None
 
     def start(self) -> None:
         """Starts it."""
         with (self.world.place / "agent.log").open("ab") as out:
             words = [str(OFFICE), "--file", str(self.world.file), "agent"]
+            environment = os.environ | {"PATH": self.path}
             self.process = subprocess.Popen(
-                words, stdin=subprocess.DEVNULL, stdout=out, stderr=out, env=dict(os.environ)
+                words, stdin=subprocess.DEVNULL, stdout=out, stderr=out, env=environment
             )
         until(self.is_up, "the agent")
 

@@ -4,6 +4,7 @@ from __future__ import annotations
 import json
 import pathlib
 import random
+from collections.abc import Callable
 from typing import Any
 
 from office import settings, shards
@@ -15,6 +16,8 @@ SHARDS, DOORS = 2, ("desk", "counter", "operators")
 # 2026-01-29 14:03:00, and the first day's midnight. A month more ends the sessions.
 MOMENT, MONTH, BEGIN, DAY = 1769695380, "202601", 1767225600, 86400
 ACCOUNT, BARRED, EMPTY, NOBODY = "49151", "49152", "49153", "777000"
+# An account whose last call cost more than it had.
+POOR = "49154"
 CODES = ("123456789012", "123456789013", "123456789014", "123456789015", "123456789016")
 # Codes of another shard than the first account's.
 FAR = tuple(f"{223_456_789_012 + at}" for at in range(20))
@@ -80,20 +83,25 @@ password = "{hash}"
 SECRET = "correct-horse-41"
 
 
-def made(place: pathlib.Path) -> World:
-    """An office that is up, in a folder."""
+def made(
+    place: pathlib.Path,
+    moment: int | None = MOMENT,
+    fill: Callable[[World], None] | None = None,
+    text: str = FILE,
+) -> World:
+    """An office that is up, in a folder: its clock stands at a moment or runs, its databases are filled."""
     first = ports.free(len(DOORS))
     doors = {name: first + at for at, name in enumerate(DOORS)}
     hashed = done("openssl", "passwd", "-5", "-salt", "rounds=1000$abc", SECRET).strip()
-    text = FILE.replace("{page}", str(DEPLOY / "console/console.html")).replace("{hash}", hashed)
+    text = text.replace("{page}", str(DEPLOY / "console/console.html")).replace("{hash}", hashed)
     for name, port in doors.items():
         text = text.replace("{" + name + "}", str(port))
     world = World(place, text, doors)
-    world.moment = MOMENT
+    world.moment = moment
     world.command("certificate", "office", "--host", "localhost")
     for at in range(1, SHARDS + 1):
         done(program(), "init", world.database(at), BOOK)
-    history(world)
+    (fill or history)(world)
     for at in range(1, SHARDS + 1):
         world.start(at)
     (place / "clearing").touch()
@@ -108,8 +116,8 @@ def home(world: World, account: str) -> int:
 
 
 def history(world: World) -> None:
-    """Accounts: one with money, allowances and four weeks of charges, a barred one, an empty one; and
-    vouchers in the shard of the first."""
+    """Accounts: one with money, allowances and four weeks of charges, a barred one, an empty one, a poor
+    one; and vouchers in the shard of the first."""
     database = world.database(home(world, ACCOUNT))
     done(program(), "open", database, ACCOUNT, "--at", BEGIN)
     credit = (program(), "credit", database, ACCOUNT)
@@ -119,9 +127,7 @@ def history(world: World) -> None:
     allow = (program(), "allow", database, ACCOUNT)
     done(*allow, 60, "bundle", "--scope", 10, "--until", BEGIN + 24 * DAY, "--at", BEGIN)
     done(*allow, 200, "more", "--scope", 30, "--until", MOMENT + 2 * DAY, "--at", BEGIN)
-    lines = database.with_suffix(".in")
-    lines.write_text("".join(requests()))
-    done(program(), "replay", database, lines)
+    replayed(database, requests())
     here = home(world, ACCOUNT)
     imported(world, here, CODES)
     imported(world, 1 + here % SHARDS, FAR)
@@ -129,14 +135,45 @@ def history(world: World) -> None:
         place = world.database(home(world, account))
         done(program(), "open", place, account, "--at", BEGIN)
     done(program(), "bar", world.database(home(world, BARRED)), BARRED, "--at", BEGIN)
+    poor(world, BEGIN, MOMENT - DAY)
 
 
-def imported(world: World, at: int, codes: tuple[str, ...]) -> None:
+def poor(world: World, begin: int, moment: int) -> None:
+    """An account whose call of an hour had money for some minutes."""
+    database = world.database(home(world, POOR))
+    done(program(), "open", database, POOR, "--at", begin)
+    done(program(), "credit", database, POOR, 300_000, "cash-2", "--at", begin)
+    asked = (initial(POOR, "long"), last(POOR, "long", 3600))
+    replayed(database, [f"{moment} {json.dumps(one)}\n" for one in asked])
+
+
+def replayed(database: pathlib.Path, lines: list[str]) -> None:
+    """Lines are asked of a database that isn't served."""
+    path = database.with_suffix(".in")
+    path.write_text("".join(lines))
+    done(program(), "replay", database, path)
+
+
+def initial(account: str, session: str, seconds: int = 60) -> dict[str, Any]:
+    """A request that opens a session."""
+    asked = debit(account, session, seconds) | {"CC-Request-Type": 1}
+    del asked["Requested-Action"]
+    return asked
+
+
+def last(account: str, session: str, seconds: int) -> dict[str, Any]:
+    """A request that ends a session, with what was used."""
+    service = {"Rating-Group": 10, "Used-Service-Unit": [{"CC-Time": seconds}]}
+    told = initial(account, session) | {"CC-Request-Type": 3, "CC-Request-Number": 1}
+    return told | {"Multiple-Services-Credit-Control": [service]}
+
+
+def imported(world: World, at: int, codes: tuple[str, ...], moment: int = MOMENT - DAY) -> None:
     """Vouchers of 5.00 are in a shard that isn't served."""
     vouchers = world.place / "vouchers.csv"
     rows = "".join(f"{code},5000000,30,\n" for code in codes)
     vouchers.write_text("code,amount,days,scope\n" + rows)
-    done(program(), "import", world.database(at), vouchers, "--at", MOMENT - DAY)
+    done(program(), "import", world.database(at), vouchers, "--at", moment)
 
 
 KINDS = ((10, "CC-Time", 1500), (20, "CC-Total-Octets", 90_000_000))
@@ -153,9 +190,7 @@ def requests() -> list[str]:
             group, unit, most = chance.choice((*KINDS, KINDS[0], EVENTS))
             body = debit(ACCOUNT, f"d{day}-{at}")
             lines.append(line(moment, body, group, {unit: chance.randint(1, most)}))
-    initial = debit(ACCOUNT, "voice-1") | {"CC-Request-Type": 1}
-    del initial["Requested-Action"]
-    lines.append(line(MOMENT - 600, initial, 10, {"CC-Time": 600}))
+    lines.append(line(MOMENT - 600, initial(ACCOUNT, "voice-1"), 10, {"CC-Time": 600}))
     return lines
 
 

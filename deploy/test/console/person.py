@@ -83,7 +83,7 @@ class Person(Browser):
                 self.choose(selector, text)
                 continue
             self.to(selector)
-            if kind == "date":
+            if kind in ("date", "datetime-local"):
                 self.write_day(text)
                 continue
             self.value("document.activeElement.select()")
@@ -92,22 +92,47 @@ class Person(Browser):
             else:
                 self.press("Backspace")
 
-    def write_day(self, day: str) -> None:
-        """Writes a day as its field takes it: from its first part on."""
+    def write_day(self, text: str) -> None:
+        """Writes a day, or a moment at whole hours before noon, as its field takes it: from its first
+        part on."""
+        day, _, clock = text.partition("T")
         year, month, number = day.split("-")
-        for key in ("ArrowLeft", "ArrowLeft", *month, *number, *year):
+        for key in (*["ArrowLeft"] * 6, *month, *number, *year):
             self.press(key)
+        if clock:
+            hour = f"{int(clock[:2]) or 12:02}"
+            for key in ("ArrowRight", *hour, *clock[3:5], "A"):
+                self.press(key)
+
+    def options(self, selector: str) -> list[str]:
+        """What a list offers."""
+        found = f"[...document.querySelector({json.dumps(selector)}).options]"
+        return list(self.value(f"{found}.map(one => one.textContent)"))
 
     def choose(self, selector: str, text: str) -> None:
-        """Chooses in a list by arrows, which both hands use."""
-        self.value(f"document.querySelector({json.dumps(selector)}).focus()")
-        shown = f"document.querySelector({json.dumps(selector)}).selectedOptions[0].textContent"
-        self.press("Home")
-        for _ in range(STEPS):
-            if self.value(shown) == text:
-                return
-            self.press("ArrowDown")
-        raise ValueError(f"there is no {text!r} in {selector!r}")
+        """Chooses in a list: opened by a click or by the key of spaces, and gone through by arrows."""
+        texts = self.options(selector)
+        if text not in texts:
+            raise ValueError(f"there is no {text!r} in {selector!r}")
+        self.to(selector)
+        if self.way == "keys":
+            self.press(" ")
+        for key in ("Home", *["ArrowDown"] * texts.index(text), "Enter"):
+            self.press(key)
+
+    def attach(self, selector: str, path: pathlib.Path) -> None:
+        """Chooses a file in a field of files: its window is opened by a click or by a key."""
+        self.do("Page.setInterceptFileChooserDialog", enabled=True)
+        before = self.choosers()
+        self.push(selector)
+        until(lambda: len(self.choosers()) > len(before), "the window of files")
+        node = self.choosers()[-1]["params"]["backendNodeId"]
+        self.do("DOM.setFileInputFiles", backendNodeId=node, files=[str(path)])
+
+    def choosers(self) -> list[dict[str, Any]]:
+        """The windows of files that were opened."""
+        self.do("Target.getTargets")
+        return [one for one in self.events if one.get("method") == "Page.fileChooserOpened"]
 
     def tab(self, name: str) -> None:
         """Opens a tab: by a click, or by arrows from the one that is open."""

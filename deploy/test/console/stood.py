@@ -5,17 +5,16 @@ from __future__ import annotations
 import contextlib
 import json
 import pathlib
-import tempfile
 import time
 from collections.abc import Iterator
 from typing import Any
 
 from month.machine import CLEAN, wait_until
 from month.stand import Stand, stand
-from support.callers import debit
 from support.world import done
 
-from console.office import SECRET, line
+from console.desk import debits, month_begun
+from console.office import SECRET, initial
 from console.person import Person
 
 ACCOUNT, DAY = "49151", 86400
@@ -136,18 +135,11 @@ def stood() -> Iterator[Desk]:
 
 
 def history(office: Stand) -> None:
-    """Three days of debits of an account, dated, and a session that is open now."""
-    home, begin = office.home(ACCOUNT), int(time.time()) - 3 * DAY
+    """Debits of the last days of this month, dated, and a session that is open now."""
+    home, now = office.home(ACCOUNT), int(time.time())
+    begin = max(month_begun(now), now - 3 * DAY)
     database = f"/var/lib/ocs/{home}.db"
-    lines = []
-    for at in range(12):
-        body = debit(ACCOUNT, f"d{at}")
-        group, unit, many = ((10, "CC-Time", 90), (30, "CC-Service-Specific-Units", 2))[at % 2]
-        lines.append(line(begin + 3600 + at * 20000, body, group, {unit: many}))
-    with tempfile.TemporaryDirectory() as folder:
-        path = pathlib.Path(folder) / "lines"
-        path.write_text("".join(lines), encoding="utf-8")
-        office.machine.write("/tmp/lines", path.read_text(encoding="utf-8"))
+    office.machine.write("/tmp/lines", "".join(debits(ACCOUNT, begin, now)))
     by = "runuser -u ocs -- ocs"
     office.run(f"systemctl stop ocs@{home}")
     office.run(f"{by} open {database} {ACCOUNT} --at {begin}")
@@ -155,6 +147,4 @@ def history(office: Stand) -> None:
     office.run(f"{by} allow {database} {ACCOUNT} 6 bundle --scope 10 --at {begin}")
     office.run(f"{by} replay {database} /tmp/lines && systemctl start ocs@{home}")
     wait_until(lambda: office.is_up(home), "the shard")
-    initial = debit(ACCOUNT, "voice-1", 600) | {"CC-Request-Type": 1}
-    del initial["Requested-Action"]
-    assert office.ask("POST", "/ccr", initial)["Result-Code"] == 2001
+    assert office.ask("POST", "/ccr", initial(ACCOUNT, "voice-1", 600))["Result-Code"] == 2001

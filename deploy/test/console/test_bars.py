@@ -1,5 +1,5 @@
-"""Bars and open sessions on the page. A small server answers in the agent's place, and bars by the
-program's own word: the agent itself stops units of systemd for it (test/agent)."""
+"""Bars whose answer is lost, and sessions that a shard's death meets: a small server answers in the agent's
+place, and bars by the program's own word."""
 from __future__ import annotations
 
 import http.server
@@ -13,7 +13,6 @@ from typing import Any
 
 import pytest
 from support.callers import debit, opened
-from support.waiting import until
 from support.world import World, done, program
 
 from console.behind import behind, rows_of
@@ -100,23 +99,6 @@ def account(world: World) -> str:
     return opened(script(world), str(next(NUMBERS)), 1_000_000)
 
 
-@pytest.mark.parametrize("way", ["keys", "pointer"])
-def test_a_stolen_sim_is_barred_and_unbarred(
-    world: World, operator: Person, account: str, way: str
-) -> None:
-    behind(operator, account)
-    operator.way = way
-    for word, is_barred in (("Bar", True), ("Unbar", False)):
-        until(lambda: operator.is_seen("#tab-bar"), "the tab of bars")
-        operator.tab("bar")
-        assert operator.text("#bar-button") == word
-        told = operator.send("bar")
-        assert told.startswith(f"{word}red; others of its shard waited 1.25 seconds")
-        assert balance(world, account)["Barred"] is is_barred
-        assert operator.is_seen("#barred") is is_barred
-    operator.way = "pointer"
-
-
 def test_a_bar_whose_answer_is_lost_is_asked_again(
     world: World, operator: Person, account: str
 ) -> None:
@@ -128,16 +110,6 @@ def test_a_bar_whose_answer_is_lost_is_asked_again(
     assert operator.texts("#unanswered span") == [f"Bar for account {account}"]
     assert operator.again().startswith("Barred")
     assert balance(world, account)["Barred"] and not operator.is_seen("#waiting")
-
-
-def test_who_only_reads_bars_nobody(world: World, reader: Person) -> None:
-    behind(reader, ACCOUNT)
-    assert not reader.is_seen("#do")
-    before = reader.counted("done")
-    reader.value("sendBar()")
-    reader.is_counted("done", before)
-    assert "rosa may not do that here (403)" in reader.outcome() + reader.told()
-    assert balance(world)["Barred"] is False
 
 
 def test_open_sessions_and_what_they_hold(operator: Person) -> None:
@@ -166,24 +138,6 @@ def session(world: World, operator: Person, account: str) -> Iterator[str]:
     operator.way, Agent.sessions = "pointer", SESSIONS
 
 
-def ended(person: Person) -> str:
-    """Presses the button that ends the session, and reads what the page says of it."""
-    before = person.counted("done")
-    person.push("[data-part='open sessions'] button")
-    person.is_counted("done", before)
-    return person.outcome()
-
-
-@pytest.mark.parametrize("way", ["keys", "pointer"])
-def test_a_session_is_ended(
-    world: World, operator: Person, account: str, session: str, way: str
-) -> None:
-    operator.way = way
-    assert ended(operator).startswith(f"Ended session {session}")
-    assert balance(world, account)["Buckets"][0]["Reserved"] == 0
-    assert operator.again().startswith(f"Ended session {session}")
-
-
 @pytest.mark.parametrize("when", ["before it came", "with it in its hands"])
 def test_a_session_whose_shard_dies_is_ended_once(
     world: World, operator: Person, account: str, session: str, when: str
@@ -198,9 +152,3 @@ def test_a_session_whose_shard_dies_is_ended_once(
         assert operator.again().startswith(f"Ended session {session}")
     assert balance(world, account)["Buckets"][0]["Reserved"] == 0
     assert not operator.is_seen("#waiting")
-
-
-def test_who_only_reads_ends_no_session(reader: Person) -> None:
-    behind(reader, ACCOUNT)
-    assert rows_of(reader, "[data-part='open sessions']")
-    assert not reader.is_seen("[data-part='open sessions'] button")

@@ -1,11 +1,9 @@
-"""What an operator does on the page, by keys and by a pointer: each command beside the account
-afterwards, wrong values that aren't sent, refusals."""
+"""What an operator's commands come to: wrong values that aren't sent, refusals, amounts at their limits.
+`test_tasks` has each of them by keys and by a pointer."""
 from __future__ import annotations
 
 import itertools
 import re
-import time
-from collections.abc import Iterator
 from typing import Any
 
 import pytest
@@ -17,14 +15,6 @@ from console.person import Person
 
 ID = r" \(request [0-9a-f]{8}\)"
 LIVES = itertools.count(60000)
-
-
-@pytest.fixture(params=["keys", "pointer"])
-def way(request: pytest.FixtureRequest, operator: Person) -> Iterator[str]:
-    """How the page is used."""
-    operator.way = request.param
-    yield request.param
-    operator.way = "pointer"
 
 
 @pytest.fixture
@@ -41,36 +31,9 @@ def newest(world: World, account: str) -> Any:
     return balance(world, account)["Buckets"][-1]
 
 
-def test_a_credit(world: World, operator: Person, way: str, account: str) -> None:
-    operator.tab("credit")
-    reference = operator.value("document.querySelector('#credit [name=reference]').value")
-    assert re.fullmatch(r"page-\d{4}-\d\d-\d\d-[0-9a-f]{16}", reference)
-    operator.fill("credit", amount="1,012.50", until="2026-02-15", scope="20")
-    told = operator.send("credit")
-    assert re.fullmatch(f"Credited 1,012.50 as bucket 2{ID}", told)
-    bucket = newest(world, account)
-    assert (bucket["Credited"], bucket["Scope"]) == (1_012_500_000, 20)
-    assert time.strftime("%Y-%m-%d %H:%M", time.gmtime(bucket["Until"] - 60)) == "2026-02-15 23:59"
-    assert operator.text("#available") == "1,013.50"
-    line = next(one for one in reversed(world.lines()) if one["what"].endswith("/credits"))
-    assert (line["reference"], line["id"][:8]) == (reference, told[-9:-1])
-    after = operator.value("document.querySelector('#credit [name=reference]').value")
-    assert after != reference
-    assert operator.again() == re.sub(r"\(request .*", "", told) + operator.outcome()[-18:]
-    assert len(balance(world, account)["Buckets"]) == 2
-
-
-def test_an_allowance(world: World, operator: Person, way: str, account: str) -> None:
-    operator.tab("allow")
-    operator.fill("allow", blocks="25", scope="30", until="2026-02-28")
-    assert re.fullmatch(f"Gave 25 blocks of group 30 as allowance 2{ID}", operator.send("allow"))
-    bucket = newest(world, account)
-    assert (bucket["Unit"], bucket["Credited"], bucket["Scope"]) == ("blocks", 25, 30)
-    assert operator.texts("#live h3") == ["Allowance 2", "Bucket 1"]
-
-
-def test_a_voucher(world: World, operator: Person, way: str, account: str) -> None:
-    code = CODES[0] if way == "keys" else CODES[1]
+def test_a_voucher_without_an_agent(world: World, operator: Person, account: str) -> None:
+    """It is looked for in the account's own shard, under a reference of its code."""
+    code = CODES[0]
     operator.tab("redeem")
     operator.fill("redeem", code=f"{code[:4]} {code[4:8]}-{code[8:]}")
     named = operator.value("document.querySelector('#redeem [name=reference]').value")
@@ -82,27 +45,14 @@ def test_a_voucher(world: World, operator: Person, way: str, account: str) -> No
     assert len(balance(world, account)["Buckets"]) == 2
 
 
-def test_a_price(operator: Person, way: str, account: str) -> None:
+def test_a_price_that_isnt_one(operator: Person, account: str) -> None:
     operator.tab("price")
     operator.fill("price", scope="30", unit="events", count="2")
     assert operator.send("price") == "It costs 0.18 without allowances; the account can pay it."
-    operator.fill("price", scope="10", unit="seconds", count="999999999")
-    assert "the account can't pay it" in operator.send("price")
-    operator.fill("price", scope="30", count="2")
+    operator.fill("price", unit="seconds")
     assert operator.send("price") == "Price: The group counts in another kind of units."
     operator.fill("price", scope="99")
     assert operator.send("price").startswith("Price: Refused: the tariff book has no such group")
-
-
-def test_an_account_is_opened(world: World, operator: Person, way: str) -> None:
-    number = str(next(LIVES) + 1_000_000)
-    operator.find(number)
-    before = operator.counted("done")
-    operator.push("#open button")
-    operator.is_counted("done", before)
-    assert re.fullmatch(f"Opened {number}{ID}", operator.outcome())
-    assert balance(world, number)["Buckets"] == []
-    assert operator.text("#balance-title") == f"Account {number}"
 
 
 @pytest.mark.parametrize(

@@ -1,23 +1,18 @@
-"""What the page shows of all accounts by the office's agent: sums, shards, a book that is tried, and
-vouchers that are checked; by an operator and by a revenue officer, who may do all of it."""
+"""What the page shows of all accounts by the office's agent, beside what `test_tasks` has: buckets by their
+kind, two machines, a shard that is away, files that are none."""
 from __future__ import annotations
 
-import collections
 import json
 import pathlib
 from collections.abc import Iterator
-from typing import Any
 
 import pytest
-from support.callers import Caller
-from support.world import TOP, World
+from support.world import BOOK, World
 
 from console.behind import Agent, rows_of, told
-from console.office import ACCOUNT, CODES, MONTH
+from console.office import MOMENT, MONTH
 from console.person import Person
-from console.test_shown import money
-
-SUMS = ("charges", "blocks", "covered", "rated", "collected", "uncollected")
+from console.test_shown import blocks, money
 
 
 @pytest.fixture(params=["operator", "reader"])
@@ -29,59 +24,46 @@ def person(request: pytest.FixtureRequest, agent: Agent) -> Iterator[Person]:
     found.way = "pointer"
 
 
-def summed(rows: list[Any], key: str) -> list[list[str]]:
-    """Sums by a key, as the page shows them."""
-    found: dict[str, collections.Counter[str]] = {}
-    for row in rows:
-        found.setdefault(str(row[key]), collections.Counter()).update(
-            {one: row[one] for one in SUMS}
-        )
-    return [
-        [name, *(f"{sums[one]:,}" for one in SUMS[:3]), *(money(sums[one]) for one in SUMS[3:])]
-        for name, sums in found.items()
-    ]
-
-
-def test_the_sums_of_a_month(world: World, person: Person) -> None:
-    person.show(f"office/{MONTH}")
-    rows = told(world, f"sums?month={MONTH}")["charges"]
-    assert len(rows) > 20
-    assert rows_of(person, "[data-part=charges]") == sorted(summed(rows, "day"), reverse=True)
-    assert rows_of(person, "[data-part='charges by group']") == summed(rows, "rating_group")
-    assert rows_of(person, "[data-part='charges by shard']") == summed(rows, "shard")
-    figure = "document.querySelector('#sums-figures [data-figure=Collected]').textContent"
-    assert person.value(figure) == money(sum(row["collected"] for row in rows))
-    chart = "document.querySelector('#sums-chart figcaption').textContent"
-    for name, key, value in (("all", "", ""), ("group 10", "rating_group", 10)):
-        person.choose("#sums-series", name)
-        by_day: collections.Counter[str] = collections.Counter()
-        for row in rows:
-            by_day[row["day"]] += row["collected"] if not key or row[key] == value else 0
-        wanted = [f"{day}: {money(paid)}" for day, paid in sorted(by_day.items()) if paid]
-        assert person.value(chart) == "; ".join(wanted)
-
-
-def test_from_one_view_to_the_other(person: Person) -> None:
-    person.show()
-    assert not person.is_seen("#sheet") and not person.is_seen("#office")
-    person.find(ACCOUNT)
-    for link, shown, hidden in (("office", "office", "sheet"), ("account", "sheet", "office")):
-        before = person.counted("shown")
-        person.push(f"#to-{link}")
-        person.is_counted("shown", before)
-        assert person.is_seen(f"#{shown}") and not person.is_seen(f"#{hidden}")
-        assert person.texts("[aria-current]") == person.texts(f"#to-{link}")
-
-
 def test_buckets_by_kind(world: World, person: Person) -> None:
     person.show(f"office/{MONTH}")
     rows = told(world, f"sums?month={MONTH}")["buckets"]
-    shown = {row[0]: row[1:] for row in rows_of(person, "[data-part=buckets]")}
-    assert set(shown) == {row["kind"] for row in rows}
-    mine = [row for row in rows if row["kind"] == "money"]
+    shown = rows_of(person, "[data-part=buckets]")
     amounts = ("credited", "available", "reserved", "charged", "expired")
-    wanted = [money(sum(row[one] for row in mine)) for one in amounts]
-    assert shown["money"] == [f"{sum(row['buckets'] for row in mine):,}", *wanted]
+    assert (
+        {row[0] for row in shown}
+        == {row["kind"] for row in rows}
+        == {"money", "blocks of 10", "blocks of 30"}
+    )
+    for kind, many, *others in shown:
+        mine = [row for row in rows if row["kind"] == kind]
+        written = money if kind == "money" else blocks
+        assert others == [written(sum(row[one] for row in mine)) for one in amounts]
+        assert many == f"{sum(row['buckets'] for row in mine):,}"
+
+
+PAID = {"shard": "01", "charges": 2, "blocks": 3, "covered": 1, "rated": 500_000}
+BY_BOOK = {
+    "as_of": MOMENT,
+    "currency": 978,
+    "zone": "+00:00",
+    "charges": [
+        {"day": f"2026-01-{day}", "book": book, "rating_group": 10, "collected": paid, **PAID}
+        | {"uncollected": 500_000 - paid}
+        for day, book, paid in (("20", 2, 500_000), ("21", 2, 400_000), ("05", 1, 123_456))
+    ],
+    "buckets": [],
+}
+
+
+def test_sums_by_book(operator: Person) -> None:
+    """A month with two books: the page is handed the agent's answer, since here there is one book."""
+    operator.show("office")
+    operator.value(f"showSums({json.dumps(BY_BOOK)}, '2026-01'); at('sums').hidden = false;")
+    assert rows_of(operator, "[data-part='charges by book']") == [
+        ["1", "2", "3", "1", "0.50", "0.123456", "0.376544"],
+        ["2", "4", "6", "2", "1.00", "0.90", "0.10"],
+    ]
+    assert operator.text("#sums-figures [data-figure=Uncollected]") == "0.476544"
 
 
 def test_a_month_of_all_accounts_is_picked(person: Person) -> None:
@@ -91,15 +73,6 @@ def test_a_month_of_all_accounts_is_picked(person: Person) -> None:
     person.is_counted("shown", before)
     assert person.value("location.hash") == "#office/202512"
     assert "No charges." in person.texts("#sums-parts p")
-
-
-def test_the_shards(world: World, person: Person) -> None:
-    person.show("office")
-    shown = rows_of(person, "#shards-parts")
-    rows = told(world, "shards")["shards"]
-    assert [row[0] for row in shown] == [row["shard"] for row in rows] == ["01", "02"]
-    assert all(row[2].startswith("in 0.") or row[2].startswith("in ") for row in shown)
-    assert [row[3] for row in shown] == ["0", "0"]
 
 
 MACHINES = {
@@ -112,8 +85,8 @@ MACHINES = {
 def test_two_machines(operator: Person) -> None:
     """What the agent tells where an office has two; here there is one, so the page is handed it."""
     operator.show("office")
-    told = json.dumps({"as_of": 0, "shards": [], "machines": MACHINES})
-    operator.value(f"at('shards').hidden = false; showShards({told})")
+    answer = json.dumps({"as_of": 0, "shards": [], "machines": MACHINES})
+    operator.value(f"at('shards').hidden = false; showShards({answer})")
     assert operator.texts("#shards-parts li") == [
         "Votes: 2 of 3, a majority.",
         "Shard 01: both copies are the same.",
@@ -139,27 +112,6 @@ def sent(person: Person, form: str) -> str:
     return person.text(f"#{form}-done") + person.text(f"#{form}-refused")
 
 
-def test_a_book_is_tried(world: World, person: Person) -> None:
-    person.show("office")
-    assert sent(person, "trial") == "Choose a file."
-    book = TOP / "examples/later-book.toml"
-    person.file("#trial [name=file]", book)
-    assert sent(person, "trial") == "From which moment on?"
-    person.value("document.querySelector('#trial [name=from]').value = '2027-03-01T00:00'")
-    said = sent(person, "trial")
-    assert said.startswith("The book may follow from "), said
-    desk, target = Caller(world, world.doors["desk"]), "/office/agent/trial?from=2027-03-01T00:00"
-    answer = desk.ask("POST", target, book.read_text(), Content_Type="application/toml").body
-    wanted = [
-        [str(row["rating_group"]), row["period"], f"{row['blocks']:,}"]
-        + [money(row[one]) if row[one] is not None else "-" for one in ("old", "new")]
-        for row in answer["prices"]
-    ]
-    shown = rows_of(person, "#trial-parts")
-    assert [[*row[:2], *row[3:]] for row in shown] == wanted[: len(shown)]
-    assert len(shown) == min(100, len(wanted))
-
-
 def test_a_book_that_is_none(person: Person, tmp_path: pathlib.Path) -> None:
     person.show("office")
     (tmp_path / "none.toml").write_text("zone = 3\n")
@@ -168,16 +120,13 @@ def test_a_book_that_is_none(person: Person, tmp_path: pathlib.Path) -> None:
     assert sent(person, "trial").startswith("Refused: ")
 
 
-def test_vouchers_are_checked(person: Person, tmp_path: pathlib.Path) -> None:
+def test_a_file_that_isnt_sent(person: Person, tmp_path: pathlib.Path) -> None:
+    """No file, no moment, too long a file: the page says so."""
     person.show("office")
-    file = tmp_path / "new.csv"
-    file.write_text("code,amount,days,scope\n323456789012,5000000,30,\n323456789013,1,,\n")
-    person.file("#check [name=file]", file)
-    assert sent(person, "check").startswith("2 codes: 2 new, 0 there already. Shard ")
-    file.write_text(f"code,amount,days,scope\n{CODES[0]},1,,\n{CODES[0]},1,,\n")
-    person.file("#check [name=file]", file)
-    assert sent(person, "check").startswith("This file may not be imported: ")
-    assert f"{CODES[0]}" in str(rows_of(person, "#check-parts"))
+    assert sent(person, "trial") == sent(person, "check") == "Choose a file."
+    person.attach("#trial [name=file]", BOOK)
+    assert sent(person, "trial") == "From which moment on?"
+    file = tmp_path / "long.csv"
     file.write_text("x" * 65537)
-    person.file("#check [name=file]", file)
+    person.attach("#check [name=file]", file)
     assert sent(person, "check") == "A file has at most 65,536 bytes here."
