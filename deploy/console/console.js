@@ -205,7 +205,7 @@ function showBalance() {
   at("balance-title").textContent = `Account ${balance.Account}`;
   at("barred").hidden = !balance.Barred;
   at("available").textContent = money(sums.Available);
-  at("total").replaceChildren(...bar(sums, money));
+  at("total").replaceChildren(...(amounts.length ? bar(sums, money) : []));
   listed(at("live"), live, bucket, BUCKETS, "buckets", button => button, FIRST_BUCKETS);
   if (!live.length) at("live").append(made("p", "", rows.length ? "Nothing is left." : "Nothing was credited yet."));
   at("past-box").hidden = !past.length;
@@ -742,7 +742,7 @@ async function show(wanted, wantedMonth) {
     at("sheet").hidden = true;
     say("An account number is 1 to 15 digits.", true);
     at("account").focus();
-    return counted("shown");
+    return learn().catch(() => null).finally(() => counted("shown"));
   }
   say("Asking the office ..");
   try {

@@ -42,10 +42,15 @@ def one(person: Person, folder: pathlib.Path, name: str, selector: str, width: i
     """Takes one picture."""
     path = folder / f"{name}.png"
     person.picture(path, selector)
-    data = path.read_bytes()
-    assert struct.unpack(">I", data[16:20])[0] == width and len(data) > LEAST
+    assert size_of(path)[0] == width and path.stat().st_size > LEAST
     if name in SHOWN:
         (folder / "shown").mkdir(exist_ok=True)
         cut = folder / "shown" / path.name
         person.picture(cut, selector, most=SHOWN[name])
         assert LEAST < cut.stat().st_size < MOST
+
+
+def size_of(path: pathlib.Path) -> tuple[int, int]:
+    """How wide and how high a picture is."""
+    width, height = struct.unpack(">II", path.read_bytes()[16:24])
+    return width, height

@@ -8,7 +8,7 @@ from typing import Any
 import pytest
 
 from console.behind import Agent, behind
-from console.office import ACCOUNT, BARRED, MONTH, NOBODY
+from console.office import ACCOUNT, BARRED, MONTH, NOBODY, POOR
 from console.person import Person
 
 WIDTHS, SCHEMES = (320, 400, 1200, 1600), ("light", "dark")
@@ -53,6 +53,7 @@ PLACES: dict[str, tuple[str, str, dict[str, str]]] = {
     "a voucher": (ACCOUNT, "redeem", {"code": "1"}),
     "a price": (ACCOUNT, "price", {"scope": "30", "count": "2", "unit": "events"}),
     "a barred account": (BARRED, "", {}),
+    "a poor account": (POOR, "", {}),
     "no account": (NOBODY, "", {}),
     "a wrong number": ("x", "", {}),
     "all accounts": ("office", "", {}),

@@ -6,16 +6,15 @@ import itertools
 import pathlib
 import re
 from collections.abc import Callable, Iterator
-from typing import Any
 
 import pytest
 from support.callers import opened
 from support.world import DEPLOY, TOP, World
 
 from console.behind import Agent, behind
-from console.office import ACCOUNT, BARRED, FAR, MONTH, NOBODY, home, script
+from console.office import ACCOUNT, BARRED, FAR, MONTH, NOBODY, POOR, home, script
 from console.person import Person
-from console.pictures import SCHEMES, SHOWN, WIDTHS, taken
+from console.pictures import SCHEMES, SHOWN, WIDTHS, size_of, taken
 
 pytestmark = pytest.mark.slow
 NUMBERS = map(str, itertools.count(95000))
@@ -28,9 +27,12 @@ FORMS: dict[str, tuple[dict[str, str], str]] = {
 }
 
 
-@pytest.mark.parametrize("name", ["begun", "none", "wrong", "barred"])
+PLACES = {"begun": "", "none": NOBODY, "wrong": "12-34", "barred": BARRED, "poor": POOR}
+
+
+@pytest.mark.parametrize("name", list(PLACES))
 def test_what_is_found(operator: Person, pictures: pathlib.Path, name: str) -> None:
-    operator.show({"begun": "", "none": NOBODY, "wrong": "12-34", "barred": BARRED}[name])
+    operator.show(PLACES[name])
     taken(operator, pictures, name)
 
 
@@ -41,6 +43,7 @@ def test_an_account(operator: Person, agent: Agent, pictures: pathlib.Path) -> N
     operator.value("document.getElementById('past-box').open = true")
     taken(operator, pictures, "blocks", ".columns > div:first-child")
     taken(operator, pictures, "blocks-month", "#month-side section")
+    operator.value("document.getElementById('past-box').open = false")
 
 
 @pytest.mark.parametrize("form", list(FORMS))
@@ -132,10 +135,13 @@ def test_a_shop(world: World, shop: Person, agent: Agent, pictures: pathlib.Path
 
 
 def test_pages_show_pictures_that_are_made() -> None:
-    """Each picture in the folder of deploy is one that is made here, and a page shows it."""
-    there = {path.stem for path in (DEPLOY / "pictures").glob("*.png")}
+    """Each picture in the folder of deploy is one that is made here, as wide and as high, and a page shows
+    it."""
+    there = {path.stem: size_of(path) for path in (DEPLOY / "pictures").glob("*.png")}
     pages = "".join(path.read_text(encoding="utf-8") for path in DEPLOY.glob("*.md"))
-    named: Any = set(re.findall(r"\(pictures/([a-z0-9-]+)\.png\)", pages))
-    assert there == named == set(SHOWN)
-    ends = {f"-{width}-{scheme}" for width in WIDTHS for scheme in SCHEMES}
-    assert all(any(name.endswith(end) for end in ends) for name in there)
+    named = set(re.findall(r"\(pictures/([a-z0-9-]+)\.png\)", pages))
+    assert set(there) == named == set(SHOWN)
+    for name, (width, height) in there.items():
+        _, wide, scheme = name.rsplit("-", 2)
+        assert (int(wide) in WIDTHS, scheme in SCHEMES, width) == (True, True, int(wide))
+        assert height <= SHOWN[name]

@@ -9,7 +9,7 @@ import pytest
 from support.waiting import until
 from support.world import World
 
-from console.office import ACCOUNT, BARRED, EMPTY, MOMENT, NOBODY, balance, charges
+from console.office import ACCOUNT, BARRED, EMPTY, MOMENT, NOBODY, POOR, balance, charges
 from console.person import Person
 
 PARTS = ("Available", "Reserved", "Charged", "Expired")
@@ -94,8 +94,11 @@ def test_the_balance(world: World, operator: Person) -> None:
     assert operator.told().startswith(f"As of {utc(MOMENT, '%Y-%m-%d %H:%M:%S')}.")
 
 
-def test_the_charges_by_day(world: World, operator: Person) -> None:
-    rows, seen = charges(world), shown(operator, ACCOUNT)
+@pytest.mark.parametrize("account", [ACCOUNT, POOR])
+def test_the_charges_by_day(world: World, operator: Person, account: str) -> None:
+    """What isn't collected has a column where there is some."""
+    rows, seen = charges(world, account), shown(operator, account)
+    assert operator.is_seen("#charges th.lost") is (account == POOR)
     wanted = []
     for day in sorted({utc(row[0], "%Y-%m-%d") for row in rows}, reverse=True):
         mine = [row for row in rows if utc(row[0], "%Y-%m-%d") == day]
@@ -119,12 +122,12 @@ def test_the_charges_by_day(world: World, operator: Person) -> None:
     assert seen["figures"]["Collected this month"] == money(sums[1])
     assert seen["figures"]["Uncollected"] == money(sums[2])
     assert seen["figures"]["Charges"] == str(len(rows))
-    buckets = balance(world)["Buckets"]
+    buckets = balance(world, account)["Buckets"]
     paid = sum(row["Charged"] for row in buckets if row.get("Unit") != "blocks")
     covered = sum(row["Charged"] for row in buckets if row.get("Unit") == "blocks")
     assert seen["figures"]["Collected to date"] == money(paid)
-    assert seen["figures"]["Covered by allowances to date"] == blocks(covered)
-    assert seen["link"] == f"/accounts/{ACCOUNT}/statement/202601"
+    assert seen["figures"].get("Covered by allowances to date", blocks(0)) == blocks(covered)
+    assert seen["link"] == f"/accounts/{account}/statement/202601"
 
 
 def by_day(rows: list[list[int]], at: int) -> dict[str, int]:
@@ -157,6 +160,14 @@ def test_the_month_as_bars(world: World, operator: Person) -> None:
     operator.choose("#series", "money collected")
 
 
+def test_what_isnt_collected_is_a_bar_of_its_own(world: World, operator: Person) -> None:
+    [row], seen = charges(world, POOR), shown(operator, POOR)
+    day, paid, lost = utc(row[0], "%Y-%m-%d"), row[4], row[5]
+    assert seen["chart"] == f"{day}: {money(paid)} and {money(lost)} uncollected"
+    first, second = seen["bars"]
+    assert first / second == pytest.approx(paid / lost, abs=0.02) and lost > paid > 0
+
+
 def test_a_month_is_picked(operator: Person) -> None:
     operator.show(f"{ACCOUNT}/202511")
     assert operator.text("#charges tbody") == "No charge in this month."
@@ -181,6 +192,7 @@ def test_an_account_without_anything(operator: Person) -> None:
     assert operator.text("#live") == "Nothing was credited yet."
     assert operator.text("#charges tbody") == "No charge in this month."
     assert operator.text("#chart figcaption") == "Nothing in this month"
+    assert operator.value("document.getElementById('total').children.length") == 0
 
 
 def test_a_barred_account(operator: Person) -> None:
@@ -221,4 +233,5 @@ def test_what_is_no_number(world: World, operator: Person, text: str) -> None:
     )
     assert operator.value("document.querySelectorAll('img, main script').length") == 0
     assert operator.value("document.title") == "Office"
+    assert operator.text("#who") == "desk, operator" and operator.is_seen("#views")
     assert all("/accounts" not in line["what"] for line in world.lines()[asked:])
