@@ -13,6 +13,8 @@
 -dialyzer([no_improper_lists, {nowarn_function, prepare_request/4}]).
 
 -define(CCR, 272).
+%% Requests of a connection that are read beyond those that may be under way.
+-define(MOST_AHEAD, 1000).
 
 -type peer() :: {term(), #diameter_caps{}}.
 -type packet() :: #diameter_packet{}.
@@ -85,18 +87,36 @@ known(_, Caps, Kind) ->
 reason(true) -> certificate;
 reason(false) -> name.
 
-%% message_cb: the first request of a connection waits until the connection is up.
+%% message_cb: the first request of a connection waits until the connection is up, and a connection
+%% whose requests come faster than their answers go isn't read for a while.
 %%
 %% OTP sends CEA before the service has entered the connection into its table of peers, and a
 %% request that comes in between belongs to no connection and is dropped without an answer. So CER
 %% is marked with this process, and the event `up' carries the mark (ocs_diameter_service).
 -spec message(recv | send | ack, term()) -> list().
 message(recv, <<1, _:24, 1:1, _:7, 257:24, _/binary>> = Cer) ->
-    [#diameter_packet{bin = Cer, transport_data = self()}];
+    [#diameter_packet{bin = Cer, transport_data = self()}, unanswered(1)];
 message(recv, <<1, _:24, 1:1, _:7, ?CCR:24, _/binary>> = Ccr) ->
     get(up) == true orelse put(up, ocs_diameter_service:wait_up(self(), 2000)),
-    [Ccr];
-message(ack, _) ->
+    [Ccr, unanswered(1)];
+message(recv, <<_:32, 1:1, _/bitstring>> = Request) ->
+    [Request, unanswered(1)];
+message(ack, #diameter_packet{bin = Sent}) ->
+    message(ack, Sent);
+message(ack, <<_:32, 1:1, _/bitstring>>) ->
     [];
+message(ack, _) ->
+    [unanswered(-1)];
 message(_, Message) ->
     [Message].
+
+%% Counts the requests of this connection that are read and not yet answered. Whether to read on:
+%% OTP would read whatever comes into the queues of its processes.
+-spec unanswered(1 | -1) -> boolean().
+unanswered(By) ->
+    Count = case get(unanswered) of
+                undefined -> By;
+                Before -> Before + By
+            end,
+    put(unanswered, Count),
+    Count < maps:get(in_flight, ocs_diameter_config:get()) + ?MOST_AHEAD.

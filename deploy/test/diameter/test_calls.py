@@ -2,6 +2,7 @@
 freeDiameter as a relay: each balance is what tshark reads as reported, to the micro-unit."""
 from __future__ import annotations
 
+import itertools
 import pathlib
 import signal
 import subprocess
@@ -15,6 +16,8 @@ from support.waiting import until
 
 pytestmark = pytest.mark.slow
 
+NUMBERS = itertools.count(4_920_000)
+
 
 @pytest.fixture(scope="module")
 def straight(home: pathlib.Path, tmp_path_factory: pytest.TempPathFactory) -> Iterator[Calls]:
@@ -27,10 +30,9 @@ def straight(home: pathlib.Path, tmp_path_factory: pytest.TempPathFactory) -> It
 
 
 @pytest.fixture
-def opened(straight: Calls, request: pytest.FixtureRequest) -> list[str]:
+def opened(straight: Calls) -> list[str]:
     """Eight accounts of the test's own with enough money."""
-    first = 4_915_000 + 100 * (abs(hash(request.node.name)) % 1000)
-    return [straight.office.account(str(first + at), CREDIT) for at in range(8)]
+    return [straight.office.account(str(next(NUMBERS)), CREDIT) for _ in range(8)]
 
 
 def test_one_call(straight: Calls, opened: list[str]) -> None:

@@ -55,18 +55,20 @@ def asked(peers: tuple[Bridge, Stub]) -> Stub:
     return peers[1]
 
 
+def greeting(host: str) -> bytes:
+    """The bytes of a Capabilities-Exchange-Request."""
+    gateway = Gateway.__new__(Gateway)
+    gateway.host, gateway.capabilities = host, (("Auth-Application-Id", 4),)
+    return message(*gateway.cer(), 1, 1)
+
+
 def answered(port: int, host: str, is_reset: bool = False) -> bool:
     """Whether a request in the very moment in which CEA is read is answered 2001."""
-    greeting = Gateway.__new__(Gateway)
-    greeting.host, greeting.capabilities = host, (("Auth-Application-Id", 4),)
-    code, application, avps, flags = greeting.cer()
-    first = message(code, application, avps, flags, 1, 1)
-    code, application, avps, flags = ccr(f"{host};{time.monotonic_ns()}", 1, 0, SIXTY, host=host)
-    second = message(code, application, avps, flags, 2, 2)
+    second = message(*ccr(f"{host};{time.monotonic_ns()}", 1, 0, SIXTY, host=host), 2, 2)
     with socket.create_connection(("127.0.0.1", port), PATIENCE) as one:
         if is_reset:
             one.setsockopt(socket.SOL_SOCKET, socket.SO_LINGER, struct.pack("ii", 1, 0))
-        one.sendall(first)
+        one.sendall(greeting(host))
         with contextlib.suppress(OSError):
             read_message(one)
             one.sendall(second)
@@ -138,8 +140,7 @@ def test_a_second_connection_of_a_host(bridge: Bridge, asked: Stub) -> None:
 
 def test_a_message_in_pieces_and_a_large_one(bridge: Bridge, asked: Stub) -> None:
     gateway = Gateway(bridge.port)
-    code, application, avps, flags = ccr("slow", 1, 0, SIXTY)
-    raw = message(code, application, avps, flags, 9001, 9001)
+    raw = message(*ccr("slow", 1, 0, SIXTY), 9001, 9001)
     gateway.send(raw[:30])
     time.sleep(2.5)
     gateway.send(raw[30:])
@@ -156,6 +157,37 @@ def test_many_requests_on_one_connection(bridge: Bridge, asked: Stub) -> None:
     told = [gateway.wait(hop) for hop in hops]
     assert [each.result for each in told if each] == [2001] * 500
     gateway.close()
+
+
+def test_an_answer_doesnt_wait_for_the_other_end(bridge: Bridge) -> None:
+    """Of two answers the second one goes before the first is acknowledged, which takes 40 ms."""
+    gateway = Gateway(bridge.port)
+    took = []
+    for hop in range(1000, 1040, 2):
+        both = [message(*ccr("two", 1, 0, to="x"), hop + at, hop + at) for at in (0, 1)]
+        began = time.monotonic()
+        gateway.send(b"".join(both))
+        assert gateway.wait(hop) and gateway.wait(hop + 1)
+        took.append(time.monotonic() - began)
+    assert min(took) < 0.03
+    gateway.close()
+
+
+@pytest.mark.slow
+def test_a_gateway_that_reads_no_answer(starts: Any, stub: Stub) -> None:
+    """Its requests are read no faster than its answers go, and its connection is ended."""
+    bridge = starts(stub.port)
+    others = Gateway(bridge.port)
+    asked = message(*ccr("deaf", 1, 0, to="x", host="deaf.example"), 9, 9) * 100
+    memory = bridge.memory()
+    with socket.create_connection(("127.0.0.1", bridge.port), PATIENCE) as deaf:
+        deaf.sendall(greeting("deaf.example"))
+        with pytest.raises(ConnectionError):
+            for _ in range(5000):
+                deaf.sendall(asked)
+    assert others.ask(ccr("beside", 1, 0, SIXTY)).result == 2001
+    assert bridge.memory() < memory + 128 * 1024
+    others.close()
 
 
 def test_watchdog_and_disconnect(bridge: Bridge, asked: Stub) -> None:
