@@ -402,6 +402,8 @@ FAULTS: dict[str, tuple[list[Avp], int, Any]] = {
     "sub-session 0": ([("CC-Sub-Session-Id", 0), SIXTY], 2001, None),
     "units beside services": ([(RSU, seconds(60)), SIXTY], 5008, [(RSU, seconds(60))]),
     "units beside no service": ([(RSU, seconds(60))], 5008, [(RSU, seconds(60))]),
+    "use beside no service": ([(USU, seconds(60))], 5008, [(USU, seconds(60))]),
+    "an identifier beside no service": ([("Service-Identifier", 5), SIXTY], 2001, None),
     "an unknown AVP with M": ([(UNKNOWN, b"abcd"), SIXTY], 5001, [(UNKNOWN, b"abcd")]),
     "an unknown AVP without M": ([(UNKNOWN, b"abcd", 0), SIXTY], 2001, None),
     "a vendor's AVP with M": ([(OF_A_VENDOR, b"abcd"), SIXTY], 5001, [(OF_A_VENDOR, b"abcd")]),

@@ -4,11 +4,12 @@ from __future__ import annotations
 import itertools
 import json
 import re
-from collections.abc import Iterator
+from collections.abc import Iterable, Iterator
 from typing import Any
 
 import pytest
 from diameter.bridge import SOURCE, Bridge, Office
+from diameter.test_frames import requests
 from diameter.wire import AVPS, Avp, Gateway, ccr, money, seconds, service
 
 TABLE = json.loads((SOURCE / "mapping.json").read_text())
@@ -20,8 +21,7 @@ PLACES = {
     "used": "Used-Service-Unit",
 }
 NUMBERS = itertools.count(1)
-# Rows that the bridge or the office reads are tried by test_mapping, by these names; the others
-# here, one by one.
+# Rows that the bridge or the office reads are tried by test_mapping; the others here, one by one.
 READ = {"pass", "bridge"}
 # A value that fits each kind of AVP.
 VALUES: dict[str, Any] = {"u32": 1, "u64": 5, "text": "x", "bytes": b"x", "group": []}
@@ -139,9 +139,17 @@ def test_a_refused_avp_is_shown(
     assert office.sums("49151") == before
 
 
+def placed(place: str, avps: Iterable[Avp]) -> Iterator[tuple[str, Any]]:
+    """The places and names of these AVPs, and of those in their groups that the table has."""
+    for name, value, *_ in avps:
+        yield place, name
+        within = next((each for each, group in PLACES.items() if group == name), None)
+        if within:
+            yield from placed(within, value)
+
+
 def test_rows_that_are_read_are_tried_elsewhere() -> None:
-    tests = "".join(
-        (SOURCE.parent / f"test/diameter/{name}.py").read_text()
-        for name in ("test_mapping", "test_options", "wire")
-    )
-    assert [name for _, name, rule in ROWS if rule in READ and f'"{name}"' not in tests] == []
+    """Each at its place, in the requests of test_mapping."""
+    tried = {each for _, _, avps, _ in requests() for each in placed("command", avps)}
+    rows = {(place, name) for place, name, rule in ROWS if rule in READ}
+    assert rows - tried == set()
