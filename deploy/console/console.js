@@ -282,7 +282,14 @@ function chartOf(days, written, least, wide) {
       ? [drawn("text", {x: left + (place + .5) * width, y: high - 6, "text-anchor": "middle"}, Number(one.day.slice(8)))] : [])));
   const words = days.filter(one => one.main + one.lost > 0n).map(one =>
     `${one.day}: ${written(one.main)}${one.lost > 0n ? ` and ${written(one.lost)} uncollected` : ""}`);
-  return made("figure", "", picture, made("figcaption", "off", words.join("; ")));
+  return made("figure", "", picture, ...keysOf(days), made("figcaption", "off", words.join("; ")));
+}
+
+/** What the two colours of a chart mean, where it has both. */
+function keysOf(days) {
+  if (!days.some(one => one.lost > 0n)) return [];
+  const keys = [["main", "collected"], ["uncollected", "uncollected"]];
+  return [made("div", "parts", ...keys.map(([kind, name]) => made("span", "", made("span", "key " + kind), name)))];
 }
 
 /** The pieces of a day's bar. */

@@ -389,6 +389,8 @@ def sums(desk: Desk, person: Person) -> None:
     ):
         person.choose("#sums-series", name)
         assert person.text("#sums-chart figcaption") == both(mine)
+    said = r"As of \d{4}-\d\d-\d\d [\d:]{8}\. Amounts are in currency 978, days are those of zone \+00:00\."
+    assert re.fullmatch(said, person.text("#sums-moment"))
     here = person.value("document.getElementById('sums-month').value")
     pressed(person, "#sums-before")
     assert person.value("location.hash") == f"#office/{month_before(here).replace('-', '')}"

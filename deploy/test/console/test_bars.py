@@ -41,10 +41,11 @@ class Agent(http.server.BaseHTTPRequestHandler):
 
     world: World
     dies = False
+    older = 0
     sessions = SESSIONS
 
     def do_GET(self) -> None:
-        told = {"sessions": Agent.sessions, "charges": [], "lines": [], "lines_before": 0}
+        told = {"sessions": Agent.sessions, "charges": [], "lines": [], "lines_before": Agent.older}
         self.answer(told | {"as_of": MOMENT, "lines_since": MOMENT - 86400})
 
     def do_POST(self) -> None:
@@ -121,6 +122,17 @@ def test_open_sessions_and_what_they_hold(operator: Person) -> None:
     ]
     assert operator.value("document.querySelectorAll('main img').length") == 0
     assert operator.value("document.title") == "Office"
+
+
+def test_how_many_lines_are_left_out(operator: Person) -> None:
+    Agent.older = 1234
+    try:
+        behind(operator, ACCOUNT)
+    finally:
+        Agent.older = 0
+    wanted = "The doors' log since 2026-01-28 14:03:00, 1,234 older ones left out"
+    assert operator.texts("#agent-parts h3")[1] == wanted
+    assert operator.text("#agent-moment") == "as of 2026-01-29 14:03:00"
 
 
 @pytest.fixture

@@ -95,6 +95,27 @@ def test_two_machines(operator: Person) -> None:
     ]
 
 
+SHARDS = [
+    {"shard": "07", "unit": "active", "answers": True, "seconds": 0.0123, "waiting": 1234}
+    | {"ahead": 12.6, "bytes": 999_499, "log_bytes": 1_500_000, "room_bytes": 35_600_000_000}
+    | {"copied": MOMENT, "read": MOMENT + 1, "swept": MOMENT + 2},
+    {"shard": "08", "unit": None, "answers": False, "seconds": None, "waiting": None}
+    | {"ahead": None, "bytes": None, "log_bytes": None, "room_bytes": None}
+    | {"copied": None, "read": None, "swept": None},
+]
+
+
+def test_each_number_of_a_shard(operator: Person) -> None:
+    """All that is known of one, and nothing of another: the page is handed the agent's answer."""
+    operator.show("office")
+    answer = json.dumps({"as_of": MOMENT, "shards": SHARDS, "machines": None})
+    operator.value(f"at('shards').hidden = false; showShards({answer})")
+    known = ["07", "active", "in 0.012 s", "1,234", "13 s", "999 kB", "1.5 MB", "35.6 GB"]
+    times = [f"2026-01-29 14:03:0{at}" for at in range(3)]
+    assert rows_of(operator, "#shards-parts") == [[*known, *times], ["08", "-", "no", *["-"] * 8]]
+    assert operator.text("#shards-moment") == "as of 2026-01-29 14:03:00"
+
+
 def test_a_shard_that_is_away_is_seen(world: World, operator: Person, agent: Agent) -> None:
     world.kill(2)
     try:

@@ -164,6 +164,7 @@ def test_what_isnt_collected_is_a_bar_of_its_own(world: World, operator: Person)
     [row], seen = charges(world, POOR), shown(operator, POOR)
     day, paid, lost = utc(row[0], "%Y-%m-%d"), row[4], row[5]
     assert seen["chart"] == f"{day}: {money(paid)} and {money(lost)} uncollected"
+    assert operator.texts("#chart .parts > span") == ["collected", "uncollected"]
     first, second = seen["bars"]
     assert first / second == pytest.approx(paid / lost, abs=0.02) and lost > paid > 0
 
