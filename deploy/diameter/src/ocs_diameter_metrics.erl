@@ -29,13 +29,17 @@ add(What, By) ->
 -spec answered(unicode:chardata(), pos_integer(), non_neg_integer()) -> ok.
 answered(Who, Code, Ms) ->
     Peer = unicode:characters_to_binary(Who),
-    Key = {answers, Peer, Code},
-    case ets:member(?MODULE, Key) orelse ets:info(?MODULE, size) < ?MOST_ROWS of
-        true -> count(Key);
-        false -> count({answers, <<"other">>, Code})
-    end,
+    count(row({answers, Peer, Code}, {answers, <<"other">>, Code})),
     add(answer_ms, Ms),
     count({answer_bound, bound(Ms)}).
+
+%% The row of a peer, or where there are too many that of all others.
+-spec row(tuple(), tuple()) -> tuple().
+row(Own, Other) ->
+    case ets:member(?MODULE, Own) orelse ets:info(?MODULE, size) < ?MOST_ROWS of
+        true -> Own;
+        false -> Other
+    end.
 
 -spec bound(non_neg_integer()) -> pos_integer() | infinity.
 bound(Ms) ->
@@ -44,7 +48,7 @@ bound(Ms) ->
 %% A connection of this peer more, or less.
 -spec peer(unicode:chardata(), 1 | -1) -> ok.
 peer(Who, By) ->
-    add({connections, unicode:characters_to_binary(Who)}, By).
+    add(row({connections, unicode:characters_to_binary(Who)}, {connections, <<"other">>}), By).
 
 -spec text() -> iodata().
 text() ->

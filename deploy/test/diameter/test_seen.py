@@ -22,6 +22,12 @@ SIXTY = service(10, seconds(60))
 SEALED = pathlib.Path(__file__).resolve().parent / "sealed.py"
 
 
+@pytest.fixture(autouse=True, scope="module")
+def account(office: Office) -> None:
+    """The account that the tests' requests name."""
+    office.account("49151", 10**12)
+
+
 def line_of(bridge: Bridge, session: str) -> dict[str, Any]:
     """The line of a session's only answer."""
     one = bridge.line(session=session)
@@ -43,7 +49,6 @@ LINES: dict[str, tuple[list[Any], dict[str, str]]] = {
 @pytest.mark.parametrize("case", LINES)
 def test_lines(office: Office, bridge: Bridge, case: str) -> None:
     avps, told = LINES[case]
-    office.account("49151", 10**12)
     gateway = Gateway(bridge.port)
     gateway.ask(ccr(f"line-{case}", 1, 0, *avps))
     line = line_of(bridge, f"line-{case}")
@@ -128,6 +133,24 @@ def test_measures_are_prometheus_text(bridge: Bridge) -> None:
         text=True,
     )
     assert told.returncode == 0, told.stdout + told.stderr
+
+
+# 6,000 strangers come, one by one, and each is answered and goes.
+STRANGERS = """ocs_diameter_metrics:init(),
+lists:foreach(fun(N) ->
+    Name = integer_to_list(N),
+    ocs_diameter_metrics:peer(Name, 1),
+    ocs_diameter_metrics:answered(Name, 2001, 1),
+    ocs_diameter_metrics:peer(Name, -1)
+  end, lists:seq(1, 6000)),
+Open = [N || {{connections, _}, N} <- ets:tab2list(ocs_diameter_metrics), N /= 0],
+io:format("~p ~p", [length(Open), ets:info(ocs_diameter_metrics, size)]), halt()."""
+
+
+def test_strangers_names_are_bounded(home: pathlib.Path) -> None:
+    words: list[Any] = ["erl", "-noinput", "-pa", home / "ebin", "-eval", STRANGERS]
+    told = subprocess.run(words, capture_output=True, text=True, check=True).stdout.split()
+    assert told[0] == "0" and int(told[1]) < 5010
 
 
 PORT: dict[str, tuple[str, str, bytes | None, int]] = {
