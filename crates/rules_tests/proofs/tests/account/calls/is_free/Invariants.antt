@@ -1,6 +1,6 @@
 use Rattle.std.proofs.Common.{◌≡◌, drop}
 use Rattle.reserving.specs.Sessions.{group_in}
-use Rattle.rules_tests.proofs.tests.account.scenarios.is_free.Given as goal
+use Rattle.rules_tests.proofs.tests.account.calls.is_free.Given as goal
 
 abbrev pub invariant-loop-row : goal.invariant-loop-row
 invariant-loop-row l =

@@ -1,6 +1,6 @@
 use Rattle.std.proofs.Common.{◌≡◌, drop}
 use Rattle.reserving.specs.Sessions.{session_in}
-use Rattle.rules_tests.proofs.tests.account.scenarios.is_new.Given as goal
+use Rattle.rules_tests.proofs.tests.account.calls.is_new.Given as goal
 
 abbrev pub invariant-loop-session : goal.invariant-loop-session
 invariant-loop-session l =
