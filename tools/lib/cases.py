@@ -4,13 +4,17 @@ import concurrent.futures
 import pathlib
 import sys
 import tempfile
+from collections.abc import Callable, Iterable
+from typing import NoReturn
 
 import growths
 
 LONGEST = 2000
+Pool = concurrent.futures.ThreadPoolExecutor
+Tried = Callable[[str, pathlib.Path, Pool], tuple[int, int]]
 
 
-def reported(command, runs, found):
+def reported(command: str, runs: Iterable[str], found: list[str]) -> tuple[int, int]:
     """How many runs went well and how many didn't, by what was found wrong with each; those that
     didn't are printed, with the words of the command that run them again."""
     for words, wrong in zip(runs, found):
@@ -19,10 +23,10 @@ def reported(command, runs, found):
     return found.count(""), len(found) - found.count("")
 
 
-def play(tool, names, jobs, tried):
+def play(tool: str, names: Iterable[str], jobs: int, tried: Tried) -> NoReturn:
     """Tries cases by their names in a folder in memory, and ends with what they count in all."""
     place = tempfile.TemporaryDirectory(dir=growths.IN_MEMORY)
-    with place as folder, concurrent.futures.ThreadPoolExecutor(jobs) as pool:
+    with place as folder, Pool(jobs) as pool:
         ends = [tried(name, pathlib.Path(folder), pool) for name in names]
     passed, failed = map(sum, zip(*ends))
     print(f"{tool}: {passed} passed, {failed} failed")

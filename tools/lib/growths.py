@@ -17,6 +17,7 @@ import struct
 import subprocess
 import tempfile
 import threading
+from typing import IO
 
 import ports
 
@@ -112,7 +113,7 @@ class Server:
         return ended._replace(out=ended.out.removeprefix(listening))
 
 
-def answer_in(read):
+def answer_in(read: IO[bytes]) -> bytes:
     """The next answer on a connection, as far as it comes."""
     head = b""
     while not head.endswith(b"\r\n\r\n"):

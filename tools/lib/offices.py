@@ -24,7 +24,7 @@ SECONDS = 120
 
 
 @functools.cache
-def program():
+def program() -> str:
     """The path of the program."""
     if os.environ.get("OCS"):
         return str(pathlib.Path(os.environ["OCS"]).resolve())
@@ -40,7 +40,7 @@ def tool(name):
     return made
 
 
-def need(*commands):
+def need(*commands: str) -> None:
     """Ends with status 2 if one of these commands isn't on the machine."""
     missing = [command for command in commands if not shutil.which(command)]
     if missing:
@@ -142,7 +142,7 @@ def serve_words(database, port, connections=1_000_000, at=None):
     return words if at is None else [*words, "--at", str(at)]
 
 
-def ran(*words, place=None):
+def ran(*words: object, place: pathlib.Path | str | None = None) -> str:
     """What the program prints for these words; raises where its status isn't 0."""
     asked = [program(), *map(str, words)]
     ended = subprocess.run(asked, cwd=place, capture_output=True, text=True, timeout=600)
@@ -225,6 +225,6 @@ class Counts:
         sys.exit(1 if self.failed or not self.passed else 0)
 
 
-def subscription(account):
+def subscription(account: str) -> dict[str, int | str]:
     """The member that names an account in a request."""
     return {"Subscription-Id-Type": 0, "Subscription-Id-Data": account}

@@ -11,12 +11,13 @@ import os
 import pathlib
 import socket
 import tempfile
+from collections.abc import Iterable
 
 FIRST, END = 20000, 32000
 GIVEN = pathlib.Path(tempfile.gettempdir()) / f"ocs-ports-{os.getuid()}"
 
 
-def are_free(ports):
+def are_free(ports: Iterable[int]) -> bool:
     """Whether nobody listens on any of these ports."""
     with contextlib.ExitStack() as opened:
         try:
@@ -29,7 +30,7 @@ def are_free(ports):
     return True
 
 
-def free_ports(count=1):
+def free_ports(count: int = 1) -> int:
     """The first of so many ports in a row that nobody listens on, past those that were given."""
     with open(GIVEN, "a+", encoding="ascii") as file:
         fcntl.flock(file, fcntl.LOCK_EX)
