@@ -48,14 +48,14 @@ def opened(path: pathlib.Path, *, is_still: bool = False) -> Iterator[Database]:
     """A database, read only. A fault of SQLite within is `Refused` with the file's name.
 
     One that `is_still` has no log and is written by nobody, such as a copy: it is read without a file
-    beside it, where none may be made."""
+    beside it, where none may be made, and by one thread or another."""
     if not path.is_file():
         raise Refused(f"{path} isn't there")
     store = None
     try:
         place = f"file:{urllib.parse.quote(str(path))}?mode=ro"
         place += "&immutable=1" if is_still else ""
-        store = sqlite3.connect(place, uri=True, timeout=0)
+        store = sqlite3.connect(place, uri=True, timeout=0, check_same_thread=not is_still)
         store.row_factory = sqlite3.Row
         version, last = store.execute("SELECT version, last_moment FROM meta").fetchone()
         if version != VERSION:

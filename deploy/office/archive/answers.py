@@ -6,8 +6,8 @@ anything else the program says it, over a few rows of the archive that nobody el
 a reference that was used for something else, a session that is over, a request that isn't read. None of
 them can be accepted there, for its key has been used. A month's statement is that of `months`.
 
-A repeat costs a look at each archive and its kept answer; one that isn't equal a start of the program
-over the account's rows besides."""
+A repeat costs a look at each archive and its kept answer, twice; one that isn't equal a start of the
+program over the account's rows besides."""
 from __future__ import annotations
 
 import contextlib
@@ -25,6 +25,7 @@ from office import copies, program, shards, spare
 from office.archive import known, past
 from office.archive.months import Months
 from office.archive.past import Part
+from office.archive.open_files import OpenFiles
 from office.faults import Refused
 from office.scratch import scratch
 from office.settings import Settings
@@ -76,14 +77,14 @@ class Answer:
 class Door:
     """The archives of an office."""
 
-    def __init__(self, settings: Settings, lock: threading.Lock) -> None:
+    def __init__(self, settings: Settings, lock: threading.Lock, open_files: OpenFiles) -> None:
         # The lock of the port on which the program answers.
-        self.settings, self.lock = settings, lock
+        self.settings, self.lock, self.open_files = settings, lock, open_files
 
     def keeps(self, asked: Asked) -> bool:
         """Whether an archive has the key of a request, or the month of a statement."""
         month, key = STATEMENT.fullmatch(asked.path), key_of(asked)
-        with past.opened_parts(self.files()) as parts:
+        with self.open_files.looked_at(self.files()) as parts:
             if asked.method == "GET" and month:
                 own = past.of_account(parts, month[1])
                 return bool(MONTH.fullmatch(month[2])) and Months().is_past(own, *month.groups())
@@ -94,19 +95,20 @@ class Door:
     def answer(self, asked: Asked) -> Answer | None:
         """The answer; none where no archive has one."""
         month = STATEMENT.fullmatch(asked.path)
-        with past.opened_parts(self.files()) as parts:
-            if asked.method == "GET" and month and MONTH.fullmatch(month[2]):
+        if asked.method == "GET" and month and MONTH.fullmatch(month[2]):
+            with past.opened_parts(self.files()) as parts:
                 return self.statement(parts, month[1], month[2])
-            key = key_of(asked)
+        key = key_of(asked)
+        with self.open_files.looked_at(self.files()) as parts:
             part = key and past.keeper(parts, key.account, key.kind, key.name)
             if not key or not part:
                 return None
-            shard = str(shards.Homes(self.settings).home(key.account))
             row = next(part.database.rows(KEPT, key.account, key.kind, key.name, key.number), None)
-            if row and row["content"] == key.content:
-                return Answer(200, row["answer"], shard, archive=part.file.name)
-            status, text = self.told(part, key.account, asked)
-            return Answer(status, text, shard, archive=part.file.name)
+        shard, name = str(shards.Homes(self.settings).home(key.account)), part.file.name
+        if row and row["content"] == key.content:
+            return Answer(200, row["answer"], shard, archive=name)
+        with past.opened_parts([part.file]) as parts:
+            return Answer(*self.told(parts[0], key.account, asked), shard, archive=name)
 
     def files(self) -> list[past.File]:
         """The archives; refused where one that is in force isn't there, since it may have the request."""

@@ -15,6 +15,7 @@ from typing import Any
 
 from office.agent.server import MOST, SECONDS, take_or_open
 from office.archive.answers import Answer, Asked, Door
+from office.archive.open_files import OpenFiles
 from office.faults import Refused, Unread
 from office.settings import Settings, read
 
@@ -38,14 +39,14 @@ class Server(socketserver.ThreadingMixIn, socketserver.UnixStreamServer):
     request_queue_size = 128
 
     def __init__(self, settings: Settings, path: pathlib.Path, file: pathlib.Path) -> None:
-        self.file, self.lock = file, threading.Lock()
+        self.file, self.lock, self.open_files = file, threading.Lock(), OpenFiles()
         super().__init__(str(path), Handler, bind_and_activate=False)
         take_or_open(self, settings, path)
 
     def door(self) -> Door:
         """The archives, by the office's file."""
         try:
-            return Door(read(self.file), self.lock)
+            return Door(read(self.file), self.lock, self.open_files)
         except Unread as fault:
             raise Refused(str(fault)) from fault
 

@@ -16,6 +16,8 @@ ENVIRONMENT = [
     f"FAKETIME_TIMESTAMP_FILE={STANDS}",
     "FAKETIME_FMT=%s",
     "FAKETIME_NO_CACHE=1",
+    # No word goes by a file's time, and SQLite asks for one's size all the time.
+    "NO_FAKE_STAT=1",
 ]
 # Python sleeps until a moment of the clock of waits, which faketime takes for one of the other clock.
 SLEEP = (

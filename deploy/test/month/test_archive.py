@@ -15,10 +15,14 @@ import pytest
 
 from month.machine import wait_until
 from month.stand import PRICE, Stand, doors, request, stand
-from month.worlds import ocs, world
+from month.worlds import BEGIN, BOOK, ocs, world
+from office import copies
 from office.archive import answers, known
 from office.archive.answers import Asked, Key
+from office.archive.past import File
+from office.archive.open_files import OpenFiles
 from office.audit import sums
+from office.faults import Refused
 from office.tables import opened
 
 FIRST, COUNT = 49_200, 40
@@ -39,6 +43,38 @@ def test_a_filter_has_each_key_and_few_others(tmp_path: pathlib.Path) -> None:
         many.add(str(49_000 + each % 900), 1, f"gw;{each};{chance.random()}")
     wrong = sum(many.may_have(str(49_000 + at % 900), 1, f"gw;new;{at}") for at in range(20_000))
     assert wrong < 20_000 * 0.01
+
+
+def test_archives_stay_open_until_another_file_has_their_place(tmp_path: pathlib.Path) -> None:
+    books = {name: (tmp_path / f"{name}.db") for name in ("one", "other")}
+    for at, path in enumerate(books.values(), 1):
+        ocs("init", path, BOOK)
+        ocs("open", path, f"4915{at}", "--at", BEGIN)
+    made, files = tmp_path / "02-20260105T100000Z.db", OpenFiles()
+    turning = made.with_name("03-20260105T100000Z.db.turning")
+    copies.make_whole(books["one"], made)
+    copies.make_whole(books["one"], turning)
+    those = [File("02", made, "02", BEGIN), File("03", turning, "03", BEGIN)]
+    asked = "SELECT account FROM accounts"
+    for _ in range(2):
+        with files.looked_at(those) as parts:
+            assert [part.database.one(asked) for part in parts] == ["49151", "49151"]
+            first = parts[0]
+        # One that isn't ended yet isn't kept.
+        assert [key[0] for key in files.held] == [made]
+    with files.looked_at(those[:1]) as parts:
+        assert parts == [first]
+    made.unlink()
+    copies.make_whole(books["other"], made)
+    with files.looked_at(those[:1]) as parts:
+        assert parts[0].database.one(asked) == "49152"
+    with pytest.raises(Refused), files.looked_at(those[:1]) as parts:
+        parts[0].database.one("SELECT nothing FROM accounts")
+    made.unlink()
+    with pytest.raises(Refused), files.looked_at(those[:1]):
+        pass
+    with files.looked_at([]) as parts:
+        assert parts == [] and not files.held
 
 
 def event(account: str, session: str, **more: object) -> bytes:
