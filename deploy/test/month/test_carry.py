@@ -175,6 +175,26 @@ def test_a_live_session_is_refused_before_the_stop(office: Stand) -> None:
     office.run("office carry 03")
 
 
+# The timer as it is, but for its hours: each second is one of its moments.
+EACH_SECOND = "[Timer]\nOnCalendar=\nOnCalendar=*:*:*\nRandomizedDelaySec=0\nAccuracySec=10ms\n"
+
+
+def test_the_timer_tries_until_no_session_is_live_and_then_once_a_night(office: Stand) -> None:
+    own, timer = of_shard(office, "04"), "office-carry@04.timer"
+    office.run("cp deploy/office-carry@.* /etc/systemd/system/ && systemctl daemon-reload")
+    office.run(f"systemd-analyze verify /etc/systemd/system/{timer}")
+    office.run(f"mkdir -p /etc/systemd/system/{timer}.d")
+    office.machine.write(f"/etc/systemd/system/{timer}.d/each.conf", EACH_SECOND)
+    office.ask("POST", "/ccr", request(own[0], "all-night", 1, 0, 10, 600))
+    office.run(f"systemctl daemon-reload; systemctl start {timer}")
+    said = "journalctl --no-pager --unit office-carry@04 --output cat"
+    wait_until(lambda: office.run(said).count("has 1 live sessions") >= 2, "two tries")
+    office.ask("POST", "/ccr", request(own[0], "all-night", 3, 1, 10, -1, 60))
+    wait_until(lambda: "was carried in the last 20 hours" in office.run(said), "the carry")
+    office.run(f"systemctl stop {timer} office-carry@04.service")
+    assert office.run(said).count("04 archive ") == 1 and office.is_up("04")
+
+
 # Prints the accounts of a copy whose requests may be repeated, with their requests.
 EXPECTED = """
 import pathlib, sys
