@@ -1,17 +1,20 @@
-"""The Debian packages in a fresh Debian: installed, upgraded, purged; data stays."""
+"""The Debian packages in a fresh Debian, and with shards that systemd serves: installed, upgraded over a
+database of the version before, purged; data stays."""
 from __future__ import annotations
 
 import pathlib
+import shutil
 import subprocess
-from collections.abc import Iterator
 
 import pytest
 
-from month.machine import DEPLOY
+from month.machine import DEPLOY, Machine, machine
+from month.stand import Stand
 from support import ports
 
 pytestmark = pytest.mark.slow
 DATABASE = "/var/lib/ocs/01.db"
+VERSIONS = ("0.1.0-1", "0.1.1-1")
 BACK = "DROP TABLE covered; DROP TABLE allowance_buckets; UPDATE meta SET version = 2"
 
 
@@ -37,19 +40,28 @@ def built(folder: pathlib.Path, version: str) -> None:
     assert (told.returncode, told.stdout) == (0, "lintian: nothing\n"), told.stderr
 
 
+@pytest.fixture(scope="module", name="packages")
+def packages_of_both(tmp_path_factory: pytest.TempPathFactory) -> pathlib.Path:
+    """A folder with the packages of two versions, `VERSION.deb` and `bridge-VERSION.deb`."""
+    folder = tmp_path_factory.mktemp("packages")
+    for version in VERSIONS:
+        built(folder / version, version)
+        made = folder / version
+        shutil.copy(made / f"ocs-server_{version}_amd64.deb", folder / f"{version}.deb")
+        shutil.copy(made / f"ocs-diameter_{version}_all.deb", folder / f"bridge-{version}.deb")
+    return folder
+
+
 class Fresh:
     """A fresh Debian in a folder, and the packages of two versions in it."""
 
-    def __init__(self, folder: pathlib.Path) -> None:
+    def __init__(self, folder: pathlib.Path, packages: pathlib.Path) -> None:
         self.root = folder / "root"
         more = "adduser,haproxy,openssl,python3,python3-prometheus-client,sqlite3,systemd,"
         more += "curl,erlang-base,erlang-diameter,erlang-inets,erlang-jiffy,erlang-ssl"
         run("debootstrap", "--variant=minbase", f"--include={more}", "bookworm", self.root)
-        for version in ("0.1.0-1", "0.1.1-1"):
-            built(folder / version, version)
-            made = folder / version
-            run("cp", made / f"ocs-server_{version}_amd64.deb", self.root / f"{version}.deb")
-            run("cp", made / f"ocs-diameter_{version}_all.deb", self.root / f"bridge-{version}.deb")
+        for package in packages.glob("*.deb"):
+            shutil.copy(package, self.root)
         run("cp", "-r", DEPLOY.parent / "examples", self.root / "examples")
 
     def run(self, line: str, status: int = 0) -> str:
@@ -63,8 +75,8 @@ class Fresh:
 
 
 @pytest.fixture(scope="module", name="fresh")
-def made(tmp_path_factory: pytest.TempPathFactory) -> Iterator[Fresh]:
-    yield Fresh(tmp_path_factory.mktemp("debian"))
+def made(tmp_path_factory: pytest.TempPathFactory, packages: pathlib.Path) -> Fresh:
+    return Fresh(tmp_path_factory.mktemp("debian"), packages)
 
 
 def test_it_is_installed_upgraded_and_purged(fresh: Fresh) -> None:
@@ -132,3 +144,81 @@ def listens(fresh: Fresh, own: str) -> bool:
         bridge.terminate()
         bridge.stdout.read()
     return f"127.0.0.1:{port}".encode() in told
+
+
+# Four shards of the package, and the doors before them. The machine has no clock that is synchronised, and
+# a rule by which no package starts or stops a unit.
+SERVED = """
+set -e
+rm -f /usr/sbin/policy-rc.d /usr/local/bin/ocs
+dpkg --install /tmp/0.1.0-1.deb
+sed -i 's/^.office.$/[office]\\nsynchronised = false/' /etc/ocs/office.toml
+install -d /run/haproxy
+for s in 01 02 03 04; do
+    runuser -u ocs -- ocs-server init /var/lib/ocs/$s.db /usr/share/doc/ocs-server/examples/book.toml
+done
+systemctl daemon-reload
+systemctl enable --now office-archive.socket
+office up
+"""
+SHARDS = ("01", "02", "03", "04")
+
+
+class Packaged(Stand):
+    """An office of the package, whose command is the installed one."""
+
+    def run(self, line: str, status: int | None = 0) -> str:
+        """What a line prints on both streams."""
+        return super().run(f"export PATH=/usr/sbin:/usr/bin:/sbin:/bin\n{line}", status)
+
+    def processes(self) -> list[str]:
+        """The process of each shard; 0 where none serves it."""
+        show = "systemctl show --property MainPID --value"
+        return [self.run(f"{show} ocs@{shard}").strip() for shard in SHARDS]
+
+    def migrates(self) -> None:
+        """The shards are of the version before, which the program says, and are migrated by the word."""
+        self.run(f"systemctl stop {' '.join(f'ocs@{shard}' for shard in SHARDS)}")
+        for shard in SHARDS:
+            self.run(f'runuser -u ocs -- sqlite3 /var/lib/ocs/{shard}.db "{BACK}"')
+        assert "open fault 6" in self.run(
+            f"runuser -u ocs -- ocs-server statement {DATABASE} 1 202601", 1
+        )
+        told = self.run("office migrate")
+        assert told == "".join(f"{shard} version 3\n" for shard in SHARDS)
+        assert "04 answers" in self.run("office up")
+
+
+def test_shards_are_served_upgraded_and_stopped_by_systemd(packages: pathlib.Path) -> None:
+    with machine() as copy:
+        office = Packaged(copy)
+        for version in VERSIONS:
+            brought(copy, packages / f"{version}.deb")
+        told = office.run(SERVED)
+        assert all(f"{shard} answers" in told for shard in SHARDS)
+        office.open("49151", 1_000_000)
+        assert office.debit("49151", "before")["Result-Code"] == 2001
+        left, before = office.available("49151"), office.processes()
+        office.run("dpkg --install --force-confold /tmp/0.1.1-1.deb")
+        # What is served goes on, by the processes of before.
+        assert office.processes() == before and "0" not in before
+        assert office.available("49151") == left
+        office.migrates()
+        assert set(office.processes()).isdisjoint(before) and office.available("49151") == left
+        assert office.debit("49151", "before")["Result-Code"] == 2001
+        assert office.available("49151") == left
+        office.run("office audit && office backups")
+        office.run("dpkg --remove ocs-server")
+        assert office.processes() == ["0"] * len(SHARDS)
+        office.run("dpkg --purge ocs-server")
+        assert (
+            office.run("ls /etc/systemd/system/multi-user.target.wants | grep -c ocs@", 1) == "0\n"
+        )
+        kept = office.run("ls /var/lib/ocs").split()
+        assert [name for name in kept if name.endswith(".db")] == [f"{one}.db" for one in SHARDS]
+        assert office.run("id -un ocs") == "ocs\n"
+
+
+def brought(copy: Machine, package: pathlib.Path) -> None:
+    """Puts a package into a machine."""
+    shutil.copy(package, f"/proc/{copy.first()}/root/tmp/{package.name}")
