@@ -29,6 +29,7 @@ pub mod Laws
 pub mod TablesAfter
 pub mod Equations
 pub mod PaidParts
+pub mod UsesByFields
 pub mod ServedParts
 pub mod OutcomeParts
 pub mod Promise

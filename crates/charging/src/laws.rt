@@ -24,6 +24,7 @@ ghost use Rattle.charging.specs.Allowed.{ReportsAreCovered, EventsAreCovered};
 ghost use Rattle.charging.specs.Repeats.{AnswersOnce};
 ghost use Rattle.charging.specs.Laws.{AccountsAreIsolated, CodesAreRedeemedOnce, LedgersAreSound};
 ghost use Rattle.charging.specs.Laws.{QuotasArePaid, ReportsArePaid, TakenIsCharged};
+ghost use Rattle.charging.specs.UsesByFields.{UsesAreByFields};
 
 use crate::answers::Run;
 use crate::running::DatedCommand;
@@ -151,6 +152,14 @@ pub fn sessions_open_by_grants()
 // rule: paid, paid.taken
 pub fn payment()
     ensures { ReportsArePaid }
+{}
+
+/// Each field of a paid use is that of its report's price, by the use's own session and group, or of
+/// its debit's: the equation of the whole use, by which payment speaks of it, says just that (RFC
+/// 8506 section 5.3).
+// rule: paid.uses-by-fields
+pub fn uses_by_fields()
+    ensures { UsesAreByFields }
 {}
 
 /// Allowances before money: a report's price, and an event's, is due only where all blocks are
