@@ -125,9 +125,9 @@ def month(desk: Desk, person: Person) -> None:
     ):
         person.choose("#series", name)
         assert person.text("#chart figcaption") == bars(mine, at, written)
-    here, before = person.text("#chart-title"), utc(int(time.time()) - 31 * DAY, "%Y-%m")
+    here = person.text("#chart-title")
     pressed(person, "#before")
-    assert person.text("#chart-title") == f"{month_before(here[:7])} by day" >= before
+    assert person.text("#chart-title") == f"{month_before(here[:7])} by day"
     pressed(person, "#after")
     assert person.text("#chart-title") == here
     pressed(person, "#before")
@@ -249,25 +249,29 @@ def bar(desk: Desk, person: Person) -> None:
 
 
 def answer_lost(desk: Desk, person: Person) -> None:
-    """A command whose answer is lost is sent again, also by a page that is opened anew; another is left."""
+    """A command whose answer is lost is sent again, by a page that is opened anew; the same is left."""
     account, code = desk.new(0), next(desk.codes)
-    for button, left in (("main:first-of-type", 0), ("main + button", 0)):
-        found(person, account)
-        person.tab("redeem")
-        person.fill("redeem", code=code)
-        person.value(LOST)
-        assert person.send("redeem").startswith("No answer. It may have been done")
-        person.show(account)
-        title = f"Voucher {code} for account {account}, reference redeem-{code}"
-        assert person.texts("#unanswered span") == [title]
-        before = person.counted("done")
-        person.push(f"#unanswered button.{button}")
-        if button.startswith("main:"):
-            person.is_counted("done", before)
-            assert person.outcome().startswith("Redeemed the voucher as bucket 1")
-        until(lambda: not person.is_seen("#waiting"), "an empty list")
+    lost(person, account, code)
+    pressed(person, "#unanswered button.main", "done")
+    assert person.outcome().startswith("Redeemed the voucher as bucket 1")
+    assert not person.is_seen("#waiting")
+    lost(person, account, code)
+    person.push("#unanswered button:not(.main)")
+    until(lambda: not person.is_seen("#waiting"), "an empty list")
     buckets = desk.ask("GET", f"/accounts/{account}")["Buckets"]
     assert [one["Credited"] for one in buckets] == [5_000_000]
+
+
+def lost(person: Person, account: str, code: str) -> None:
+    """A voucher is redeemed, its answer is lost, and the page is opened anew."""
+    found(person, account)
+    person.tab("redeem")
+    person.fill("redeem", code=code)
+    person.value(LOST)
+    assert person.send("redeem").startswith("No answer. It may have been done")
+    person.show(account)
+    title = f"Voucher {code} for account {account}, reference redeem-{code}"
+    assert person.texts("#unanswered span") == [title]
 
 
 # What is behind an account.
@@ -371,34 +375,39 @@ def views(desk: Desk, person: Person) -> None:
 
 
 def sums(desk: Desk, person: Person) -> None:
-    """The sums of a month by day, group and shard, and what is uncollected; the month before."""
+    """The sums of a month by day, group and shard, as tables and as bars, and what is uncollected."""
     person.show(f"office/{MONTH}")
     rows = desk.told(f"sums?month={MONTH}")["charges"]
     by_day = sorted(summed(rows, "day"), reverse=True)
     assert rows_of(person, "[data-part=charges]") == by_day
     for part, key in (("group", "rating_group"), ("shard", "shard")):
         assert rows_of(person, f"[data-part='charges by {part}']") == summed(rows, key)
-    for name in ("collected", "uncollected"):
-        wanted = money(sum(row[name] for row in rows))
-        assert person.text(f"#sums-figures [data-figure={name.title()}]") == wanted != "0.00"
-    figure = person.text("#sums-figures [data-figure=Charges]")
-    assert figure == f"{sum(row['charges'] for row in rows):,}"
-    for name, mine in (
-        ("group 30", [row for row in rows if row["rating_group"] == 30]),
-        ("all", rows),
-    ):
+    figures = person.texts("#sums-figures dd")
+    whole = [sum(row[name] for row in rows) for name in ("collected", "uncollected", "charges")]
+    assert figures == [*map(money, whole[:2]), f"{whole[2]:,}"] and "0.00" not in figures
+    mine = [row for row in rows if row["rating_group"] == 30]
+    for name, those in (("group 30", mine), ("all", rows)):
         person.choose("#sums-series", name)
-        assert person.text("#sums-chart figcaption") == both(mine)
-    said = r"As of \d{4}-\d\d-\d\d [\d:]{8}\. Amounts are in currency 978, days are those of zone \+00:00\."
+        assert person.text("#sums-chart figcaption") == both(those)
+
+
+def sums_of_months(desk: Desk, person: Person) -> None:
+    """The month before and after, by buttons and by the list."""
+    person.show(f"office/{MONTH}")
+    said = (
+        r"As of [\d-]{10} [\d:]{8}\. Amounts are in currency 978, days are those of zone \+00:00\."
+    )
     assert re.fullmatch(said, person.text("#sums-moment"))
     here = person.value("document.getElementById('sums-month').value")
+    before = f"#office/{month_before(here).replace('-', '')}"
     pressed(person, "#sums-before")
-    assert person.value("location.hash") == f"#office/{month_before(here).replace('-', '')}"
+    assert person.value("location.hash") == before
     pressed(person, "#sums-after")
+    assert person.value("location.hash") == f"#office/{MONTH}"
     counted = person.counted("shown")
     person.choose("#sums-month", person.options("#sums-month")[1])
     person.is_counted("shown", counted)
-    assert person.value("location.hash") == f"#office/{month_before(here).replace('-', '')}"
+    assert person.value("location.hash") == before
 
 
 def summed(rows: list[Any], key: str) -> list[list[str]]:
@@ -611,6 +620,12 @@ TASKS: dict[str, Task] = {
     ),
     "sums by day, group and shard": Task(
         OFFICE, "sums", sums, Tried("#sums", "GET", f"{AGENT}/sums?month={MONTH}", at="office")
+    ),
+    "sums of another month": Task(
+        OFFICE,
+        "sums",
+        sums_of_months,
+        Tried("#sums", "GET", f"{AGENT}/sums?month=202601", at="office"),
     ),
     "the shards": Task(
         OFFICE, "shards", shards, Tried("#shards", "GET", f"{AGENT}/shards", at="office")
