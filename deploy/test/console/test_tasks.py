@@ -15,7 +15,18 @@ from console.person import Person
 from console.tasks import TASKS, Tried, found
 from console.test_killed import killed_within
 
-MAY = [(task, who) for task, each in TASKS.items() for who in each.who]
+WAYS = ("keys", "pointer")
+# The quick part has each task by one by keys, and by another by a pointer where another may.
+MAY = [
+    pytest.param(
+        *(task, who, way),
+        marks=() if (who, way) in zip(each.who, WAYS) else pytest.mark.slow,
+        id=f"{task}-{who}-{way}",
+    )
+    for task, each in TASKS.items()
+    for who in each.who
+    for way in WAYS
+]
 MAY_NOT = [(task, who) for task, each in TASKS.items() for who in PEOPLE if who not in each.who]
 # What isn't offered is shown by hand, as somebody might who can change his page.
 UNHIDE = """(() => {
@@ -32,8 +43,7 @@ def desk() -> Iterator[Desk]:
         yield one
 
 
-@pytest.mark.parametrize("way", ["keys", "pointer"])
-@pytest.mark.parametrize("task, who", MAY)
+@pytest.mark.parametrize("task, who, way", MAY)
 def test_it_is_done(desk: Desk, task: str, who: str, way: str) -> None:
     person = desk.people[who]
     person.way = way
