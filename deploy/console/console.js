@@ -635,7 +635,8 @@ function columnsOf(rows, name, columns) {
   const row = one => made("tr", "", ...columns.map(column => cell(one, column)));
   const wrap = button => made("tr", "", Object.assign(made("td", "", button), {colSpan: columns.length}));
   listed(body, rows, row, 100, name, wrap);
-  const place = made("div", "scroll", made("table", "", made("thead", "", head), body));
+  const table = made("table", "", made("thead", "", head), body), place = made("div", "scroll", table);
+  table.setAttribute("aria-label", name);
   place.dataset.part = name;
   return place;
 }

@@ -138,24 +138,68 @@ def test_tabs_go_round_by_arrows(operator: Person, agent: Agent) -> None:
     assert [one for one in operator.value(names) if one[0] == "true"] == [["true", 0]]
 
 
-def test_a_screen_reader_hears_it(operator: Person) -> None:
+NAMED = (
+    "button",
+    "textbox",
+    "combobox",
+    "image",
+    "img",
+    "link",
+    "Date",
+    "DateTime",
+    "DisclosureTriangle",
+)
+# What a reader for who doesn't see finds in each view: roles and names.
+HEARD = {
+    ACCOUNT: [
+        ("textbox", "Account number"),
+        ("tablist", "Do"),
+        ("tab", "Credit"),
+        ("tab", "Bar"),
+        ("tabpanel", "Credit"),
+        ("combobox", "Month"),
+        ("combobox", "Show"),
+        ("button", "Month before"),
+        ("button", "Month after"),
+        ("heading", f"Account {ACCOUNT}"),
+        ("heading", "Open sessions"),
+        ("region", "Charges"),
+        ("table", "Charges of 2026-01 by day, the newest first"),
+        ("columnheader", "Collected"),
+        ("status", ""),
+        ("link", "as CSV"),
+    ],
+    f"office/{MONTH}": [
+        ("navigation", "Views"),
+        ("region", "All accounts"),
+        ("region", "Shards"),
+        ("region", "Tariff books"),
+        ("status", ""),
+        ("alert", ""),
+        ("heading", "By group"),
+        ("table", "charges by group"),
+        ("table", "shards"),
+        ("columnheader", "Uncollected"),
+        ("button", "Try"),
+        ("button", "Check"),
+    ],
+    NOBODY: [("alert", ""), ("region", f"Open account {NOBODY}"), ("button", "Open it")],
+}
+
+
+@pytest.mark.parametrize("what", list(HEARD))
+def test_a_screen_reader_hears_it(operator: Person, agent: Agent, what: str) -> None:
     """Names, roles and live regions as the browser's tree for readers has them."""
-    operator.show(ACCOUNT)
+    if what == ACCOUNT:
+        behind(operator, what)
+    else:
+        operator.show(what)
     operator.do("Accessibility.enable")
     nodes = operator.do("Accessibility.getFullAXTree")["nodes"]
     found = [
-        (node["role"]["value"], node.get("name", {}).get("value", ""))
+        (node["role"]["value"], node.get("name", {}).get("value", "").replace("\u00ad", ""))
         for node in nodes
         if not node.get("ignored") and "role" in node
     ]
-    assert ("textbox", "Account number") in found
-    assert ("tablist", "Do") in found and ("tab", "Credit") in found
-    assert ("combobox", "Month") in found and ("button", "Month before") in found
-    assert ("heading", f"Account {ACCOUNT}") in found
-    assert any(role == "status" for role, _ in found)
-    unnamed = [
-        one
-        for one in found
-        if one[0] in ("button", "textbox", "combobox", "image", "img") and not one[1]
-    ]
-    assert unnamed == []
+    assert [one for one in HEARD[what] if one not in found] == []
+    assert [one for one in found if one[0] in NAMED and not one[1]] == []
