@@ -6,9 +6,9 @@ A line that begins with `$ ` is a step as it is typed. The lines below it say wh
     $ ocs WORDS      the program is run with these words
     $ http DB WORDS  it serves a connection of DB, with these words of `serve`; so do `cut`,
                      `lines` and `taken`
-    > TEXT           what it is given: the bytes that are sent on a connection, the standard input
-                     of `once`, or the file that is another command's third word; it lies where the
-                     steps run, from the beginning on
+    > TEXT           what it is given: the bytes that are sent on a connection, the table of `lines`,
+                     the standard input of `once`, or the file that is another command's third
+                     word; it lies where the steps run, from the beginning on
     < TEXT           what comes back on a connection
     ! TEXT           a line of its standard error; `! ...` is anything
     ? N              its exit status, where that isn't 0
@@ -17,8 +17,8 @@ A line that begins with `$ ` is a step as it is typed. The lines below it say wh
 
 `$ database NAME` is no step: `db` is a copy of that file of tests/databases from the beginning on.
 
-What is no text, or has very long lines, is in a file beside the transcript, as a book is. `< FILE`
-is what the step is given, `> FILE` what it prints, `2> FILE` what it prints on standard error.
+What is no text, has very long lines or very many, is in a file beside the transcript, as a book is.
+`< FILE` is what the step is given, `> FILE` what it prints, `2> FILE` what it prints on standard error.
 `> /dev/full` takes nothing.
 
 A line of a connection ends with CR and LF; if its last character is a single backslash, with
