@@ -21,8 +21,8 @@ ask() {{ curl -sS --max-time 60 -o - -w ' %{{http_code}}\\n' "$@" 2>&1; }}
 until ask http://127.0.0.1:8081/office | grep -q ' 200$'; do sleep 0.1; done
 """
 ENDED = "kill $haproxy $shard; wait"
-# An account of shard 01, of two.
-ACCOUNT = "49152"
+# An account of shard 01 and one of shard 02, of two.
+ACCOUNT, OTHER = "49152", "49151"
 
 
 def answers(tmp_path: pathlib.Path, lines: str) -> list[str]:
@@ -72,3 +72,12 @@ def test_a_relay_is_for_the_machines_alone(tmp_path: pathlib.Path) -> None:
     )
     found = [line[-4:] for line in told]
     assert [status for status in found if status[1:].isdigit()] == [" 000"] * 2 + [" 200"] * 2
+
+
+def test_with_the_link_pulled_the_other_machines_shards_are_away(tmp_path: pathlib.Path) -> None:
+    told = answers(
+        tmp_path,
+        "ip addr add 10.51.0.101/24 dev eth1\n"
+        f"for a in {ACCOUNT} {OTHER}; do ask -X PUT -d '' http://127.0.0.1:8081/accounts/$a; done",
+    )
+    assert told == ['{"Result-Code":2001} 200', '{"Result-Code":5012} 503']
