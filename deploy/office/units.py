@@ -32,7 +32,12 @@ def run(*words: str) -> str:
 
 def is_active(shard: Shard) -> bool:
     """Whether a shard's unit is up or on its way."""
-    told = systemctl("show", "--property", "ActiveState", "--value", shard.unit).strip()
+    return is_up(shard.unit)
+
+
+def is_up(unit: str) -> bool:
+    """Whether a unit is up or on its way."""
+    told = systemctl("show", "--property", "ActiveState", "--value", unit).strip()
     return told in ("active", "activating", "reloading")
 
 

@@ -5,7 +5,7 @@ import subprocess
 
 from office.shards import Shard
 
-SECONDS = 30
+UNIT, SECONDS = "pacemaker", 30
 
 
 def leave(shard: Shard) -> str:

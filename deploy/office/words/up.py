@@ -6,8 +6,8 @@ Writes HAProxy's configuration where it is another than before and HAProxy takes
 shard that isn't up, one after another, and waits until it listens; starts HAProxy, or has it read
 its configuration; and sees that each shard answers through it. What is up already goes on. A shard
 whose start the clock is against is left alone (`office check --help` says when); --meant says that
-the clock is right. With two machines Pacemaker starts the shards. Prints a line for each thing that is
-done."""
+the clock is right. With two machines Pacemaker starts the shards, and while it isn't up here none of
+them is asked. Prints a line for each thing that is done."""
 from __future__ import annotations
 
 import argparse
@@ -20,6 +20,7 @@ from office import alone, clock, options, proxy, units
 from office.client import Client
 from office.doors import configuration
 from office.faults import Refused, TurnedAway
+from office.machines import pacemaker
 from office.progress import shown
 from office.settings import Settings
 from office.shards import Shard
@@ -45,6 +46,9 @@ def run(settings: Settings, arguments: argparse.Namespace) -> int:
     print(f"{path}: {'written' if is_changed else 'as before'}")
     failed = each("start", chosen, lambda shard: started(settings, shard, arguments.meant))
     print(proxy.up(settings, is_changed), flush=True)
+    if settings.machines and not units.is_up(pacemaker.UNIT):
+        print("Pacemaker isn't up on this machine: no shard is asked")
+        return failed
     with Client(settings, patience=PATIENCE) as client:
         return failed | each("ask", chosen, lambda shard: answers(client, shard))
 
