@@ -9,10 +9,11 @@ from collections.abc import Iterator
 import pytest
 from support.world import DEPLOY
 
+from console.account_tasks import found
 from console.desk import PEOPLE, Desk, at_work
 from console.office import ACCOUNT, NOBODY, home
 from console.person import Person
-from console.tasks import TASKS, Tried, found
+from console.tasks import TASKS, Tried
 from console.test_killed import killed_within
 
 WAYS = ("keys", "pointer")
