@@ -60,7 +60,7 @@ fn write_change<S: Alter>(
 /// Tests a change, and writes it in one transaction if it may be written: the tables become those
 /// with the change, or at a fault they are as before. Whatever a stop leaves is one of the two.
 // rule: database-writes.commits-change
-#[tactic(auto, using(crate::proofs::Whole::refused))]
+#[tactic(auto, using(crate::proofs::commits::Whole::refused))]
 fn make_change<S: Alter>(
     conn: &mut Connection<S>,
     alloc: Global,

@@ -17,14 +17,14 @@ use sqlite::Alter;
 
 /// The rows that a change writes read as the change.
 // rule: database-writes.tables-of
-#[tactic(auto, using(crate::proofs::Changed::changes_read))]
+#[tactic(auto, using(crate::proofs::commits::Changed::changes_read))]
 pub fn changes_are_read()
     ensures { AreChangesRead }
 {}
 
 /// The rows that a sweep writes read as the sweep.
 // rule: database-sweep
-#[tactic(auto, using(crate::proofs::Swept::sweeps_read))]
+#[tactic(auto, using(crate::proofs::sweeps::Swept::sweeps_read))]
 pub fn sweeps_are_read()
     ensures { AreSweepsRead }
 {}
@@ -37,21 +37,21 @@ pub fn new_tables_are_empty()
 
 /// What the open sessions have of rating groups is what is loaded of an account's rows.
 // rule: database-loads.told-groups
-#[tactic(auto, using(crate::proofs::LiveGroups::open_loaded))]
+#[tactic(auto, using(crate::proofs::loads::LiveGroups::open_loaded))]
 pub fn open_groups_are_loaded()
     ensures { AreOpenGroupsLoaded }
 {}
 
 /// What is read of an account's rows that may still change is what is loaded of them.
 // rule: database-loads.live-account
-#[tactic(auto, using(crate::proofs::LiveRows::live_loaded))]
+#[tactic(auto, using(crate::proofs::loads::LiveRows::live_loaded))]
 pub fn live_rows_are_loaded()
     ensures { AreLiveRowsLoaded }
 {}
 
 /// What a commit, an addition or a sweep makes of tables that are left is left again.
 // rule: database-opened.left
-#[tactic(auto, using(crate::proofs::Again::left_again))]
+#[tactic(auto, using(crate::proofs::shelf::Again::left_again))]
 pub fn tables_are_left_again()
     ensures { AreLeftAgain }
 {}
@@ -65,14 +65,14 @@ pub fn shelves_are_one()
 
 /// A database has one fault at most for which it isn't opened.
 // rule: database-opened.fault
-#[tactic(auto, using(crate::proofs::Causes::causes_apart))]
+#[tactic(auto, using(crate::proofs::openings::Causes::causes_apart))]
 pub fn causes_are_apart()
     ensures { AreCausesApart }
 {}
 
 /// A database that has one is refused for no row.
 // rule: rows-ruled.opened
-#[tactic(auto, using(crate::proofs::RuledOpening::rows_apart))]
+#[tactic(auto, using(crate::proofs::openings::RuledOpening::rows_apart))]
 pub fn rows_are_apart()
     ensures { AreRowsApart }
 {}
@@ -80,7 +80,7 @@ pub fn rows_are_apart()
 /// The rows that a new book has, and those that a commit, an addition, a sweep or a book more makes
 /// of rows in their rules, are in their rules.
 // rule: stop-ruled
-#[tactic(auto, using(crate::proofs::Held::left_ruled_again))]
+#[tactic(auto, using(crate::proofs::openings::Held::left_ruled_again))]
 pub fn ruled_tables_are_left_again()
     ensures { AreLeftRuledAgain }
 {}

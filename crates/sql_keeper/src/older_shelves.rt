@@ -54,7 +54,7 @@ pub(crate) fn older_shelf<S: Alter>(
 }
 
 /// Tests that the connection can still be asked.
-#[tactic(auto, using(crate::proofs::StillOpen::asked_spares))]
+#[tactic(auto, using(crate::proofs::stops::StillOpen::asked_spares))]
 pub(crate) fn ask_open<S: Alter>(conn: &mut Connection<S>) -> Result<(), OpenFault>
     ensures same { HasCleanDisk (state S.Store conn.new) →
         OnOk result (IsUnchanged (state S.Store conn.old) (state S.Store conn.new)) }

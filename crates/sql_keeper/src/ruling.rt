@@ -264,7 +264,7 @@ fn is_redeemed(redeemed: &Option<Redeemed>) -> bool
 }
 
 /// Whether texts are kept under a key in its rules.
-#[tactic(auto, using(crate::proofs::RuledRows::and_true, crate::proofs::RuledRows::or_false))]
+#[tactic(auto, using(crate::proofs::rules::RuledRows::and_true, crate::proofs::rules::RuledRows::or_false))]
 fn is_key(content: &Content) -> bool
     ensures { result ≡ is_ruled_key (key_of content.now) }
 {

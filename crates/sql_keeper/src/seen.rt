@@ -192,7 +192,7 @@ fn seen_as(account: AccountNumber, rows: &EarlierRows) -> SeenAccount
 }
 
 /// What is seen of the account of these rows; None for lack of memory.
-#[tactic(auto, using(crate::proofs::SeenRows::seen_of_copy))]
+#[tactic(auto, using(crate::proofs::kept::SeenRows::seen_of_copy))]
 fn seen_of(account: &AccountNumber, rows: &EarlierRows) -> Option<SeenAccount>
     ensures { IfSome result (IsSeenOf account.now rows.now) }
 {

@@ -16,7 +16,7 @@ use wire::write_content;
 
 /// The texts of what is kept of a command of this account. What is of another account
 /// wouldn't be read again as what it is: it is out of the rules.
-#[tactic(auto, using(crate::proofs::OwnTexts::own_texts, crate::proofs::OwnTexts::memory_told))]
+#[tactic(auto, using(crate::proofs::commits::OwnTexts::own_texts, crate::proofs::commits::OwnTexts::memory_told))]
 fn texts_of(
     alloc: Global,
     account: &AccountNumber,

@@ -55,7 +55,7 @@ fn is_open(sessions: &[Session], id: &SessionId) -> bool
 }
 
 /// Whether the book of a number has a name for a period.
-#[tactic(auto, using(crate::proofs::Writable::no_book))]
+#[tactic(auto, using(crate::proofs::commits::Writable::no_book))]
 fn is_named(books: &TariffShelf, number: u8, period: Period) -> bool
     ensures told { IsTrue result →
         IsPeriodNamed (names_numbered (shelf_names books.now) number) period }
