@@ -365,7 +365,7 @@ def test_a_carry_that_is_killed_leaves_each_repeat_its_answer(office: Stand) -> 
         office.kill(word)
         wait_until(lambda: office.is_up("04"), "the start")
         wait_until(lambda: office.home(one) == "04", "the shard")
-        wait_until(lambda: "held" not in office.run("ls /etc/ocs/known"), "the guard")
+        wait_until(lambda: "held" not in office.run("ls /etc/ocs/known", None), "the guard")
         assert all_of(office, [repeat]) == first and office.available(one) == had
     office.run("office carry 04")
     assert all_of(office, [repeat]) == first and office.available(one) == had
