@@ -2,7 +2,7 @@
 %% for as a value, any other as a list. Used by the modules of the mapping.
 -module(ocs_diameter_avp).
 
--export([value/2, list/2]).
+-export([value/2, list/2, is_shown/1]).
 -export_type([avps/0, path/0]).
 
 -type avps() :: #{atom() => term()}.
@@ -28,3 +28,8 @@ list(Name, Avps) ->
         #{Name := Value} -> [Value];
         _ -> []
     end.
+
+%% Whether a text has printable bytes of ASCII alone, without a space.
+-spec is_shown(binary()) -> boolean().
+is_shown(<<C, Rest/binary>>) -> C >= 16#21 andalso C =< 16#7E andalso is_shown(Rest);
+is_shown(<<>>) -> true.

@@ -15,6 +15,7 @@
 -dialyzer(no_improper_lists).
 
 -define(APPLICATION, 4).
+-define(SESSION_ID, 263).
 
 -type peer() :: {term(), #diameter_caps{}}.
 -type packet() :: #diameter_packet{}.
@@ -31,14 +32,14 @@ handle(Packet, Peer) ->
                              #{admitted := true} -> answer(Packet, Peer, Context);
                              _ -> {{answer_message, 3004}, #{why => <<"in-flight">>}}
                          end,
-        Bytes = encoded(Reply, Packet),
+        Bytes = encoded(Reply, Packet, Peer),
         seen(Packet, Peer, Context, code(Reply), Facts, Bytes),
         Bytes
     catch
         Class:Reason:Stack ->
             ?LOG_ERROR("request not answered as it should be: ~p", [{Class, Reason, Stack}]),
             seen(Packet, Peer, Context, 5012, #{why => <<"fault">>}, none),
-            {answer_message, 5012}
+            encoded({answer_message, 5012}, Packet, Peer)
     end.
 
 %% A request with faults of its own: OTP puts the Result-Code and the Failed-AVP that the decoder
@@ -47,7 +48,7 @@ handle(Packet, Peer) ->
 answer(#diameter_packet{errors = [_ | _] = Errors, msg = Message}, {_, Caps}, _) ->
     Code = decoder_code(Errors),
     Reply = case Message of
-                ['CCR' | #{'Session-Id' := _} = Ccr] ->
+                ['CCR' | #{'Session-Id' := _} = Ccr] when Code >= 4000 ->
                     {faulty, Code, (head(Ccr, Caps))#{'Result-Code' => Code}};
                 _ ->
                     {answer_message, Code}
@@ -150,18 +151,27 @@ unread(Status, Body) ->
 
 %% The bytes of an answer, which OTP sends as they are. An answer to a request that the decoder
 %% found at fault is left to OTP, which adds what was found.
--spec encoded(term(), packet()) -> reply().
-encoded({cca, Members}, #diameter_packet{header = Header}) ->
+-spec encoded(term(), packet(), peer()) -> reply().
+encoded({cca, Members}, #diameter_packet{header = Header}, _) ->
     Answer = Header#diameter_header{version = 1, is_request = false, is_error = false,
                                     is_retransmitted = false},
     #diameter_packet{bin = Bytes} =
         diameter_codec:encode(rfc8506, #diameter_packet{header = Answer, msg = ['CCA' | Members]}),
     true = is_binary(Bytes),
     {reply, Bytes};
-encoded({faulty, _, Members}, _) ->
+encoded({faulty, _, Members}, _, _) ->
     {reply, ['CCA' | Members]};
-encoded({answer_message, _} = Reply, _) ->
-    Reply.
+%% OTP sends the Session-Id back, which it can't encode where it isn't UTF-8.
+encoded({answer_message, Code} = Reply, #diameter_packet{avps = Avps}, {_, Caps}) ->
+    case [Id || #diameter_avp{code = ?SESSION_ID, data = Id} <- Avps, not is_text(Id)] of
+        [] -> Reply;
+        _ -> {reply, ['answer-message' | (ocs_diameter_caps:origin(Caps))#{'Result-Code' => Code}]}
+    end.
+
+%% An AVP whose length is off has no bytes as its data.
+-spec is_text(term()) -> boolean().
+is_text(Data) ->
+    is_binary(Data) andalso is_list(unicode:characters_to_list(Data)).
 
 -spec code(term()) -> pos_integer().
 code({cca, #{'Result-Code' := Code}}) -> Code;

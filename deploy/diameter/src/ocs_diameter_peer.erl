@@ -64,18 +64,19 @@ handle_request(Packet, _, Peer, _) -> ocs_diameter_handler:handle(Packet, Peer).
 %% Connections
 %% ------------------------------------------------------------------------------------------------
 
-%% capabilities_cb: a peer whose Origin-Host isn't configured, or isn't a name of its certificate,
-%% is answered 3010 (DIAMETER_UNKNOWN_PEER).
+%% capabilities_cb: a peer whose Origin-Host is no name, isn't configured, or isn't a name of its
+%% certificate, is answered 3010 (DIAMETER_UNKNOWN_PEER).
 -spec known(term(), #diameter_caps{}, plain | tls) -> ok | unknown.
 known(_, Caps, Kind) ->
     #{peers := Peers} = ocs_diameter_config:get(),
     Host = ocs_diameter_caps:host(Caps),
-    IsNamed = Peers == any orelse lists:any(fun(P) -> string:equal(P, Host, true) end, Peers),
+    IsNamed = ocs_diameter_avp:is_shown(Host)
+        andalso (Peers == any orelse lists:any(fun(P) -> string:equal(P, Host, true) end, Peers)),
     case IsNamed andalso (Kind == plain orelse ocs_diameter_tls:is_named(self(), Host)) of
         true ->
             ocs_diameter_service:addressed(self(), ocs_diameter_tls:address(self()));
         false ->
-            ?LOG_WARNING("peer ~ts turned away: ~s", [Host, case IsNamed of
+            ?LOG_WARNING("peer ~s turned away: ~s", [Host, case IsNamed of
                                                                 true -> "its certificate";
                                                                 false -> "not configured"
                                                             end]),

@@ -72,19 +72,15 @@ addressed(Ccr, #{hosts := Hosts, realms := Realms}) ->
 -spec among(binary(), [string()]) -> boolean().
 among(Name, Names) ->
     Text = binary_to_list(Name),
-    lists:member(Text, Names) orelse lists:any(fun(N) -> string:equal(N, Name, true) end, Names).
+    lists:member(Text, Names) orelse lists:any(fun(N) -> string:equal(N, Text, true) end, Names).
 
 -spec session(avps()) -> binary().
 session(Ccr) ->
     Id = ocs_diameter_avp:value('Session-Id', Ccr),
     Size = byte_size(Id),
-    Size >= 1 andalso Size =< 128 andalso is_shown(Id)
+    Size >= 1 andalso Size =< 128 andalso ocs_diameter_avp:is_shown(Id)
         orelse throw({refuse, 5004, ['Session-Id']}),
     Id.
-
--spec is_shown(binary()) -> boolean().
-is_shown(<<C, Rest/binary>>) -> C >= 16#21 andalso C =< 16#7E andalso is_shown(Rest);
-is_shown(<<>>) -> true.
 
 %% Many gateways open a session without naming a service. The office wants one, so it is only asked
 %% whether it knows the account; the first update that asks for units opens the session there.

@@ -89,7 +89,7 @@ service(#{origin_host := Host, origin_realm := Realm, origin_state_id := StateId
      {application, [{alias, ro},
                     {dictionary, rfc8506},
                     {module, [ocs_diameter_peer, ro]},
-                    {request_errors, answer_3xxx},
+                    {request_errors, callback},
                     {answer_errors, callback},
                     {call_mutates_state, false}]},
      {decode_format, map},

@@ -22,7 +22,7 @@ account(Ccr, Kinds) ->
 -spec numbers(kind(), [map()]) -> [binary()].
 numbers(Kind, Ids) ->
     lists:usort([Digits || #{'Subscription-Id-Type' := Type, 'Subscription-Id-Data' := Data} <- Ids,
-                           Digits <- number(Kind, Type, Data)]).
+                           ocs_diameter_avp:is_shown(Data), Digits <- number(Kind, Type, Data)]).
 
 %% The number that an id of this type has as that kind: one or none.
 -spec number(kind(), non_neg_integer(), binary()) -> [binary()].

@@ -28,6 +28,7 @@ from diameter.wire import (
     REQUEST,
     Avp,
     Gateway,
+    Request,
     ccr,
     events,
     money,
@@ -39,7 +40,6 @@ from diameter.wire import (
 
 RICH, POOR = "49151", "49152"
 NAMES = itertools.count(1)
-Request = tuple[int, int, list[Avp], int]
 
 
 def opened(*avps: Avp, **more: Any) -> Request:

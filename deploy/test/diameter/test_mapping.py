@@ -309,6 +309,7 @@ SUBSCRIBERS: dict[str, tuple[list[tuple[int, Any]], int]] = {
     "a local number": ([(2, "tel:1234;phone-context=+49")], 5004),
     "no UTF-8": ([(0, b"\xff\xfe")], 5004),
     "an unknown kind": ([(17, NUMBER)], 5004),
+    "a SIP URI of no UTF-8": ([(2, b"sip:\xff@ims.example")], 5004),
 }
 
 
@@ -410,6 +411,7 @@ FAULTS: dict[str, tuple[list[Avp], int, Any]] = {
     "a vendor's AVP without M": ([(OF_A_VENDOR, b"abcd", 0), SIXTY], 2001, None),
     "an unknown AVP in a service": ([service(10, [], (), (UNKNOWN, b"abcd"))], 5001, None),
     "another host": ([("Destination-Host", "other.example"), SIXTY], 3002, None),
+    "a host of no UTF-8": ([("Destination-Host", b"\xff.example"), SIXTY], 3002, None),
     "our host": ([("Destination-Host", "OCS.Example"), SIXTY], 2001, None),
     "a group twice": ([SIXTY, SIXTY], 5004, [(MSCC, [("Rating-Group", 10)])]),
     "a service without a group": ([service(None, seconds(60))], 5005, [("Rating-Group", 0)]),
@@ -433,15 +435,22 @@ def test_faults(gateway: Gateway, account: str, name: str, case: str) -> None:
     assert failed is None or answer.failed == failed
 
 
-@pytest.mark.parametrize("session", ["s" * 129, "a b", "\u00e4", ""])
-def test_a_session_id_that_is_none(gateway: Gateway, account: str, session: str) -> None:
-    answer = gateway.ask(ccr(session, 1, 0, SIXTY, account=account))
-    assert (answer.result, answer.failed) == (5004, [("Session-Id", session)])
+@pytest.mark.parametrize("session", [b"s" * 129, b"a b", b"\xc3\xa4", b"\xff", b""])
+def test_a_session_id_that_is_none(gateway: Gateway, account: str, session: bytes) -> None:
+    code, application, avps, flags = ccr("x", 1, 0, SIXTY, account=account)
+    answer = gateway.ask((code, application, [("Session-Id", session), *avps[1:]], flags))
+    shown = [("Session-Id", session.decode(errors="surrogateescape"))]
+    assert (answer.result, answer.failed, answer.avps[:1]) == (5004, shown, shown)
 
 
 # RFC 6733 7.1.5 has 5014 for a wrong length; OTP may find the value at fault (5004).
 HEADS: dict[str, tuple[dict[str, Any], tuple[int, ...]]] = {
     "another realm": ({"Destination-Realm": "elsewhere"}, (3003,)),
+    "a realm of no UTF-8": ({"Destination-Realm": b"\xff"}, (3003,)),
+    "another realm of a session of no UTF-8": (
+        {"Session-Id": b"\xff", "Destination-Realm": "elsewhere"},
+        (3003,),
+    ),
     "another application inside": ({"Auth-Application-Id": 5}, (5004,)),
     "an unknown type": ({"CC-Request-Type": 5}, (5004,)),
     "a type of three bytes": ({"CC-Request-Type": b"\0\0\1"}, (5004, 5014)),

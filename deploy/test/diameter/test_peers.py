@@ -23,6 +23,7 @@ from diameter.wire import (
     Avp,
     Gateway,
     ccr,
+    greeting,
     message,
     read_message,
     seconds,
@@ -55,20 +56,13 @@ def asked(peers: tuple[Bridge, Stub]) -> Stub:
     return peers[1]
 
 
-def greeting(host: str) -> bytes:
-    """The bytes of a Capabilities-Exchange-Request."""
-    gateway = Gateway.__new__(Gateway)
-    gateway.host, gateway.capabilities = host, (("Auth-Application-Id", 4),)
-    return message(*gateway.cer(), 1, 1)
-
-
 def answered(port: int, host: str, is_reset: bool = False) -> bool:
     """Whether a request in the very moment in which CEA is read is answered 2001."""
     second = message(*ccr(f"{host};{time.monotonic_ns()}", 1, 0, SIXTY, host=host), 2, 2)
     with socket.create_connection(("127.0.0.1", port), PATIENCE) as one:
         if is_reset:
             one.setsockopt(socket.SOL_SOCKET, socket.SO_LINGER, struct.pack("ii", 1, 0))
-        one.sendall(greeting(host))
+        one.sendall(message(*greeting(host), 1, 1))
         with contextlib.suppress(OSError):
             read_message(one)
             one.sendall(second)
@@ -181,7 +175,7 @@ def test_a_gateway_that_reads_no_answer(starts: Any, stub: Stub) -> None:
     asked = message(*ccr("deaf", 1, 0, to="x", host="deaf.example"), 9, 9) * 100
     memory = bridge.memory()
     with socket.create_connection(("127.0.0.1", bridge.port), PATIENCE) as deaf:
-        deaf.sendall(greeting("deaf.example"))
+        deaf.sendall(message(*greeting("deaf.example"), 1, 1))
         with pytest.raises(ConnectionError):
             for _ in range(5000):
                 deaf.sendall(asked)
@@ -278,6 +272,13 @@ def test_peers_by_name(starts: Any, stub: Stub) -> None:
             assert gateway.ask(ccr(f"by-{host}", 1, 0, SIXTY, host=host)).result == 2001
         gateway.close()
     assert bridge.measure('peers_refused_total{reason="name"}') == 1
+
+
+def test_a_host_that_is_no_name(bridge: Bridge) -> None:
+    """No row of the measures, and no line, has such a name."""
+    gateway = Gateway(bridge.port, "gw\u00e4.example")
+    assert gateway.cea.result == 3010
+    gateway.close()
 
 
 def test_ports_of_ipv6(home: pathlib.Path, tmp_path: pathlib.Path, stub: Stub) -> None:

@@ -1,13 +1,27 @@
 """Requests of chance: JSON to AVPs by hand, through the bridge, to a stub that has to see the same JSON;
-and answers of chance back."""
+answers of chance back; and requests with bytes changed by chance."""
 from __future__ import annotations
 
 import random
+import socket
 from typing import Any
 
 import pytest
 from diameter.bridge import Stub
-from diameter.wire import Avp, Gateway, Message, ccr, money, service
+from diameter.wire import (
+    PATIENCE,
+    Avp,
+    Gateway,
+    M,
+    Message,
+    V,
+    ccr,
+    greeting,
+    message,
+    money,
+    read_raw,
+    service,
+)
 
 MSCC, RSU, USU = (
     "Multiple-Services-Credit-Control",
@@ -126,6 +140,39 @@ def members(avps: list[tuple[str, Any]]) -> dict[str, Any]:
             value += (0 if value >= 2**31 else 2**32) - NTP
         made[name] = members(value) if isinstance(value, list) else value
     return made
+
+
+RESULT_CODE = bytes.fromhex("0000010c4000000c")
+
+
+def broken(dice: random.Random, hop: int) -> bytes:
+    """A request with some bytes behind its head changed."""
+    proxy: Avp = ("Proxy-Info", [("Proxy-Host", "p.example"), ("Proxy-State", b"123")])
+    avps = [avp for _, each in (part(dice, 2, 10), part(dice, 2, 20)) for avp in (each, proxy)]
+    host: Avp = ("Destination-Host", "ocs.example")
+    raw = bytearray(message(*ccr(f"broken;{hop}", 2, hop, host, *avps), hop, hop))
+    for _ in range(dice.randrange(1, 5)):
+        raw[dice.randrange(20, len(raw))] = dice.choice((0, 1, M, V, 255, dice.randrange(256)))
+    return bytes(raw)
+
+
+@pytest.mark.parametrize("count", [200, pytest.param(3000, marks=pytest.mark.slow)])
+def test_broken_requests_have_an_answer(starts: Any, stub: Stub, count: int) -> None:
+    """Whatever is in them: each has its own, and none finds a fault of the bridge (5012)."""
+    dice, codes = random.Random(count), list[int]()
+    bridge = starts(stub.port)
+    with socket.create_connection(("127.0.0.1", bridge.port), PATIENCE) as one:
+        one.sendall(message(*greeting("gw.example"), 1, 1))
+        assert read_raw(one)
+        for hop in range(count):
+            asked = broken(dice, hop)
+            one.sendall(asked)
+            answer = read_raw(one)
+            assert answer[12:16] == asked[12:16], asked.hex()
+            at = answer.index(RESULT_CODE) + len(RESULT_CODE)
+            codes.append(int.from_bytes(answer[at : at + 4], "big"))
+    assert {2001, 5001, 5014} <= set(codes) and 5012 not in codes
+    assert "error" not in bridge.errors.read_text()
 
 
 @pytest.mark.parametrize("count", [100, pytest.param(1500, marks=pytest.mark.slow)])

@@ -22,6 +22,8 @@ PATIENCE = 90
 Avp = tuple[Any, ...]
 # An AVP that was read: a group's value is a list of them.
 Read = tuple[Any, Any]
+# A request to be sent: code, application, AVPs and flags.
+Request = tuple[int, int, list[Avp], int]
 
 KINDS = {
     "text": "User-Name 1, Called-Station-Id 30, Calling-Station-Id 31, Filter-Id 11, Acct-Session-Id"
@@ -175,17 +177,35 @@ class Message:
         return [value for found, value in self.avps if found == name]
 
 
-def read_message(connection: socket.socket) -> Message | None:
-    """The next message; none where the connection ends."""
+def read_raw(connection: socket.socket) -> bytes:
+    """The bytes of the next message; none where the connection ends."""
     raw, length = b"", 4
     while len(raw) < length:
         more = connection.recv(length - len(raw))
         if not more:
-            return None
+            return b""
         raw += more
         if len(raw) == 4:
             length = struct.unpack(">I", raw)[0] & 0xFFFFFF
-    return Message(raw)
+    return raw
+
+
+def read_message(connection: socket.socket) -> Message | None:
+    """The next message; none where the connection ends."""
+    raw = read_raw(connection)
+    return Message(raw) if raw else None
+
+
+def greeting(host: str, capabilities: Sequence[Avp] = (("Auth-Application-Id", 4),)) -> Request:
+    """The Capabilities-Exchange-Request of this host."""
+    own: list[Avp] = [
+        ("Origin-Host", host),
+        ("Origin-Realm", "example"),
+        ("Host-IP-Address", b"\0\1\x7f\0\0\1"),
+        ("Vendor-Id", 0),
+        ("Product-Name", "test", 0),
+    ]
+    return (CER, 0, [*own, *capabilities], REQUEST)
 
 
 class Gateway:
@@ -200,7 +220,7 @@ class Gateway:
         tls: ssl.SSLContext | None = None,
         address: str = "127.0.0.1",
     ) -> None:
-        self.host, self.capabilities = host, capabilities
+        self.host = host
         self.changed, self.writing, self.hops = threading.Condition(), threading.Lock(), 0
         self.came: dict[int, Message] = {}
         self.order: list[int] = []
@@ -213,17 +233,7 @@ class Gateway:
             self.connection = tls.wrap_socket(self.connection, server_hostname="ocs.example")
         self.connection.settimeout(None)
         threading.Thread(target=self.read, daemon=True).start()
-        self.cea = self.ask(self.cer())
-
-    def cer(self) -> tuple[int, int, list[Avp], int]:
-        """Its Capabilities-Exchange-Request."""
-        own: list[Avp] = [
-            *self.origin(),
-            ("Host-IP-Address", b"\0\1\x7f\0\0\1"),
-            ("Vendor-Id", 0),
-            ("Product-Name", "test", 0),
-        ]
-        return (CER, 0, [*own, *self.capabilities], REQUEST)
+        self.cea = self.ask(greeting(host, capabilities))
 
     def origin(self) -> list[Avp]:
         """Who it is."""
@@ -258,7 +268,7 @@ class Gateway:
         with self.writing:
             self.connection.sendall(raw)
 
-    def begin(self, request: tuple[int, int, list[Avp], int], is_again: bool = False) -> int:
+    def begin(self, request: Request, is_again: bool = False) -> int:
         """Sends a request; its hop-by-hop identifier."""
         code, application, avps, flags = request
         with self.changed:
@@ -274,7 +284,7 @@ class Gateway:
             self.changed.wait_for(lambda: hop in self.came or self.is_closed, seconds)
             return self.came.pop(hop, None)
 
-    def ask(self, request: tuple[int, int, list[Avp], int], is_again: bool = False) -> Message:
+    def ask(self, request: Request, is_again: bool = False) -> Message:
         """The answer to a request; an `AssertionError` where none comes."""
         answer = self.wait(self.begin(request, is_again))
         assert answer, "no answer"
@@ -310,8 +320,8 @@ def ccr(
     to: str = "example",
     context: str = "32251@3gpp.org",
     subscription: Sequence[Avp] | None = None,
-) -> tuple[int, int, list[Avp], int]:
-    """A Credit-Control-Request as code, application, AVPs and flags."""
+) -> Request:
+    """A Credit-Control-Request."""
     if subscription is None:
         subscription = [] if account is None else [subscriber(0, account)]
     head: list[Avp] = [
