@@ -15,7 +15,7 @@ DOORS = {
         ("edits", "edits", "wrong bodies: whether they apply, and the prover refuses them", "rt"),
         ("skeleton", "skeleton", "the keeper that a page prints, proved", "rt"),
         ("noticed", "noticed", "whether each tool notices a changed program", "gcc"),
-        ("zones", "zones", "makes the tables of clocks of a test crate", "zic"),
+        ("zones", "zones", "makes the tables of clocks of tests/zones", "zic"),
     ),
     "play": (
         ("streams", "streams", "lines of requests with their answers", ""),
@@ -26,6 +26,7 @@ DOORS = {
         ("opening", "opening", "what is no database, and rows that another writer left", ""),
         ("rows", "rows", "the selections of docs/rows.sql", "sqlite3"),
         ("examples", "examples", "examples/ and the session of README", "curl"),
+        ("clocks", "clocks", "what clocks of 300 zones show, beside tables of zic", "gcc"),
         ("days", "reckoned", "days of chance beside a model of the rules", ""),
         ("day", "day", "a day of 1,000 accounts with kills, beside the same model", ""),
         ("lines", "deploy", "each line of deploy/README.md by systemd, as root", "root, HAProxy, systemd"),

@@ -8,5 +8,4 @@ mod tables;
 mod tariff;
 mod values;
 mod voucher;
-mod zone_rows;
 mod zones;

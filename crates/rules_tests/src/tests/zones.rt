@@ -1,13 +1,11 @@
-//! Zones with summer time: what their texts say, which texts none has, and what their clocks show.
-//! What a text says is POSIX's (Base Definitions 8.3) and the ranges of `docs/FORMATS.md`; what a
-//! clock shows comes from tables of changes that zic compiled (`tools/repo zones`).
+//! Zones with summer time: what their texts say, and which texts none has. What a text says is
+//! POSIX's (Base Definitions 8.3) and the ranges of `docs/FORMATS.md`. What their clocks show is
+//! tried by `tools/play clocks`.
 
 use crate::tests::tables::{Teller, try_table};
-use crate::tests::zone_rows::{at_new_year, northern, offices, southern};
-use calendar::{Calendar, Cycle, Entry, Period, SummerTime, YearlyChange, Zone};
+use calendar::{SummerTime, YearlyChange};
 use std::alloc::Global;
 use std::process::Abort;
-use units::Moment;
 
 /// Tells what a text says.
 #[derive(Clone, Copy)]
@@ -146,107 +144,4 @@ CET-1CEST,M1.5.0,M12.1.0 => none";
 fn texts_of_zones(rt: HostRuntime) {
     try_table(&rt, rt.alloc(), &mut Texts, TEXTS);
     try_table(&rt, rt.alloc(), &mut Texts, REFUSED);
-}
-
-/// A week of which each day has 60 parts of 24 minutes, each part a period.
-fn parts(rt: &impl Abort, alloc: Global) -> Vec<Entry> {
-    let mut entries = Vec::new(alloc);
-    for place in 0u8..60 {
-        let from = u16::from(place) * 24;
-        let entry = Entry {
-            period: Period(place),
-            days: [true; 7],
-            from,
-            to: from + 24,
-        };
-        entries.push(entry).expect(rt, "memory");
-    }
-    entries
-}
-
-/// The calendar of a zone's text, with the week of parts.
-fn calendar_of(rt: &impl Abort, alloc: Global, text: &str) -> Calendar {
-    let rule = zone_texts::summer_time(text).expect(rt, "a zone");
-    let zone = Zone::with_summer(alloc, &rule).expect(rt, "memory");
-    Calendar::new(zone, parts(rt, alloc)).expect(rt, "a week")
-}
-
-/// What a calendar says of a moment: the day, the part of it, and where it ends, 0 past the last
-/// moment of commands.
-fn shown(rt: &impl Abort, alloc: Global, calendar: &Calendar, seconds: u64) -> String {
-    let moment = Moment::of_command(seconds).expect(rt, "a moment");
-    let day = calendar.cycle_of(Cycle::Day, moment);
-    let Period(part) = calendar.period_at(moment);
-    let end = calendar.day_end(moment, 0).map_or(0, Moment::seconds);
-    format!(in alloc; "{day} {part} {end}").expect(rt, "memory")
-}
-
-/// Tells what a clock shows at a moment; a case that is no moment is the text of the clock's zone.
-#[derive(Drop)]
-struct Clocks {
-    calendar: Calendar,
-}
-
-impl Teller for Clocks {
-    fn tell<R: Abort>(&mut self, rt: &R, alloc: Global, case: &str) -> String {
-        match case.parse::<u64>() {
-            Ok(seconds) => shown(rt, alloc, &self.calendar, seconds),
-            Err(_) => {
-                self.calendar = calendar_of(rt, alloc, case);
-                String::from_str(alloc, "zone").expect(rt, "memory")
-            }
-        }
-    }
-}
-
-/// Tries a table of zones, 40 moments each: at changes, at the new year, at the edges of the parts
-/// of days.
-fn try_clocks(rt: &impl Abort, alloc: Global, cases: &str) {
-    let calendar = calendar_of(rt, alloc, "CET-1CEST,M3.5.0,M10.5.0/3");
-    try_table(rt, alloc, &mut Clocks { calendar }, cases);
-}
-
-// rule: zone-changes.lead
-#[test]
-fn clocks_of_offices(rt: HostRuntime) {
-    let alloc = rt.alloc();
-    try_clocks(&rt, alloc, offices::table_1::ROWS);
-    try_clocks(&rt, alloc, offices::table_2::ROWS);
-}
-
-/// Each zone has a change that is in another year on UTC's clock.
-// rule: zone-changes.zone-of-rule
-#[test]
-fn clocks_at_new_year(rt: HostRuntime) {
-    let alloc = rt.alloc();
-    try_clocks(&rt, alloc, at_new_year::table_1::ROWS);
-    try_clocks(&rt, alloc, at_new_year::table_2::ROWS);
-    try_clocks(&rt, alloc, at_new_year::table_3::ROWS);
-    try_clocks(&rt, alloc, at_new_year::table_4::ROWS);
-    try_clocks(&rt, alloc, at_new_year::table_5::ROWS);
-}
-
-#[test]
-fn clocks_of_northern_zones(rt: HostRuntime) {
-    let alloc = rt.alloc();
-    try_clocks(&rt, alloc, northern::table_1::ROWS);
-    try_clocks(&rt, alloc, northern::table_2::ROWS);
-    try_clocks(&rt, alloc, northern::table_3::ROWS);
-    try_clocks(&rt, alloc, northern::table_4::ROWS);
-    try_clocks(&rt, alloc, northern::table_5::ROWS);
-    try_clocks(&rt, alloc, northern::table_6::ROWS);
-    try_clocks(&rt, alloc, northern::table_7::ROWS);
-}
-
-// rule: zone-changes
-#[test]
-fn clocks_of_southern_zones(rt: HostRuntime) {
-    let alloc = rt.alloc();
-    try_clocks(&rt, alloc, southern::table_1::ROWS);
-    try_clocks(&rt, alloc, southern::table_2::ROWS);
-    try_clocks(&rt, alloc, southern::table_3::ROWS);
-    try_clocks(&rt, alloc, southern::table_4::ROWS);
-    try_clocks(&rt, alloc, southern::table_5::ROWS);
-    try_clocks(&rt, alloc, southern::table_6::ROWS);
-    try_clocks(&rt, alloc, southern::table_7::ROWS);
 }
