@@ -28,8 +28,6 @@ HOST, PORTS = "10.52.0.254", 10800
 # The shard listens on its machine alone; the test's HAProxy comes from outside.
 UP = f"""
 set -e
-modprobe nbd
-nbd-client {HOST} {{port}} /dev/nbd0 > /dev/null 2>&1
 install -m 644 {SHARED}/ocs-01.res /etc/drbd.d
 printf '#!/bin/sh\\nexit 7\\n' > /usr/lib/drbd/crm-fence-peer.sh
 ln -sf /bin/true /usr/lib/drbd/crm-unfence-peer.sh
@@ -37,9 +35,10 @@ install -d /var/lib/ocs/01
 socat TCP-LISTEN:{RELAY},fork,reuseaddr,nodelay TCP:127.0.0.1:8101,nodelay > /dev/null 2>&1 &
 modprobe drbd
 """
+# The other machine is known to be off, so nobody waits until DRBD finds it out.
 PRIMARY = """
-while grep -q ro:Secondary/Primary /proc/drbd; do sleep 0.2; done
-for try in 1 2 3 4 5; do drbdadm primary ocs-01 && exit 0; sleep 1; done
+drbdadm disconnect --force ocs-01
+for try in 1 2 3 4 5; do drbdadm primary ocs-01 && drbdadm connect ocs-01 && exit 0; sleep 1; done
 cat /proc/drbd
 exit 1
 """
@@ -81,24 +80,33 @@ class Pair:
     def make(self) -> None:
         """Both disks have a file system with a new shard, in step."""
         for disk in self.disks.values():
-            with disk.file.open("wb") as made:
-                made.truncate(SIZE)
-        self.power(*self.machines)
+            blank(disk)
         for one in self.machines:
+            self.power(one)
+        for one in self.machines:
+            self.ready(one)
             one.sh("drbdadm create-md --force ocs-01 && drbdadm up ocs-01")
         first = self.serving
         first.sh(CONNECTED)
         first.sh("drbdadm new-current-uuid --clear-bitmap ocs-01/0 && drbdadm primary ocs-01")
         self.served.make(first, DEVICE)
 
-    def power(self, *machines: Machine) -> None:
-        """These get power, and are ready for DRBD."""
-        for one in machines:
-            self.disks[one].start()
-            one.start({}, "small")
-        for one in machines:
-            one.wait()
-            one.sh(UP.format(port=PORTS + one.number))
+    def power(self, one: Machine) -> None:
+        """A machine gets power, and starts."""
+        one.start("small", self.disks[one].start().removeprefix("nbd:"))
+
+    def replace(self, one: Machine) -> None:
+        """A machine's disk, which has failed, is taken out, and an empty one put in."""
+        one.sh("nbd-client -d /dev/nbd0")
+        self.disks[one].end()
+        blank(self.disks[one])
+        self.disks[one].start()
+        one.sh(f"nbd-client {HOST} {PORTS + one.number} /dev/nbd0")
+
+    def ready(self, one: Machine) -> None:
+        """Waits until a machine is ready for DRBD."""
+        one.wait()
+        one.sh(UP)
 
     def cut(self, one: Machine) -> None:
         """A machine loses its power, and its disk what it doesn't keep."""
@@ -108,32 +116,34 @@ class Pair:
 
     def begin(self) -> None:
         """The shard is right on the machine that is to serve, and is served from now on."""
-        self.serving.sh(PRIMARY)
         self.served.begin(self.serving, DEVICE, f"{self.serving.address()}:{RELAY}")
 
     def lose(self, one: Machine) -> None:
-        """A machine is cut under load, and the other serves, or goes on."""
+        """A machine is cut under load, and the other serves, or goes on. It gets power again at once,
+        and starts meanwhile."""
         gateways, before = self.served.gateways, self.served.gateways.answered
         self.cut(one)
+        self.power(one)
         if one is self.serving:
             self.turns.end()
             gateways.end()
             self.serving, self.second = self.second, self.serving
+            self.serving.sh(PRIMARY)
             self.begin()
             gateways.start()
         else:
             until(lambda: gateways.answered > before + 40, "answers of one machine alone", 300)
 
     def come_back(self, one: Machine) -> None:
-        """A machine gets power again, and is brought into step."""
-        self.power(one)
+        """A machine that starts is brought into step."""
+        self.ready(one)
         one.sh("drbdadm up ocs-01")
         self.serving.sh(IN_STEP)
 
     def ask(self) -> None:
         """The gateways ask for a while, and half of the time another process writes to the same
         file system, so that more is under way than the shard's log."""
-        time.sleep(self.chance.uniform(0.5, 4))
+        time.sleep(self.chance.uniform(0.5, 3))
         if self.chance.random() < 0.5:
             other = f"{self.serving.layout.place}/other"
             line = f"dd if=/dev/zero of={other} bs=64k count=60; rm -f {other}"
@@ -161,3 +171,9 @@ class Pair:
         for disk in self.disks.values():
             disk.end()
         self.network.end()
+
+
+def blank(disk: Disk) -> None:
+    """A disk has nothing on it."""
+    with disk.file.open("wb") as made:
+        made.truncate(SIZE)

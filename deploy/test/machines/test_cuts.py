@@ -15,12 +15,18 @@ from support.served import MAKE
 from machines.cuts import rounds
 
 CUTS, QUICK = int(os.environ.get("OFFICE_CUTS", "50")), 2
+# A shard has so many cuts, then there is a new one: a start reads all of its log, and each call of the
+# kernel is slow in such a machine.
+EACH = 10
 
 
 @pytest.mark.slow
 @pytest.mark.parametrize("kind", MAKE)
 def test_what_was_answered_outlives_a_machine(tmp_path: pathlib.Path, kind: str) -> None:
-    rounds(tmp_path, kind, CUTS)
+    for first in range(0, CUTS, EACH):
+        place = tmp_path / str(first)
+        place.mkdir()
+        rounds(place, kind, min(EACH, CUTS - first))
 
 
 @pytest.mark.slow

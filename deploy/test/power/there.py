@@ -15,8 +15,6 @@ from support.world import program
 HOST, PORT, RELAY, DEVICE = "10.52.0.254", 10801, 8001, "/dev/nbd0"
 # The shard listens on its machine alone; the test's HAProxy comes from outside.
 UP = f"""
-modprobe nbd
-nbd-client {HOST} {PORT} {DEVICE} > /dev/null 2>&1 || exit 1
 install -d /var/lib/ocs/01
 socat TCP-LISTEN:{RELAY},fork,reuseaddr,nodelay TCP:127.0.0.1:8101,nodelay > /dev/null 2>&1 &
 """
@@ -40,8 +38,7 @@ class There:
 
     def start(self, disk: Disk) -> str:
         """All gets power; the disk's device."""
-        disk.start()
-        self.host.start({}, "small")
+        self.host.start("small", disk.start().removeprefix("nbd:"))
         self.host.wait()
         self.host.sh(UP)
         return DEVICE

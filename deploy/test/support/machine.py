@@ -16,7 +16,7 @@ import signal
 import socket
 import ssl
 import subprocess
-from collections.abc import Iterator, Mapping
+from collections.abc import Iterator
 
 from support.served import Layout
 from support.waiting import until
@@ -33,6 +33,14 @@ DOOR = 700
 # A process ends with its test, whatever becomes of that; and with it all that it started.
 WITH_US = ["setpriv", "--pdeathsig", "KILL"]
 TOGETHER = ["unshare", "--pid", "--fork", "--kill-child", "--mount-proc"]
+# What shows why a machine doesn't come on: its load, its mirrors, its processes and where those that
+# can't be ended wait, its kernel's last lines.
+LOOK = """
+cat /proc/loadavg /proc/drbd
+ps -eo pid,stat,time,wchan:24,args
+for one in $(ps -eo pid=,stat= | awk '$2 ~ /D/ { print $1 }'); do echo "$one:"; cat "/proc/$one/stack"; done
+dmesg | tail -n 60
+"""
 # Where a machine has the folder that it shares with the tests.
 SHARED = "/mnt"
 
@@ -151,15 +159,16 @@ class Machine:
         get the same."""
         return f"02:00:00:00:0{card}:0{self.number}"
 
-    def start(self, disks: Mapping[str, object], init: str) -> None:
-        """It gets power, with these disks beside its first: `b` is /dev/ubdb."""
+    def start(self, init: str, disk: str = "") -> None:
+        """It gets power, with a disk beside its first: /dev/nbd0, at an address and a port."""
+        (self.shared / "up").unlink(missing_ok=True)
         words = [*WITH_US, *self.network.words, *TOGETHER, "linux.uml"]
         first, memory = INITS[init]
         words += [f"mem={memory}", "root=/dev/ubda", "rw", f"init={first}", "con=null"]
         words += ["con0=null,fd:1", f"uml_dir={self.place}", "umid=uml"]
         words += [f"machine={self.number}", f"shared={self.shared}"]
         words += [f"ubda={self.place}/root.cow,{self.image}"]
-        words += [f"ubd{name}={file}" for name, file in disks.items()]
+        words += [f"disk={disk}"] if disk else []
         words += [
             f"eth{at}=tuntap,{card}{self.number},{self.mac(at)}" for at, card in enumerate(CARDS)
         ]
@@ -174,19 +183,26 @@ class Machine:
 
     def wait(self, seconds: float = 300) -> None:
         """Waits until it carries out lines."""
-        until(self.is_up, f"{self.name} up", seconds)
+        try:
+            until(self.is_up, f"{self.name} up", seconds)
+        except TimeoutError as fault:
+            raise TimeoutError(f"{fault}\n{self.console()}") from fault
 
     def is_up(self) -> bool:
         """Whether it carries out lines."""
         assert self.process and self.process.poll() is None, self.console()
-        with contextlib.suppress(OSError):
-            return self.told("true", 10)[0] == 0
-        return False
+        return (self.shared / "up").exists()
 
     def console(self) -> str:
         """The last lines of its console."""
         text = (self.place / "console").read_text(encoding="utf-8", errors="replace")
         return "\n".join(text.splitlines()[-30:])
+
+    def state(self) -> str:
+        """What it does, as far as it can say, and the last lines of its console."""
+        with contextlib.suppress(OSError):
+            return self.told(LOOK, 120)[1].decode(errors="replace") + self.console()
+        return self.console()
 
     def cut(self) -> None:
         """Its power is cut."""
@@ -210,8 +226,13 @@ class Machine:
         return int(status), printed
 
     def sh(self, lines: str, seconds: float = 600) -> str:
-        """What lines of bash print in it; their status has to be 0."""
-        status, printed = self.told(lines, seconds)
+        """What lines of bash print in it; their status has to be 0. Where they don't end in time, what
+        the machine does meanwhile is told."""
+        try:
+            status, printed = self.told(lines, seconds)
+        except TimeoutError as fault:
+            told = f"{self.name}: no end within {seconds:.0f} s of {lines!r}"
+            raise TimeoutError(f"{told}\n{self.state()}") from fault
         text = printed.decode(errors="replace")
         assert status == 0, (self.name, lines, text)
         return text
