@@ -10,6 +10,7 @@ import http.client
 import json
 import random
 import threading
+import time
 from collections.abc import Callable, Mapping
 from dataclasses import dataclass, field
 
@@ -166,6 +167,8 @@ class Gateways:
         self.threads: list[threading.Thread] = []
         # Statuses that weren't 200.
         self.others: list[int] = []
+        # Of each request: when it was sent and when its answer was there, its status, its account.
+        self.asked: list[tuple[float, float, int, str]] = []
         self.sweeps, self.is_sweeping = 0, False
 
     @property
@@ -220,7 +223,9 @@ class Gateways:
     def once(self, door: Door, account: Account) -> bool:
         """Sends what is under way for an account; whether it is acknowledged now."""
         assert account.pending
+        begun = time.monotonic()
         status, told = door.ask("POST", account.pending.path, account.pending.body)
+        self.asked.append((begun, time.monotonic(), status, account.number))
         if status != 200:
             self.others.append(status)
             self.stop.wait(0.2)

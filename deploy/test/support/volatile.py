@@ -13,12 +13,15 @@ import struct
 import subprocess
 import sys
 import threading
+import time
 from collections.abc import Sequence
 
 SECTOR = 512
 MAGIC, OPTIONS, REPLY = 0x4E42444D41474943, 0x49484156454F5054, 0x3E889045565A9
 REQUEST, ANSWER = 0x25609513, 0x67446698
 READ, WRITE, CLOSE, FLUSH = 0, 1, 2, 3
+# EIO.
+ERROR = 5
 EXPORT_NAME, ABORT, INFO, GO = 1, 2, 6, 7
 ACKNOWLEDGED, TOLD, UNSUPPORTED = 1, 3, 0x80000001
 # Has flags; takes flushes.
@@ -56,8 +59,20 @@ class Disk:
 
     def lie(self) -> None:
         """From now on a flush is answered and isn't done."""
+        self.tell("lie")
+
+    def slow(self, seconds: float) -> None:
+        """From now on each write and each flush takes so much longer."""
+        self.tell(f"slow {seconds}")
+
+    def fail(self) -> None:
+        """From now on each request is answered with an error."""
+        self.tell("fail")
+
+    def tell(self, line: str) -> None:
+        """Says something to the process."""
         assert self.process and self.process.stdin
-        self.process.stdin.write("lie\n")
+        self.process.stdin.write(f"{line}\n")
         self.process.stdin.flush()
 
     def end(self) -> None:
@@ -77,6 +92,7 @@ class Cache:
         self.sectors: dict[int, bytes] = {}
         self.waiting: list[tuple[int, bytes]] = []
         self.lock, self.lies = threading.Lock(), False
+        self.delay, self.is_broken = 0.0, False
 
     def read(self, at: int, length: int) -> bytes:
         """What was written last."""
@@ -121,6 +137,10 @@ def obey(cache: Cache) -> None:
         word, *more = line.split()
         if word == "lie":
             cache.lies = True
+        if word == "slow":
+            cache.delay = float(more[0])
+        if word == "fail":
+            cache.is_broken = True
         if word == "cut":
             with cache.lock:
                 print(cache.cut(more[0], int(more[1])), flush=True)
@@ -166,6 +186,11 @@ def serve(peer: socket.socket, cache: Cache) -> None:
         if magic != REQUEST or kind == CLOSE:
             return
         data = b""
+        if cache.is_broken:
+            peer.sendall(struct.pack(">IIQ", ANSWER, ERROR, cookie))
+            continue
+        if kind in (WRITE, FLUSH):
+            time.sleep(cache.delay)
         with cache.lock:
             if kind == READ:
                 data = cache.read(at, length)
