@@ -1,5 +1,6 @@
 """What an answer means while a part of a pair is ill (the table of MACHINES.md), by DRBD between two
-machines and without a cluster: a second disk that is slow, and one that fails and is replaced."""
+machines and without a cluster: a second disk that is slow, one that fails, the serving machine's own disk
+that fails, a promotion while the first lives, and two that were written to while apart."""
 from __future__ import annotations
 
 import pathlib
@@ -12,10 +13,11 @@ from support.gateways import Gateways
 from support.waiting import until
 
 from machines import page
-from machines.pair import IN_STEP, Pair
+from machines.pair import DEVICE, IN_STEP, Pair
 
 pytestmark = pytest.mark.slow
 SLOW = 0.02
+MOUNTED = "/var/lib/ocs/01"
 
 
 @pytest.fixture(name="pair")
@@ -76,4 +78,51 @@ def test_a_second_disk_that_fails_and_is_replaced(pair: Pair) -> None:
     pair.verify()
     pair.served.gateways.end()
     assert all(status == 200 for _, _, status, _ in pair.served.gateways.asked)
+    right(pair)
+
+
+def test_the_serving_machines_own_disk_fails(pair: Pair) -> None:
+    pair.served.gateways.start()
+    pair.disks[pair.serving].fail()
+    pair.serving.sh("until grep -q Diskless/UpToDate /proc/drbd; do sleep 0.2; done")
+    pair.served.gateways.end()
+    asked(pair.served.gateways)
+    right(pair)
+
+
+def test_a_second_machine_is_not_promoted_while_the_first_lives(pair: Pair) -> None:
+    status, told = pair.second.told("drbdadm primary ocs-01 2>&1", 600)
+    assert status != 0 and b"Multiple primaries not allowed" in told, told
+    status, told = pair.second.told("drbdadm primary --force ocs-01 2>&1", 600)
+    assert status != 0, told
+    asked(pair.served.gateways)
+    right(pair)
+
+
+def test_two_that_were_written_to_while_apart_wait_for_a_person(pair: Pair) -> None:
+    text = page.section("The way back")
+    asked(pair.served.gateways)
+    pair.network.cable("l", pair.second.number, False)
+    asked(pair.served.gateways)
+    # By hand and by force: no cluster stands in the way here.
+    pair.second.sh(f"drbdadm primary --force ocs-01 && mount -o nouuid {DEVICE} {MOUNTED}")
+    pair.second.sh(f"echo > {MOUNTED}/written && umount {MOUNTED}")
+    pair.network.cable("l", pair.second.number, True)
+    for one in pair.machines:
+        one.sh("until grep -q cs:StandAlone /proc/drbd; do sleep 0.2; done")
+    asked(pair.served.gateways)
+    pair.second.sh(
+        "\n".join(
+            page.line(text, line)
+            for line in (
+                "drbdadm secondary ocs-01",
+                "drbdadm disconnect ocs-01",
+                "drbdadm connect --discard-my-data ocs-01",
+            )
+        )
+    )
+    pair.serving.sh(page.line(text, "drbdadm connect ocs-01"))
+    pair.serving.sh(IN_STEP)
+    pair.verify()
+    pair.served.gateways.end()
     right(pair)
