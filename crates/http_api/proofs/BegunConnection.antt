@@ -1,6 +1,6 @@
 -- A connection that a fault ends: of some of the stream's first requests, at most 1,000, a beginning
 -- of the answers is written. It follows from what each fault says.
-use Rattle.std.proofs.Common.{◌≡◌, ◌≤◌, ◌<◌, ◌+◌, ℕ, zero, suc, List, [], ◌∷◌, ◌++◌, length, take, sym}
+use Rattle.std.proofs.Common.{◌≤◌, ◌+◌, ℕ, suc, List, ◌++◌, length, take, sym}
 use Rattle.std.proofs.Common.{subst, arith, Option, Err}
 use Rattle.std.specs.Io.KnownBytes.{Appends}
 use Rattle.std.proofs.Math.Seq.{take-append-add}
@@ -34,7 +34,7 @@ module _ {C : Type 0} (gives : C → Option ℕ → C → Type 0) (b : Shelf) (s
       given = u.taken.given;
       text = u.taken.text;
       written = begins-all empty full u.taken.text u.taken.written;
-      is = λ list time are. (u.taken.is list time are).taken;
+      is = λ list time are. (u.taken.is list time are).0;
     };
   }
 
@@ -52,16 +52,7 @@ module _ {C : Type 0} (gives : C → Option ℕ → C → Type 0) (b : Shelf) (s
         subst (Appends empty full) (sym (take-append-add u.taken.text u.more u.begun))
             u.taken.written,
       );
-      is = λ list time are.
-          let one = u.taken.is list time are in
-          record {
-            last = one.last;
-            turns = (one.between, one.turns, one.turn);
-            given = one.given;
-            written = one.written;
-            is = one.is;
-            time = one.time;
-          };
+      is = λ list time are. (u.taken.is list time are).0;
     };
   }
 

@@ -16,7 +16,8 @@ use Rattle.charging.proofs.runs.RunLemmas.{commands_after, time-more}
 use Rattle.charging.proofs.outcomes.Serving.{left_as}
 use Rattle.http_messages.specs.Asking.{Asking, refuses, reads, states, IsAsked}
 use Rattle.http_messages.specs.declared.asking.HttpAsked.TheVariants as told
-use Rattle.http_api.specs.Replies.{LeavesReply, reply_at}
+use Rattle.http_api.specs.Replies.{LeavesReply}
+use Rattle.http_api.specs.ReplyParts.{reply_at}
 
 -- none
 pub continued_none : (b : Shelf) (tables : Tables) → ForEachList b tables (IsContinued b tables)

@@ -7,10 +7,13 @@ use Rattle.httparse.specs.Grammar.{RequestHead}
 use Rattle.http_messages.specs.Methods.{is_post, is_put}
 use Rattle.http_messages.specs.Statuses.{length_required, payload_too_large}
 use Rattle.http_messages.specs.Parts.{Part, whole, too_long, cut, first_part}
-use Rattle.http_messages.specs.Fields.{said_number, taken_length, length_by, length_unless}
+use Rattle.http_messages.specs.MessageParts.{said_number, taken_length, length_by, length_unless}
 use Rattle.http_messages.specs.Fields.{values_of}
-use Rattle.http_messages.specs.Requests.{length_of, fields_of, ask_of, after_length, Next, asks}
-use Rattle.http_messages.specs.Requests.{refused, ended, IsNextOf, Tells, TellsNext}
+use Rattle.http_messages.specs.Requests.{Next, asks}
+use Rattle.http_messages.specs.MessageParts.{length_of, fields_of, ask_of, after_length}
+use Rattle.http_messages.specs.Requests.{refused, ended}
+use Rattle.http_messages.specs.MessageParts.{IsNextOf}
+use Rattle.http_messages.specs.RequestsGiven.{Tells, TellsNext}
 use Rattle.http_messages.specs.declared.requests.Taken.{Taken}
 use Rattle.http_messages.specs.declared.requests.Taken.TheVariants as taken
 use Rattle.http_messages.specs.declared.asking.HttpAsked.TheVariants as told

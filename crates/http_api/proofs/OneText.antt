@@ -14,8 +14,10 @@ use Rattle.http_messages.specs.Parts.{first_part}
 use Rattle.http_messages.specs.Requests.{Next, asks, refused, ended, IsNext}
 use Rattle.http_messages.specs.Asking.{Asking, refuses, reads, states}
 use Rattle.http_messages.specs.Table.{asked_of}
-use Rattle.http_api.specs.Replies.{Reply, reply_at, statement_at, IsDue, IsReply}
-use Rattle.http_api.specs.Connections.{Connection, new_connection, left_after, after_reply, IsOver}
+use Rattle.http_api.specs.Replies.{Reply, IsDue, IsReply}
+use Rattle.http_api.specs.ReplyParts.{reply_at, statement_at}
+use Rattle.http_api.specs.Connections.{Connection, new_connection, after_reply, IsOver}
+use Rattle.http_api.specs.ReplyParts.{left_after}
 use Rattle.http_api.specs.Connections.{IsAnswered, Takes}
 use Rattle.http_api.specs.OneText.{GetsDue, NextGetsDue, IsDueTurn, DueTurns, DueTurnsAreTurns}
 use Rattle.http_api.specs.OneText.{TextIsOne, TurnsAreOne}

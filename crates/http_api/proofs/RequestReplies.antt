@@ -25,7 +25,8 @@ use Rattle.http_messages.specs.Texts.{response, no_members, unable, TellsFault}
 use Rattle.http_messages.specs.declared.refusal.HttpRefusal.{HttpRefusal}
 use Rattle.http_api.specs.Clocks.{GivesInTurn}
 use Rattle.http_api.specs.Faults.{serve_fault}
-use Rattle.http_api.specs.Replies.{refusal, unserved, reply_at, IsDue, MayAsk, IsReply, Replies}
+use Rattle.http_api.specs.Replies.{refusal, unserved, IsDue, IsReply, Replies}
+use Rattle.http_api.specs.ReplyParts.{reply_at, MayAsk}
 use Rattle.http_api.specs.declared.fault.ServeFault.{ServeFault}
 use Rattle.http_api.specs.declared.fault.ServeFault.TheVariants as serve
 

@@ -29,7 +29,8 @@ use Rattle.http_messages.specs.Texts.{response, response_of, unable, TellsText}
 use Rattle.charging.specs.Balances.{by_number}
 use Rattle.ledger.specs.Balance.{buckets_at}
 use Rattle.ledger.specs.Pricing.{validity_of}
-use Rattle.http_api.specs.Replies.{unserved, MayAsk, GoesOn, statement_media, statement_reply}
+use Rattle.http_api.specs.Replies.{unserved, GoesOn}
+use Rattle.http_api.specs.ReplyParts.{MayAsk, statement_media, statement_reply}
 use Rattle.http_api.specs.Replies.{reply_text, IsReplied, Replies}
 use Rattle.http_api.specs.Told.{IsBodyTold, TellsAnswer, TellsCharges}
 use Rattle.http_api.proofs.RequestReplies.{unserved_reply}

@@ -8,14 +8,18 @@ use Rattle.shelves.specs.Shelves.{Shelf}
 use Rattle.charging.specs.Accepted.{Accepted}
 use Rattle.http_messages.specs.Statuses.{IsAnswerStatus, method_not_allowed}
 use Rattle.http_messages.specs.Requests.{Ask}
-use Rattle.http_messages.specs.Asking.{Asking, refuses, reads, states, stated}
-use Rattle.http_messages.specs.Routes.{statement_in, asking_by}
-use Rattle.http_messages.specs.Table.{asked_by, asked_of, route_of, serves}
+use Rattle.http_messages.specs.Asking.{Asking, refuses, reads, states}
+use Rattle.http_messages.specs.MessageParts.{stated}
+use Rattle.http_messages.specs.Routes.{asking_by}
+use Rattle.http_messages.specs.MessageParts.{statement_in}
+use Rattle.http_messages.specs.Table.{asked_of, route_of}
+use Rattle.http_messages.specs.MessageParts.{asked_by, serves}
 use Rattle.http_messages.specs.declared.asking.StatementAsked.{StatementAsked}
 use Rattle.http_messages.specs.declared.routes.Route.{Route}
 use Rattle.http_messages.specs.declared.routes.Route.TheVariants.{Ccr, Account, Statement, Credits}
 use Rattle.http_messages.specs.declared.routes.Route.TheVariants.{Allowances, Redeem, Sweep}
-use Rattle.http_api.specs.Replies.{Reply, reply_at, statement_at, IsReply}
+use Rattle.http_api.specs.Replies.{Reply, IsReply}
+use Rattle.http_api.specs.ReplyParts.{reply_at, statement_at}
 
 -- ---- what a request asks
 

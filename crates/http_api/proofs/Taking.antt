@@ -31,9 +31,10 @@ use Rattle.http_api.specs.Faults.{serve_fault}
 use Rattle.http_api.specs.Hearing.{Hears, HearsNext}
 use Rattle.http_api.specs.Replies.{reply_text, IsReplied, Replies, IsReplyHeld, LeavesReply}
 use Rattle.http_api.specs.Replies.{AreLeftAfter, HoldsNext}
-use Rattle.http_api.specs.Connections.{Connection, new_connection, left_after, after_reply}
+use Rattle.http_api.specs.Connections.{Connection, new_connection, after_reply}
+use Rattle.http_api.specs.ReplyParts.{left_after}
 use Rattle.http_api.specs.Connections.{IsAnswered, Takes, Turns, IsTaken, IsOver}
-use Rattle.http_api.specs.Connections.{IsConnectionServed, IsUnread, IsTakenWith, IsCutOff}
+use Rattle.http_api.specs.Connections.{IsPart, IsUnread, IsCutOff}
 use Rattle.http_api.specs.Connections.{ComesTo}
 use Rattle.http_api.specs.Connections.{ServesConnection, IsLeftWithin}
 use Rattle.http_api.proofs.Continuing.{continued_none}
@@ -132,13 +133,20 @@ at-none b stream tables = λ list time are. record {
   rest_is = refl;
 }
 
+-- so many of its requests were answered with a text, and one more with another
+abbrev IsTakenWith : Shelf → List ℕ → ℕ → List (Option ℕ) → List ℕ → List ℕ →
+    (List Accepted → Type 0) → List Accepted → Type 0
+IsTakenWith b stream count moments text more Is list =
+    (taken : IsTaken b stream (suc count) moments (text ++ more) Is list)
+    × (taken.turns.0.written ≡ text)
+
 -- one more is answered, and this is left
 record IsMoreAt (b : Shelf) (stream : List ℕ) (count left : ℕ) (closes : Bool) (after : List ℕ)
     (moments : List (Option ℕ)) (text more : List ℕ) (content : Tables) (list : List Accepted) :
     Type 0 where
   turned : IsTakenWith b stream count moments text more (AreOf b content) list
-  left_is : turned.last.left ≡ left_after closes left
-  rest_is : turned.last.rest ≡ after
+  left_is : turned.0.last.left ≡ left_after closes left
+  rest_is : turned.0.last.rest ≡ after
 
 more-at : (b : Shelf) (stream : List ℕ) (count left : ℕ) (rest after : List ℕ)
     (moments ms : List (Option ℕ)) (text more : List ℕ) (mid new : Tables) (list : List Accepted)
@@ -153,30 +161,34 @@ more-at b stream count left rest after moments ms text more mid new list asking 
     let old : Connection = at.taken.last in
     let last : Connection = after_reply old closes after ms replied.reply in
     record {
-      turned = record {
-        between = old;
-        turns = at.taken.turns;
-        whole = at.taken.written;
-        last = last;
-        turn = record {
-          taken = subst (λ n. 0 < n) (sym at.left_is) some;
-          next = next;
-          is_next = subst (λ r. IsNext r next) (sym at.rest_is) is_next;
-          takes = takes old last (record {
-            moments = ms;
-            reply = replied.reply;
-            is_reply = replied.is_reply;
-            status = reply_says b old.list asking ms replied.reply says replied.is_reply;
-            after = refl;
-          });
-        };
-        given = ap (λ l. l ++ ms) at.taken.given;
-        written = (λ i.
-            at.taken.written i ++ reply_text (left_after closes (at.left_is i) == 0) replied.reply)
-            ∙ ap (λ l. text ++ l) (sym replied.written);
-        is = replied.tables;
-        time = replied.time;
-      };
+      turned = (
+        record {
+          last = last;
+          turns = (
+            old,
+            at.taken.turns,
+            record {
+              taken = subst (λ n. 0 < n) (sym at.left_is) some;
+              next = next;
+              is_next = subst (λ r. IsNext r next) (sym at.rest_is) is_next;
+              takes = takes old last (record {
+                moments = ms;
+                reply = replied.reply;
+                is_reply = replied.is_reply;
+                status = reply_says b old.list asking ms replied.reply says replied.is_reply;
+                after = refl;
+              });
+            },
+          );
+          given = ap (λ l. l ++ ms) at.taken.given;
+          written = (λ i. at.taken.written i
+              ++ reply_text (left_after closes (at.left_is i) == 0) replied.reply)
+              ∙ ap (λ l. text ++ l) (sym replied.written);
+          is = replied.tables;
+          time = replied.time;
+        },
+        at.taken.written,
+      );
       left_is = ap (left_after closes) at.left_is;
       rest_is = refl;
     }
@@ -188,13 +200,13 @@ at-more : (b : Shelf) (stream : List ℕ) (count left : ℕ) (closes : Bool) (af
     IsAt b stream (count + 1) (left_after closes left) after moments (text ++ more) new list
 at-more b stream count left closes after moments text more new list m = record {
   taken = record {
-    last = m.turned.last;
-    turns = subst (λ n. Turns b n (new_connection stream list) m.turned.last) (plus_one count)
-        (m.turned.between, m.turned.turns, m.turned.turn);
-    given = m.turned.given;
-    written = m.turned.written;
-    is = m.turned.is;
-    time = m.turned.time;
+    last = m.turned.0.last;
+    turns = subst (λ n. Turns b n (new_connection stream list) m.turned.0.last) (plus_one count)
+        m.turned.0.turns;
+    given = m.turned.0.given;
+    written = m.turned.0.written;
+    is = m.turned.0.is;
+    time = m.turned.0.time;
   };
   left_is = m.left_is;
   rest_is = m.rest_is;
@@ -324,6 +336,13 @@ module _ {C : Type 0} (gives : C → Option ℕ → C → Type 0) (b : Shelf) wh
             (one.text ++ one.more) new)) (sym next_is) one.at;
       }
 
+  -- a stream is served to the end of the connection
+  abbrev IsServed : List ℕ → ℕ → C → C → Option (List ℕ) → Option (List ℕ) → Tables →
+      (List Accepted → Type 0) → Type 0
+  IsServed stream count c0 c1 w0 w1 old Is = IsPart gives b c0 c1 old (Appends w0 w1)
+      (λ moments text list.
+      (taken : IsTaken b stream count moments text Is list) × IsOver taken.last)
+
   -- or it ends
   -- rule: http-end
   pub so_far-closed : (count total left next : ℕ) (closes : Bool) (r0 r2 : Option (List ℕ))
@@ -331,25 +350,23 @@ module _ {C : Type 0} (gives : C → Option ℕ → C → Type 0) (b : Shelf) wh
       total ≡ count + 1 → next ≡ left_after closes left → next ≡ 0 →
       IfSome r0
       (λ stream. IsOneMore stream count left closes r2 c0 c2 w0 w1 (Appends w1 w2) old new) →
-      IfSome r0 (λ stream. IsConnectionServed gives b stream total c0 c2 w0 w2 old (AreOf b new))
+      IfSome r0 (λ stream. IsServed stream total c0 c2 w0 w2 old (AreOf b new))
   so_far-closed count total left next closes None r2 c0 c2 w0 w1 w2 old new count_is next_is over
       one = tt
   so_far-closed count total left next closes (Some stream) r2 c0 c2 w0 w1 w2 old new count_is
       next_is over one =
-      let whole : IsConnectionServed gives b stream (count + 1) c0 c2 w0 w2 old (AreOf b new) =
+      let whole : IsServed stream (count + 1) c0 c2 w0 w2 old (AreOf b new) =
       record {
-        whole = record {
-          moments = one.moments;
-          given = one.given;
-          text = one.text ++ one.more;
-          written = Appends-trans w0 w1 w2 one.text one.more one.written one.wrote;
-          is = λ list time are.
-              let at : IsAt b stream (count + 1) (left_after closes left) one.rest one.moments
-              (one.text ++ one.more) new list = one.at list time are in
-              record { taken = at.taken; over = inl (at.left_is ∙ sym next_is ∙ over) };
-        };
+        moments = one.moments;
+        given = one.given;
+        text = one.text ++ one.more;
+        written = Appends-trans w0 w1 w2 one.text one.more one.written one.wrote;
+        is = λ list time are.
+            let at : IsAt b stream (count + 1) (left_after closes left) one.rest one.moments
+            (one.text ++ one.more) new list = one.at list time are in
+            (at.taken, inl (at.left_is ∙ sym next_is ∙ over));
       } in
-      subst (λ n. IsConnectionServed gives b stream n c0 c2 w0 w2 old (AreOf b new)) (sym count_is)
+      subst (λ n. IsServed stream n c0 c2 w0 w2 old (AreOf b new)) (sym count_is)
       whole
 
   -- of its answer a beginning is written
@@ -380,18 +397,16 @@ module _ {C : Type 0} (gives : C → Option ℕ → C → Type 0) (b : Shelf) wh
       (so : IsSoFar stream count left r1 c0 c1 w0 w1 old new) →
       ((list : List Accepted) →
       (at : IsAt b stream count left so.rest so.moments so.text new list) → IsOver at.taken.last) →
-      IsConnectionServed gives b stream count c0 c1 w0 w1 old (AreOf b new)
+      IsServed stream count c0 c1 w0 w1 old (AreOf b new)
   served_over stream count left r1 c0 c1 w0 w1 old new so over = record {
-    whole = record {
-      moments = so.moments;
-      given = so.given;
-      text = so.text;
-      written = so.written;
-      is = λ list time are.
-          let at : IsAt b stream count left so.rest so.moments so.text new list =
-          so.at list time are in
-          record { taken = at.taken; over = over list at };
-    };
+    moments = so.moments;
+    given = so.given;
+    text = so.text;
+    written = so.written;
+    is = λ list time are.
+        let at : IsAt b stream count left so.rest so.moments so.text new list =
+        so.at list time are in
+        (at.taken, over list at);
   }
 
   -- the stream ends before the next request does
@@ -399,7 +414,7 @@ module _ {C : Type 0} (gives : C → Option ℕ → C → Type 0) (b : Shelf) wh
       (w0 w1 : Option (List ℕ)) (old new : Tables) (o : Option Heard) →
       o ≡ None → IfSome r0 (λ stream. IsSoFar stream count left r1 c0 c1 w0 w1 old new) →
       IfSome r1 (λ s. Hears s o r2) →
-      IfSome r0 (λ stream. IsConnectionServed gives b stream count c0 c1 w0 w1 old (AreOf b new))
+      IfSome r0 (λ stream. IsServed stream count c0 c1 w0 w1 old (AreOf b new))
   so_far-ended count left None r1 r2 c0 c1 w0 w1 old new o is so hears = tt
   so_far-ended count left (Some stream) r1 r2 c0 c1 w0 w1 old new o is so hears =
       let here : Hears so.rest None r2 =
@@ -415,13 +430,13 @@ module _ {C : Type 0} (gives : C → Option ℕ → C → Type 0) (b : Shelf) wh
       (w0 w1 : Option (List ℕ)) (old new : Tables) →
       total ≡ count →
       left ≡ 0 → IfSome r0 (λ stream. IsSoFar stream count left r1 c0 c1 w0 w1 old new) →
-      IfSome r0 (λ stream. IsConnectionServed gives b stream total c0 c1 w0 w1 old (AreOf b new))
+      IfSome r0 (λ stream. IsServed stream total c0 c1 w0 w1 old (AreOf b new))
   so_far-full count total left None r1 c0 c1 w0 w1 old new count_is none so = tt
   so_far-full count total left (Some stream) r1 c0 c1 w0 w1 old new count_is none so =
-      let whole : IsConnectionServed gives b stream count c0 c1 w0 w1 old (AreOf b new) =
+      let whole : IsServed stream count c0 c1 w0 w1 old (AreOf b new) =
       served_over stream count left r1 c0 c1 w0 w1 old new so
       (λ list at. inl (at.left_is ∙ none)) in
-      subst (λ n. IsConnectionServed gives b stream n c0 c1 w0 w1 old (AreOf b new)) (sym count_is)
+      subst (λ n. IsServed stream n c0 c1 w0 w1 old (AreOf b new)) (sym count_is)
       whole
 
   -- the next request isn't read, since the reader fails or memory is refused
@@ -442,7 +457,7 @@ module _ {C : Type 0} (gives : C → Option ℕ → C → Type 0) (b : Shelf) wh
       is = λ list time are.
           let at : IsAt b stream count left so.rest so.moments so.text new list =
           so.at list time are in
-          record { taken = at.taken; goes_on = subst (λ n. 0 < n) (sym at.left_is) some };
+          (at.taken, subst (λ n. 0 < n) (sym at.left_is) some);
     };
   }
 
@@ -579,11 +594,10 @@ module _ {C : Type 0} (gives : C → Option ℕ → C → Type 0) (b : Shelf) wh
         given = x.taken.given;
         text = x.taken.text;
         written = x.taken.written;
-        is = λ list time are. record {
-          taken = taken_as stream x.count x.taken.moments x.taken.text list
-              (x.taken.is list time are).taken;
-          goes_on = (x.taken.is list time are).goes_on;
-        };
+        is = λ list time are. (
+          taken_as stream x.count x.taken.moments x.taken.text list (x.taken.is list time are).0,
+          (x.taken.is list time are).1,
+        );
       };
     }
 
@@ -592,17 +606,14 @@ module _ {C : Type 0} (gives : C → Option ℕ → C → Type 0) (b : Shelf) wh
         ComesTo gives b stream c0 c1 w0 w1 old Is result →
         ComesTo gives b stream c0 c1 w0 w1 old Are result
     comes_as stream (Ok done) x = record {
-      whole = record {
-        moments = x.whole.moments;
-        given = x.whole.given;
-        text = x.whole.text;
-        written = x.whole.written;
-        is = λ list time are. record {
-          taken = taken_as stream done.requests x.whole.moments x.whole.text list
-              (x.whole.is list time are).taken;
-          over = (x.whole.is list time are).over;
-        };
-      };
+      moments = x.moments;
+      given = x.given;
+      text = x.text;
+      written = x.written;
+      is = λ list time are. (
+        taken_as stream done.requests x.moments x.text list (x.is list time are).0,
+        (x.is list time are).1,
+      );
     }
     comes_as stream (Err fault.Memory) x = unread_as stream x
     comes_as stream (Err fault.Read) x = unread_as stream x
@@ -616,20 +627,11 @@ module _ {C : Type 0} (gives : C → Option ℕ → C → Type 0) (b : Shelf) wh
         given = x.taken.given;
         text = x.taken.text;
         written = x.taken.written;
-        is = λ list time are.
-            let cut : IsTakenWith b stream x.count x.taken.moments x.taken.text x.more Is list =
-            x.taken.is list time are in
-            record {
-              between = cut.between;
-              turns = cut.turns;
-              whole = cut.whole;
-              last = cut.last;
-              turn = cut.turn;
-              given = cut.given;
-              written = cut.written;
-              is = weaker cut.last.list cut.time cut.is;
-              time = cut.time;
-            };
+        is = λ list time are. (
+          taken_as stream (suc x.count) x.taken.moments (x.taken.text ++ x.more) list
+              (x.taken.is list time are).0,
+          (x.taken.is list time are).1,
+        );
       };
     }
 

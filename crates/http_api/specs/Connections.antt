@@ -39,19 +39,18 @@ abbrev pub new_connection : Bytes → List Accepted → Connection
 new_connection stream list =
     record { left = most_requests; rest = stream; list = list; moments = []; written = [] }
 
--- how many it takes after a request: none where that ends the connection
-abbrev pub left_after : Bool → ℕ → ℕ
-left_after closes left = if closes then 0 else left - 1
-
 -- it after an answer, which says so where no request is taken after it
 abbrev pub after_reply : Connection → Bool → Bytes → List (Option Moment) → Reply → Connection
 after_reply old closes rest moments reply = record {
-  left = left_after closes old.left;
+  left = left;
   rest = rest;
   list = reply.after;
   moments = old.moments ++ moments;
-  written = old.written ++ reply_text (left_after closes old.left == 0) reply;
+  written = old.written ++ reply_text (left == 0) reply;
 }
+  where
+    left : ℕ
+    left = if closes then 0 else old.left - 1
 
 -- a request is answered, with one of the statuses of answers
 pub record IsAnswered (b : Shelf) (asking : Asking) (closes : Bool) (rest : Bytes)
@@ -101,32 +100,6 @@ pub record IsTaken (b : Shelf) (stream : Bytes) (count : ℕ) (moments : List (O
   pub is : Is last.list
   pub time : IsInTime last.list
 
--- and the connection is over
-pub record IsWholeConnection (b : Shelf) (stream : Bytes) (count : ℕ)
-    (moments : List (Option Moment))
-    (text : Bytes) (Is : List Accepted → Type 0) (list : List Accepted) : Type 0 where
-  pub taken : IsTaken b stream count moments text Is list
-  pub over : IsOver taken.last
-
--- or it takes more
-pub record IsTakenOn (b : Shelf) (stream : Bytes) (count : ℕ) (moments : List (Option Moment))
-    (text : Bytes) (Is : List Accepted → Type 0) (list : List Accepted) : Type 0 where
-  pub taken : IsTaken b stream count moments text Is list
-  pub goes_on : 0 < taken.last.left
-
--- so many of its requests were answered with a text, and one more with another
-pub record IsTakenWith (b : Shelf) (stream : Bytes) (count : ℕ) (moments : List (Option Moment))
-    (text more : Bytes) (Is : List Accepted → Type 0) (list : List Accepted) : Type 0 where
-  pub between : Connection
-  pub turns : Turns b count (new_connection stream list) between
-  pub whole : between.written ≡ text
-  pub last : Connection
-  pub turn : IsTurn b between last
-  pub given : last.moments ≡ moments
-  pub written : last.written ≡ text ++ more
-  pub is : Is last.list
-  pub time : IsInTime last.list
-
 -- a part of a connection: the moments that the clock gave in turn, the text of the answers, what is
 -- written of it, and what both are of the stream, over each list of commands that the tables before
 -- come from
@@ -139,15 +112,7 @@ pub record IsPart {C : Type 0} (gives : C → Option Moment → C → Type 0) (b
   pub written : Writes text
   pub is : ForEachList b old (Is moments text)
 
--- a stream is served to the end of the connection
--- rule: http-end
-pub record IsConnectionServed {C : Type 0} (gives : C → Option Moment → C → Type 0) (b : Shelf)
-    (stream : Bytes) (count : ℕ) (before after : C) (empty full : Option Bytes) (old : Tables)
-    (Is : List Accepted → Type 0) : Type 0 where
-  pub whole : IsPart gives b before after old (Appends empty full)
-      (λ moments text. IsWholeConnection b stream count moments text Is)
-
--- so many requests of a stream were answered whole, and nothing is done for the next one
+-- so many requests of a stream were answered whole, it takes more, and nothing is done for the next
 -- rule: http-unanswered: an answer's text is made before its command is accepted, and what a
 --   connection that runs out of memory leaves
 pub record IsUnread {C : Type 0} (gives : C → Option Moment → C → Type 0) (b : Shelf)
@@ -157,7 +122,8 @@ pub record IsUnread {C : Type 0} (gives : C → Option Moment → C → Type 0) 
   -- rule: http-end
   pub bounded : count < most_requests
   pub taken : IsPart gives b before after old (Appends empty full)
-      (λ moments text. IsTakenOn b stream count moments text Is)
+      (λ moments text list.
+      (taken : IsTaken b stream count moments text Is list) × (0 < taken.last.left))
 
 -- so many were answered whole, and of the answer to the next one a beginning is written
 pub record IsCutOff {C : Type 0} (gives : C → Option Moment → C → Type 0) (b : Shelf)
@@ -168,7 +134,9 @@ pub record IsCutOff {C : Type 0} (gives : C → Option Moment → C → Type 0) 
   pub more : Bytes
   pub begun : ℕ
   pub taken : IsPart gives b before after old (λ text. Appends empty full (text ++ take begun more))
-      (λ moments text. IsTakenWith b stream count moments text more Is)
+      (λ moments text list.
+      (taken : IsTaken b stream (suc count) moments (text ++ more) Is list)
+      × (taken.turns.0.written ≡ text))
 
 -- what comes of a connection, by its end: it is served to its end; or the reader fails, or memory
 -- is refused, before the next request; or the writer fails, in an answer. The accepted commands
@@ -178,7 +146,9 @@ abbrev pub ComesTo : {C : Type 0} → (C → Option Moment → C → Type 0) →
     Option Bytes → Option Bytes → Tables → (List Accepted → Type 0) → Result Served ServeFault →
     Type 0
 ComesTo gives b stream before after empty full old Is (Ok done) =
-    IsConnectionServed gives b stream done.requests before after empty full old Is
+    IsPart gives b before after old (Appends empty full)
+    (λ moments text list.
+    (taken : IsTaken b stream done.requests moments text Is list) × IsOver taken.last)
 ComesTo gives b stream before after empty full old Is (Err Memory) =
     IsUnread gives b stream before after empty full old Is
 ComesTo gives b stream before after empty full old Is (Err Read) =

@@ -2,6 +2,7 @@ pub mod Words
 pub mod Clocks
 pub mod Faults
 pub mod Replies
+pub mod ReplyParts
 pub mod Told
 pub mod Connections
 pub mod Sockets

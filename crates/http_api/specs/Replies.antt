@@ -11,6 +11,7 @@ use Rattle.texts.specs.declared.streams.StreamFault.TheVariants.{Write}
 use Rattle.commands.specs.declared.answer.Answer.TheVariants.{Refused}
 use Rattle.commands.specs.declared.answer.Refusal.TheVariants.{AccountUnknown}
 use Rattle.commands.specs.declared.command.Command.{Command}
+use Rattle.json_fields.specs.declared.fault.WireFault.{WireFault}
 use Rattle.wire.specs.Spelled.{answer_text, fault_text}
 use Rattle.shelves.specs.Shelves.{Shelf}
 use Rattle.ledger.specs.Balance.{buckets_at}
@@ -29,7 +30,6 @@ use Rattle.charging.specs.Served.{AreTables, history, moment_of, answer_to, with
 use Rattle.charging.specs.declared.running.DatedCommand.{DatedCommand}
 use Rattle.http_messages.specs.Statuses as status
 use Rattle.http_messages.specs.Asking.{Asking, refuses, reads, states}
-use Rattle.http_messages.specs.declared.asking.StatementAsked.{StatementAsked}
 use Rattle.http_messages.specs.declared.text.Media.{Media}
 use Rattle.http_messages.specs.declared.text.Media.TheVariants.{Json, Text}
 use Rattle.http_messages.specs.Texts.{response_of, no_members, unable, Begins}
@@ -50,76 +50,67 @@ refusal list code text = record { status = code; media = Json; body = text; afte
 abbrev pub unserved : List Accepted → Reply
 unserved list = refusal list status.service_unavailable unable
 
--- a command at the clock's moment; without one it isn't served
-abbrev pub reply_at : Shelf → List Accepted → Command → Option Moment → Reply
-reply_at b list c None = unserved list
-reply_at b list c (Some t) = record {
-  status = status.ok;
-  media = Json;
-  body = answer_text (answer_to b list c (moment_of list t));
-  after = with_command b list c (moment_of list t);
-}
-
--- a statement is a text; that there is no account is written as an answer is
-abbrev pub statement_media : Bool → Media
-statement_media true = Text
-statement_media false = Json
-
--- an account's statement by its history, as of a moment: all of its charges of the month, and its
--- buckets by number
-abbrev pub statement_body : Shelf → StatementAsked → Moment → History → Bytes
-statement_body b q t h = if h.opened
-    then statement_text b.first q.account q.month t (charge_rows h.ledger)
-    (by_number (buckets_at (validity_of b) t h.ledger))
-    else answer_text (Refused AccountUnknown)
-
-abbrev pub statement_reply : Shelf → List Accepted → StatementAsked → Moment → History → Reply
-statement_reply b list q t h = record {
-  status = status.ok;
-  media = statement_media h.opened;
-  body = statement_body b q t h;
-  after = list;
-}
-
--- a statement at the clock's moment
-abbrev pub statement_at : Shelf → List Accepted → StatementAsked → Option Moment → Reply
-statement_at b list q None = unserved list
-statement_at b list q (Some t) =
-    statement_reply b list q (moment_of list t) (history b q.account list)
-
 -- the bytes of a reply
 abbrev pub reply_text : Bool → Reply → Bytes
 reply_text closes reply = response_of reply.media reply.status closes reply.body
 
--- what is due, by what a request asks; the clock is asked once for a command or a statement, and
--- for nothing else
+-- What is due, by what a request asks. The clock is asked once for a command or a statement, and
+-- for nothing else; without its moment neither is served. A statement is a text: all of the
+-- account's charges of the month and its buckets by number, by its history, as of the moment; that
+-- there is no account is written as an answer is.
 -- rule: http-read, http-503
 abbrev pub IsDue : Shelf → List Accepted → Asking → List (Option Moment) → Reply → Type 0
 IsDue b list (refuses code) moments reply = (moments ≡ []) × (reply ≡ refusal list code no_members)
 IsDue b list (reads (Err fault)) moments reply = (moments ≡ [])
     × (reply ≡ refusal list status.bad_request (fault_text fault))
 IsDue b list (reads (Ok c)) moments reply = (m : Option ℕ) × (moments ≡ m ∷ [])
-    × (reply ≡ reply_at b list c m)
+    × (reply ≡ answered m)
+  where
+    answered : Option Moment → Reply
+    answered None = unserved list
+    answered (Some t) = record {
+      status = status.ok;
+      media = Json;
+      body = answer_text (answer_to b list c (moment_of list t));
+      after = with_command b list c (moment_of list t);
+    }
 IsDue b list (states q) moments reply = (m : Option ℕ) × (moments ≡ m ∷ [])
-    × (reply ≡ statement_at b list q m)
+    × (reply ≡ stated m)
+  where
+    media : Bool → Media
+    media true = Text
+    media false = Json
 
--- how often the clock may be asked before memory or the store fails; a refusal takes neither
-abbrev pub MayAsk : Asking → List (Option Moment) → Type 0
-MayAsk (refuses code) moments = ⊥
-MayAsk (reads (Err fault)) moments = moments ≡ []
-MayAsk (reads (Ok c)) moments = length moments ≤ 1
-MayAsk (states q) moments = length moments ≤ 1
+    statement : Moment → History → Reply
+    statement t h = record {
+      status = status.ok;
+      media = media h.opened;
+      body = if h.opened
+          then statement_text b.first q.account q.month t (charge_rows h.ledger)
+          (by_number (buckets_at (validity_of b) t h.ledger))
+          else answer_text (Refused AccountUnknown);
+      after = list;
+    }
 
--- what is due; or 503 where memory or the store fails: then the request isn't accepted. A refusal
--- takes neither, and is always written.
+    stated : Option Moment → Reply
+    stated None = unserved list
+    stated (Some t) = statement (moment_of list t) (history b q.account list)
+
+-- What is due; or 503 where memory or the store fails: then the request isn't accepted, and the
+-- clock was asked at most once. A refusal takes neither memory nor the store, and is always
+-- written.
 -- rule: http-read: the answer to one request of a connection
 -- rule: http-503: what may be answered 503
 abbrev pub IsReply : Shelf → List Accepted → Asking → List (Option Moment) → Reply → Type 0
 IsReply b list (refuses code) moments reply = IsDue b list (refuses code) moments reply
 IsReply b list (reads read) moments reply = IsDue b list (reads read) moments reply
-    ⊎ (MayAsk (reads read) moments × (reply ≡ unserved list))
+    ⊎ (may_ask read moments × (reply ≡ unserved list))
+  where
+    may_ask : Result Command WireFault → List (Option Moment) → Type 0
+    may_ask (Err fault) asked = asked ≡ []
+    may_ask (Ok c) asked = length asked ≤ 1
 IsReply b list (states q) moments reply = IsDue b list (states q) moments reply
-    ⊎ (MayAsk (states q) moments × (reply ≡ unserved list))
+    ⊎ ((length moments ≤ 1) × (reply ≡ unserved list))
 
 -- ---- over a keeper
 

@@ -1,7 +1,8 @@
 //! A request taken off a stream, with what it asks.
 
 ghost use Rattle.std.specs.Prelude.{◌≡◌, ℕ, List, Option, Err, IfOk, OnErr, IsErrOf, IfSome};
-ghost use Rattle.http_messages.specs.Requests.{Next, Tells, seen};
+ghost use Rattle.http_messages.specs.Requests.{Next};
+ghost use Rattle.http_messages.specs.RequestsGiven.{Tells, seen};
 ghost use Rattle.http_messages.specs.Asking.{IsAsked};
 ghost use Rattle.http_messages.specs.Table.{table, asked_of};
 ghost use Rattle.http_api.specs.Hearing.{IsOfHead, Hears, HearsNext};

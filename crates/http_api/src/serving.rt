@@ -2,7 +2,8 @@
 
 ghost use Rattle.std.specs.Prelude.{◌≡◌, ◌<◌, ◌+◌};
 ghost use Rattle.std.specs.Io.Buffered.{reader_remaining};
-ghost use Rattle.http_api.specs.Connections.{left_after, ServesConnection};
+ghost use Rattle.http_api.specs.Connections.{ServesConnection};
+ghost use Rattle.http_api.specs.ReplyParts.{left_after};
 ghost use Rattle.http_api.specs.Words.{most_requests};
 
 use crate::answering::answer_request;

@@ -5,7 +5,7 @@ use Rattle.std.specs.List.{flat_map}
 use Rattle.std.proofs.lemmas.List.Elements.{All-head, All-tail}
 use Rattle.httparse.specs.Grammar.{Field, IsField, LineEnd, crlf, lf, print_end, print_field}
 use Rattle.httparse.specs.Grammar.{print_section, RequestHead, print_request}
-use Rattle.http_messages.specs.Requests.{IsHead}
+use Rattle.http_messages.specs.MessageParts.{IsHead}
 
 end_has_one : (e : LineEnd) → 1 ≤ length (print_end e)
 end_has_one crlf = omega arith

@@ -6,7 +6,9 @@ use Rattle.std.proofs.Math.ListN.{drop_of_length-le}
 use Rattle.texts.specs.StreamWords.{Bytes}
 use Rattle.matchit.specs.Route.{scan}
 use Rattle.http_messages.specs.Routes.{every_route, about_route}
-use Rattle.http_messages.specs.Table.{Rows, Fits, AreFitting, added, with_routes}
+use Rattle.http_messages.specs.Table.{Rows, with_routes}
+use Rattle.http_messages.specs.MessageParts.{Fits, AreFitting}
+use Rattle.http_messages.specs.Table.{added}
 use Rattle.http_messages.specs.declared.routes.Route.{Route}
 
 -- the routes that are left fit, and make of these rows what all of them make of the first rows

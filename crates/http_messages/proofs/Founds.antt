@@ -6,7 +6,8 @@ use Rattle.std.specs.Prelude.{if◌then◌else◌, Result}
 use Rattle.httparse.specs.Spans.{header_bytes}
 use Rattle.httparse.specs.declared.spans.HeaderSpan.{HeaderSpan}
 use Rattle.http_messages.specs.declared.fields.Found.{Found}
-use Rattle.http_messages.specs.Fields.{Fields, same_name, values_of, length_unless}
+use Rattle.http_messages.specs.Fields.{Fields, same_name, values_of}
+use Rattle.http_messages.specs.MessageParts.{length_unless}
 use Rattle.http_messages.specs.Found.{IsFound}
 
 values-first : (b : Bool) (value : List ℕ) (all values more : List (List ℕ)) →

@@ -8,7 +8,9 @@ use Rattle.matchit.specs.declared.InsertError.TheVariants.{Conflict, InvalidPara
 use Rattle.matchit.specs.declared.InsertError.TheVariants.{InvalidParam, InvalidCatchAll}
 use Rattle.matchit.specs.declared.InsertError.TheVariants.{OutOfMemory}
 use Rattle.http_messages.specs.declared.routes.Route.{Route}
-use Rattle.http_messages.specs.Table.{Rows, added_read, fits_read}
+use Rattle.http_messages.specs.Table.{Rows}
+use Rattle.http_messages.specs.MessageParts.{fits_read}
+use Rattle.http_messages.specs.Table.{added_read}
 
 -- rule: http-path
 pub inserts_read : (x : Result Scan InsertError) (value : Route) (old new : Rows)

@@ -10,8 +10,9 @@ use Rattle.http_messages.specs.declared.requests.Taken.{Taken}
 use Rattle.http_messages.specs.declared.requests.Taken.TheVariants as taken
 use Rattle.http_messages.specs.Statuses.{bad_request, fields_too_large}
 use Rattle.http_messages.specs.Parts.{Part, whole, too_long, cut, IsHeadPart}
-use Rattle.http_messages.specs.Requests.{IsHeadIn, IsHeadOf, after_head, refused, ended, Tells}
-use Rattle.http_messages.specs.Requests.{TellsNext}
+use Rattle.http_messages.specs.Requests.{after_head, refused, ended}
+use Rattle.http_messages.specs.RequestsGiven.{IsHeadIn, IsHeadOf, Tells}
+use Rattle.http_messages.specs.RequestsGiven.{TellsNext}
 
 long_next : (begun : Part) (left right : Option (List ℕ)) →
     IsHeadPart begun head_part.TooLong left → TellsNext begun (taken.Refused fields_too_large) right

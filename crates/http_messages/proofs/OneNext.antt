@@ -2,7 +2,8 @@
 use Rattle.std.proofs.Common.{◌≡◌, [], sym, ap, ◌∙◌, inl, inr}
 use Rattle.httparse.proofs.GrammarLemmas.{request_unique}
 use Rattle.http_messages.specs.Parts.{Part, whole, cut, too_long, first_part}
-use Rattle.http_messages.specs.Requests.{Next, IsNextOf, after_head}
+use Rattle.http_messages.specs.Requests.{Next, after_head}
+use Rattle.http_messages.specs.MessageParts.{IsNextOf}
 use Rattle.http_messages.specs.Shortest.{NextIsOne}
 
 one_next : (part : Part) (a b : Next) → IsNextOf part a → IsNextOf part b → a ≡ b

@@ -13,7 +13,8 @@ use Rattle.std.proofs.lemmas.List.Elements.{All-head, All-tail}
 use Rattle.std.proofs.lemmas.Slice.Eq.{ends_is}
 use Rattle.texts.specs.Parts.{TakesPiece}
 use Rattle.http_messages.specs.declared.head_part.HeadPart.TheVariants as head_part
-use Rattle.http_messages.specs.Parts.{whole, too_long, first_part, part_after, ends_head}
+use Rattle.http_messages.specs.Parts.{whole, too_long, first_part, part_after}
+use Rattle.http_messages.specs.Shortest.{ends_head}
 use Rattle.http_messages.specs.Parts.{IsHeadPart}
 
 abbrev pub end_of_head : List ℕ

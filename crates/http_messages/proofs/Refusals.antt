@@ -8,10 +8,14 @@ use Rattle.http_messages.specs.Methods.{is_post, is_put}
 use Rattle.http_messages.specs.Statuses.{IsAnswerStatus, length_required}
 use Rattle.http_messages.specs.Statuses.{payload_too_large}
 use Rattle.http_messages.specs.Parts.{Part, whole, too_long, cut}
-use Rattle.http_messages.specs.Fields.{said_number, taken_length}
-use Rattle.http_messages.specs.Fields.{length_by, length_unless, values_of}
-use Rattle.http_messages.specs.Requests.{IsHeadOf, length_of, Next, asks, refused, ended, IsNextOf}
-use Rattle.http_messages.specs.Requests.{fields_of, ask_of, after_length}
+use Rattle.http_messages.specs.MessageParts.{said_number, taken_length}
+use Rattle.http_messages.specs.Fields.{values_of}
+use Rattle.http_messages.specs.MessageParts.{length_by, length_unless}
+use Rattle.http_messages.specs.Requests.{Next, asks, refused, ended}
+use Rattle.http_messages.specs.MessageParts.{IsNextOf}
+use Rattle.http_messages.specs.RequestsGiven.{IsHeadOf}
+use Rattle.http_messages.specs.MessageParts.{length_of}
+use Rattle.http_messages.specs.MessageParts.{fields_of, ask_of, after_length}
 
 -- ---- the length of a body
 

@@ -7,7 +7,8 @@ use Rattle.std.specs.Prelude.{if◌then◌else◌, nat_lt}
 use Rattle.std.proofs.Math.Seq.{take-append_seam}
 use Rattle.std.proofs.lemmas.List.{append_cancel_left}
 use Rattle.std.proofs.lemmas.Bool.{ltb-true, ltb-false}
-use Rattle.http_messages.specs.Parts.{Part, whole, cut, too_long, first_part, part_after, ends_head}
+use Rattle.http_messages.specs.Parts.{Part, whole, cut, too_long, first_part, part_after}
+use Rattle.http_messages.specs.Shortest.{ends_head}
 use Rattle.http_messages.specs.Shortest.{HasNoEnd, IsShortest, IsFirstPart, AreShortest}
 
 -- ---- the walk

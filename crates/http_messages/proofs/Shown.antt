@@ -13,7 +13,8 @@ use Rattle.std.proofs.lemmas.Slice.Eq.{ends_is}
 use Rattle.memchr.specs.Find.{OccursAt, Nowhere}
 use Rattle.memchr.proofs.lemmas.MatchLemmas.{OccursAt-part, OccursAt-from_part}
 use Rattle.http_messages.specs.declared.head_part.HeadPart.TheVariants as head_part
-use Rattle.http_messages.specs.Parts.{whole, first_part, ends_head, IsHeadPart, TakesHead}
+use Rattle.http_messages.specs.Parts.{whole, first_part, IsHeadPart, TakesHead}
+use Rattle.http_messages.specs.Shortest.{ends_head}
 use Rattle.http_messages.specs.Shortest.{IsShortest, IsFirstPart}
 use Rattle.http_messages.proofs.Pieces.{end_of_head}
 use Rattle.http_messages.proofs.Shortest.{is_first_part, are_shortest, begins}

@@ -4,7 +4,8 @@ use Rattle.json_fields.specs.declared.fault.WireFault.{WireFault}
 use Rattle.json_fields.specs.Gives.{Fails}
 use Rattle.http_messages.specs.declared.asking.HttpAsked.TheVariants as told
 use Rattle.http_messages.specs.declared.asking.StatementAsked.{StatementAsked}
-use Rattle.http_messages.specs.Asking.{stated, IsAsked}
+use Rattle.http_messages.specs.Asking.{IsAsked}
+use Rattle.http_messages.specs.MessageParts.{stated}
 
 pub stated_is : (q : StatementAsked) (reading : Result StatementAsked WireFault) → reading ≡ Ok q →
     IsAsked (stated reading) (told.States q)

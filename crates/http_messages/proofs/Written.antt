@@ -4,7 +4,8 @@ use Rattle.std.proofs.Common.{ap}
 use Rattle.std.proofs.lemmas.List.{append_assoc}
 use Rattle.std.specs.Fmt.{decimal}
 use Rattle.http_messages.specs.Statuses.{ok}
-use Rattle.http_messages.specs.Texts.{phrase, closing_line, type_and_length, response, text_head}
+use Rattle.http_messages.specs.Texts.{phrase, closing_line, response}
+use Rattle.http_messages.specs.MessageParts.{type_and_length, text_head}
 
 pub response_written : (status code : ℕ) (said closing : List ℕ) (closes : Bool) (body : List ℕ)
     (old new : List ℕ) → code ≡ status → said ≡ phrase status → closing ≡ closing_line closes →

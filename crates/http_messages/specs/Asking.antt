@@ -1,17 +1,15 @@
 -- What a request may ask, how it is given, and what the parts of its path say.
 -- Source: profile.
-use Rattle.std.specs.Prelude.{◌≡◌, ℕ, Bool, ◌==◌, Result, Ok, Err, if◌then◌else◌}
+use Rattle.std.specs.Prelude.{◌≡◌, ℕ, zero, suc, ◌==◌, Result, Ok, Err, if◌then◌else◌}
 use Rattle.std.specs.List.{before_first, after_first}
-use Rattle.identifiers.specs.Words.{AccountName, VoucherCode}
-use Rattle.texts.specs.NumberWords.{MonthNumber}
+use Rattle.identifiers.specs.Words.{AccountName}
 use Rattle.texts.specs.StreamWords.{Bytes}
-use Rattle.identifiers.specs.Texts.{is_account_number, is_voucher_code}
-use Rattle.texts.specs.Months.{month_of}
+use Rattle.identifiers.specs.Texts.{is_account_number}
 use Rattle.commands.specs.declared.avp.Avp.TheVariants as avp
 use Rattle.commands.specs.declared.command.Command.{Command}
 use Rattle.json_fields.specs.declared.fault.WireFault.{WireFault}
 use Rattle.json_fields.specs.declared.fault.WireFault.TheVariants.{Invalid}
-use Rattle.json_fields.specs.Gives.{Fails, or_fault}
+use Rattle.json_fields.specs.Gives.{Fails}
 use Rattle.http_messages.specs.declared.asking.HttpAsked.{HttpAsked}
 use Rattle.http_messages.specs.declared.asking.HttpAsked.TheVariants as told
 use Rattle.http_messages.specs.declared.asking.StatementAsked.{StatementAsked}
@@ -22,11 +20,6 @@ pub data Asking : Type 0 where
   refuses : ℕ → Asking
   reads : Result Command WireFault → Asking
   states : StatementAsked → Asking
-
--- a statement that is asked for, or the fault of its path
-abbrev pub stated : Result StatementAsked WireFault → Asking
-stated (Ok q) = states q
-stated (Err fault) = reads (Err fault)
 
 -- what is asked, as it is given
 -- rule: http-path: what a request of HTTP asks
@@ -46,29 +39,12 @@ IsAsked (states asked) (told.States q) = asked ≡ q
 
 -- ---- parts of a path
 
-abbrev pub is_slash : ℕ → Bool
-is_slash b = b == 47
-
--- between the second slash of a path and the third, or the end
-abbrev pub second_part : Bytes → Bytes
-second_part target = before_first is_slash (after_first is_slash (after_first is_slash target))
-
--- between the fourth slash of a path and the fifth, or the end
-abbrev pub fourth_part : Bytes → Bytes
-fourth_part target = before_first is_slash
-    (after_first is_slash
-    (after_first is_slash (after_first is_slash (after_first is_slash target))))
+-- what is behind so many slashes of a path, up to the next one or the end
+abbrev pub part_behind : ℕ → Bytes → Bytes
+part_behind zero target = before_first (λ b. b == 47) target
+part_behind (suc n) target = part_behind n (after_first (λ b. b == 47) target)
 
 -- the number of an account in a path
 abbrev pub account_in : Bytes → Result AccountName WireFault
-account_in target = if is_account_number (second_part target) then Ok (second_part target)
+account_in target = if is_account_number (part_behind 2 target) then Ok (part_behind 2 target)
     else Err (Invalid avp.SubscriptionIdData)
-
--- the code of a voucher in a path
-abbrev pub code_in : Bytes → Result VoucherCode WireFault
-code_in target = if is_voucher_code (second_part target) then Ok (second_part target)
-    else Err (Invalid avp.VoucherCode)
-
--- the month in a path
-abbrev pub month_in : Bytes → Result MonthNumber WireFault
-month_in target = or_fault (Invalid avp.Month) (month_of (fourth_part target))

@@ -27,51 +27,41 @@ values_of name (field ∷ fields) =
 
 -- ---- the length of a body (RFC 9112 section 6)
 
--- 1 to 18 digits say a number
-abbrev pub said_number : Bytes → Option ℕ
-said_number value =
-    if nat_le 1 (length value) && (nat_le (length value) 18 && list_all is_ascii_digit value)
-    then Some (digits_value 10 value) else None
-
--- a length of at most 65,536 bytes is taken
-abbrev pub taken_length : Option ℕ → Result ℕ ℕ
-taken_length None = Err bad_request
-taken_length (Some n) = if nat_le n most_body then Ok n else Err payload_too_large
-
-abbrev pub said_length : Bytes → Result ℕ ℕ
-said_length value = taken_length (said_number value)
-
--- a request without a length has no body, and a POST or a PUT must have one
-abbrev pub length_without : Bytes → Result ℕ ℕ
-length_without method = if is_post method || is_put method then Err length_required else Ok 0
-
--- by the values of Content-Length: not more than one
-abbrev pub length_by : Bytes → List Bytes → Result ℕ ℕ
-length_by method [] = length_without method
-length_by method (value ∷ []) = said_length value
-length_by method (value ∷ other ∷ more) = Err bad_request
-
--- by the values of Transfer-Encoding: none is taken
--- rule: http-coding
-abbrev pub length_unless : List Bytes → Result ℕ ℕ → Result ℕ ℕ
-length_unless [] length = length
-length_unless (coding ∷ codings) length = Err not_implemented
-
--- the length of the body, or the status of a refusal
+-- The length of the body, or the status of a refusal. A Transfer-Encoding isn't taken; there is at
+-- most one Content-Length, of 1 to 18 digits, and it says at most 65,536; a request without one has
+-- no body, and a POST or a PUT must have one.
 -- rule: http-length: the length of a body, and whether the connection ends
 -- rule: http-coding: a Transfer-Encoding is refused before the length is looked at
 abbrev pub body_length : Bytes → Fields → Result ℕ ℕ
 body_length method fields =
-    length_unless (values_of (codes "Transfer-Encoding") fields)
-    (length_by method (values_of (codes "Content-Length") fields))
+    unless_coded (values_of (codes "Transfer-Encoding") fields)
+    (by_values (values_of (codes "Content-Length") fields))
+  where
+    number : Bytes → Option ℕ
+    number value =
+        if nat_le 1 (length value) && (nat_le (length value) 18 && list_all is_ascii_digit value)
+        then Some (digits_value 10 value) else None
+
+    taken : Option ℕ → Result ℕ ℕ
+    taken None = Err bad_request
+    taken (Some n) = if nat_le n most_body then Ok n else Err payload_too_large
+
+    by_values : List Bytes → Result ℕ ℕ
+    by_values [] = if is_post method || is_put method then Err length_required else Ok 0
+    by_values (value ∷ []) = taken (number value)
+    by_values (value ∷ other ∷ more) = Err bad_request
+
+    unless_coded : List Bytes → Result ℕ ℕ → Result ℕ ℕ
+    unless_coded [] length = length
+    unless_coded (coding ∷ codings) length = Err not_implemented
 
 -- ---- the connection (RFC 9112 section 9.6)
 
--- Connection: close
-abbrev pub says_close : Bytes × Bytes → Bool
-says_close field = same_name field.0 (codes "Connection") && same_name field.1 (codes "close")
-
--- the connection ends after a request of HTTP/1.0, and where a field says so
+-- the connection ends after a request of HTTP/1.0, and where a field says Connection: close
 -- rule: http-length
 abbrev pub closes : ℕ → Fields → Bool
 closes minor fields = minor == 0 || nat_lt 0 (count_by says_close fields)
+  where
+    says_close : Bytes × Bytes → Bool
+    says_close field =
+        same_name field.0 (codes "Connection") && same_name field.1 (codes "close")

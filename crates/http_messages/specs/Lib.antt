@@ -11,3 +11,5 @@ pub mod Asking
 pub mod Routes
 pub mod Table
 pub mod Texts
+pub mod MessageParts
+pub mod RequestsGiven

@@ -1,6 +1,6 @@
 -- What a stream of requests begins with: a head part is all bytes up to and with the first empty
 -- line, at most 8,192 (RFC 9112 section 2.1; the bound: profile).
-use Rattle.std.specs.Prelude.{◌≡◌, ◌≤◌, ℕ, Bool, List, [], ◌∷◌, ◌++◌, length, if◌then◌else◌, nat_lt}
+use Rattle.std.specs.Prelude.{◌≡◌, ◌≤◌, ℕ, List, [], ◌∷◌, ◌++◌, length, if◌then◌else◌, nat_lt}
 use Rattle.std.specs.Prelude.{nat_eq, Option, Some}
 use Rattle.std.specs.List.{ends_with}
 use Rattle.std.specs.Io.KnownBytes.{Consumes}
@@ -15,16 +15,14 @@ pub data Part : Type 0 where
   whole : List ℕ → List ℕ → Part
   too_long cut : Part
 
--- the bytes end with an empty line: CR LF CR LF
-abbrev pub ends_head : Bytes → Bool
-ends_head bytes = ends_with nat_eq bytes (13 ∷ 10 ∷ 13 ∷ 10 ∷ [])
-
--- the head part that these bytes begin and the rest goes on with
+-- the head part that these bytes begin and the rest goes on with: it ends with an empty line, CR LF
+-- CR LF
 abbrev pub part_after : Bytes → Bytes → Part
 part_after taken [] = if nat_lt (length taken) most_head then cut else too_long
 part_after taken (b ∷ bytes) =
     if nat_lt (length taken) most_head
-    then (if ends_head (taken ++ b ∷ []) then whole (taken ++ b ∷ []) bytes
+    then (if ends_with nat_eq (taken ++ b ∷ []) (13 ∷ 10 ∷ 13 ∷ 10 ∷ [])
+    then whole (taken ++ b ∷ []) bytes
     else part_after (taken ++ b ∷ []) bytes)
     else too_long
 

@@ -2,20 +2,23 @@
 -- asked by it. A route more is a line of each definition below.
 -- Source: profile.
 use Rattle.std.specs.Prelude.{◌≡◌, ◌<◌, Bool, List, [], ◌∷◌, ◌++◌, ◌||◌, length, false, codes}
-use Rattle.std.specs.Prelude.{Result, Ok, if◌then◌else◌}
-use Rattle.identifiers.specs.Words.{AccountName}
+use Rattle.std.specs.Prelude.{Result, Ok, Err, if◌then◌else◌}
 use Rattle.texts.specs.StreamWords.{Bytes}
 use Rattle.matchit.specs.Seek.{has_slash}
-use Rattle.commands.specs.declared.command.Command.{Command}
 use Rattle.commands.specs.declared.command.Command.TheVariants as command
 use Rattle.json_fields.specs.declared.fault.WireFault.{WireFault}
-use Rattle.json_fields.specs.Gives.{◌>>=◌}
+use Rattle.json_fields.specs.declared.fault.WireFault.TheVariants.{Invalid}
+use Rattle.json_fields.specs.Gives.{◌>>=◌, or_fault}
+use Rattle.commands.specs.declared.avp.Avp.TheVariants as avp
+use Rattle.texts.specs.Months.{month_of}
+use Rattle.identifiers.specs.Texts.{is_voucher_code}
+use Rattle.identifiers.specs.Words.{VoucherCode}
 use Rattle.wire.specs.Requests.{command_of}
 use Rattle.wire.specs.Allowances.{allowance_of}
 use Rattle.wire.specs.Credits.{credit_of}
 use Rattle.wire.specs.Redeemed.{redemption_of}
 use Rattle.http_messages.specs.Methods.{is_get, is_post, is_put}
-use Rattle.http_messages.specs.Asking.{Asking, reads, stated, account_in, code_in, month_in}
+use Rattle.http_messages.specs.Asking.{Asking, reads, states, account_in, part_behind}
 use Rattle.http_messages.specs.declared.asking.StatementAsked.{StatementAsked}
 use Rattle.http_messages.specs.declared.routes.Route.{Route}
 use Rattle.http_messages.specs.declared.routes.Route.TheVariants.{Ccr, Account, Statement, Credits}
@@ -83,39 +86,28 @@ IsPathOf Sweep path = path ≡ codes "/sweep"
 
 -- ---- what is asked, by the path and then by the body
 
--- of an account GET asks for the balance, PUT opens it
-abbrev pub account_command : Bytes → AccountName → Command
-account_command method a = if is_get method then command.Balance a else command.OpenAccount a
-
-abbrev pub account_asked : Bytes → Bytes → Result Command WireFault
-account_asked method target = account_in target >>= λ a. Ok (account_command method a)
-
-abbrev pub credit_asked : Bytes → Bytes → Result Command WireFault
-credit_asked target body =
-    account_in target >>= λ a. credit_of a body >>= λ c. Ok (command.Credit c)
-
-abbrev pub allowance_asked : Bytes → Bytes → Result Command WireFault
-allowance_asked target body =
-    account_in target >>= λ a. allowance_of a body >>= λ x. Ok (command.Allow x)
-
--- rule: http-paths
-abbrev pub redemption_asked : Bytes → Bytes → Result Command WireFault
-redemption_asked target body =
-    code_in target >>= λ c. redemption_of c body >>= λ r. Ok (command.Redeem r)
-
--- the account, and then the month
--- rule: http-paths
-abbrev pub statement_in : Bytes → Result StatementAsked WireFault
-statement_in target =
-    account_in target >>= λ a. month_in target >>= λ m. Ok (record { account = a; month = m })
-
--- of a route that has the method
+-- Of a route that has the method. Of an account GET asks for the balance, PUT opens it; of a
+-- statement the account is read, and then the month.
 -- rule: http-paths: faults in the path before faults in the body
 abbrev pub asking_by : Route → Bytes → Bytes → Bytes → Asking
 asking_by Ccr method target body = reads (command_of body)
-asking_by Account method target body = reads (account_asked method target)
-asking_by Statement method target body = stated (statement_in target)
-asking_by Credits method target body = reads (credit_asked target body)
-asking_by Allowances method target body = reads (allowance_asked target body)
-asking_by Redeem method target body = reads (redemption_asked target body)
+asking_by Account method target body = reads (account_in target >>= λ a.
+    Ok (if is_get method then command.Balance a else command.OpenAccount a))
+asking_by Statement method target body = stated (account_in target >>= λ a.
+    or_fault (Invalid avp.Month) (month_of (part_behind 4 target)) >>= λ m.
+    Ok (record { account = a; month = m }))
+  where
+    stated : Result StatementAsked WireFault → Asking
+    stated (Ok q) = states q
+    stated (Err fault) = reads (Err fault)
+asking_by Credits method target body = reads (account_in target >>= λ a.
+    credit_of a body >>= λ c. Ok (command.Credit c))
+asking_by Allowances method target body = reads (account_in target >>= λ a.
+    allowance_of a body >>= λ x. Ok (command.Allow x))
+asking_by Redeem method target body = reads (code >>= λ c.
+    redemption_of c body >>= λ r. Ok (command.Redeem r))
+  where
+    code : Result VoucherCode WireFault
+    code = if is_voucher_code (part_behind 2 target) then Ok (part_behind 2 target)
+        else Err (Invalid avp.VoucherCode)
 asking_by Sweep method target body = reads (Ok command.Sweep)

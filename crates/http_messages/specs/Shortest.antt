@@ -1,9 +1,15 @@
 -- A head part by what it is of its stream: the shortest beginning that ends with an empty line.
-use Rattle.std.specs.Prelude.{◌≡◌, ◌<◌, ◌≤◌, ◌++◌, ℕ, length, take, false, true}
+use Rattle.std.specs.Prelude.{◌≡◌, ◌<◌, ◌≤◌, ◌++◌, ◌∷◌, [], ℕ, Bool, length, nat_eq, take}
+use Rattle.std.specs.Prelude.{false, true}
+use Rattle.std.specs.List.{ends_with}
 use Rattle.texts.specs.StreamWords.{Bytes}
 use Rattle.http_messages.specs.Words.{most_head}
-use Rattle.http_messages.specs.Parts.{Part, whole, too_long, cut, first_part, ends_head}
+use Rattle.http_messages.specs.Parts.{Part, whole, too_long, cut, first_part}
 use Rattle.http_messages.specs.Requests.{Next, IsNext}
+
+-- the bytes end with an empty line: CR LF CR LF
+abbrev pub ends_head : Bytes → Bool
+ends_head bytes = ends_with nat_eq bytes (13 ∷ 10 ∷ 13 ∷ 10 ∷ [])
 
 -- no beginning of at most so many bytes ends with an empty line
 abbrev pub HasNoEnd : ℕ → Bytes → Type 0

@@ -40,12 +40,11 @@ not_implemented = 501
 abbrev pub service_unavailable : ℕ
 service_unavailable = 503
 
--- an answer has one of these
-abbrev pub answer_statuses : List ℕ
-answer_statuses = ok ∷ bad_request ∷ not_found ∷ method_not_allowed ∷ length_required
-    ∷ payload_too_large ∷ fields_too_large ∷ not_implemented ∷ service_unavailable ∷ []
-
--- the status is one of the nine
+-- the status is one of these nine
 -- rule: http-answer.answer-status: an answer over HTTP has one of nine statuses, with its phrase
 abbrev pub IsAnswerStatus : StatusCode → Type 0
-IsAnswerStatus status = IsTrue (list_any (λ s. s == status) answer_statuses)
+IsAnswerStatus status = IsTrue (list_any (λ s. s == status) nine)
+  where
+    nine : List ℕ
+    nine = ok ∷ bad_request ∷ not_found ∷ method_not_allowed ∷ length_required
+        ∷ payload_too_large ∷ fields_too_large ∷ not_implemented ∷ service_unavailable ∷ []

@@ -1,6 +1,6 @@
 -- The table of routes: which route a path has, and what a request asks by it.
 -- Source: profile.
-use Rattle.std.specs.Prelude.{◌≡◌, Bool, List, [], ◌∷◌, ◌==◌, Option, Some, None, Result, Ok, Err}
+use Rattle.std.specs.Prelude.{◌≡◌, List, [], ◌∷◌, ◌==◌, Option, Some, None, Result, Ok, Err}
 use Rattle.std.specs.Prelude.{option_map, if◌then◌else◌}
 use Rattle.std.specs.List.{list_any}
 use Rattle.texts.specs.StreamWords.{Bytes}
@@ -8,7 +8,7 @@ use Rattle.matchit.specs.Rows.{RowsOf}
 use Rattle.matchit.specs.Seek.{first}
 use Rattle.matchit.specs.Level.{IsText}
 use Rattle.matchit.specs.Route.{parse_route, Scan}
-use Rattle.matchit.specs.Router.{RouteOf, nearest, route_from}
+use Rattle.matchit.specs.Router.{RouteOf, route_from}
 use Rattle.matchit.specs.Order.{placed}
 use Rattle.matchit.specs.declared.InsertError.{InsertError}
 use Rattle.http_messages.specs.Asking.{Asking, refuses}
@@ -28,24 +28,11 @@ added_read (Err e) value rows = rows
 abbrev pub added : Bytes → Route → Rows → Rows
 added text value rows = added_read (parse_route text) value rows
 
--- a pattern that reads well, and conflicts with none of the rows
-abbrev pub fits_read : Result Scan InsertError → Rows → Type 0
-fits_read (Ok scan) rows = nearest scan.pattern rows ≡ None
-fits_read (Err e) rows = ⊥
-
-abbrev pub Fits : Bytes → Rows → Type 0
-Fits text rows = fits_read (parse_route text) rows
-
--- rows with one more for each of these routes, and that each of them fits among those before it
+-- rows with one more for each of these routes
 abbrev pub with_routes : List Route → Rows → Rows
 with_routes [] rows = rows
 with_routes (route ∷ rest) rows =
     with_routes rest (added (about_route route).pattern route rows)
-
-abbrev pub AreFitting : List Route → Rows → Type 0
-AreFitting [] rows = Unit {0}
-AreFitting (route ∷ rest) rows = Fits (about_route route).pattern rows
-    × AreFitting rest (added (about_route route).pattern route rows)
 
 -- the table has a row for each route
 -- rule: http-path
@@ -65,25 +52,17 @@ pub record AreRoutesPaths : Type 0 where
   pub each : (path : Bytes) (route : Route) → IsText path → IsPathOf route path →
       route_at path ≡ Some route
 
--- a target has a query: a question mark
-abbrev pub has_query : Bytes → Bool
-has_query target = list_any (λ b. b == 63) target
-
--- what a target names: the route of its path; none where it has a query
+-- what a target names: the route of its path; none where it has a query, a question mark
 -- rule: http-path
 abbrev pub route_of : Bytes → Option Route
-route_of target = if has_query target then None else route_at target
-
--- whether a route has a method
-abbrev pub serves : Route → Bytes → Bool
-serves route method = (about_route route).has method
+route_of target = if list_any (λ b. b == 63) target then None else route_at target
 
 -- first the path, then the method, then what is read
-abbrev pub asked_by : Option Route → Ask → Asking
-asked_by None ask = refuses not_found
-asked_by (Some route) ask = if serves route ask.method
-    then asking_by route ask.method ask.target ask.body else refuses method_not_allowed
-
 -- rule: http-path
 abbrev pub asked_of : Ask → Asking
 asked_of ask = asked_by (route_of ask.target) ask
+  where
+    asked_by : Option Route → Ask → Asking
+    asked_by None asked = refuses not_found
+    asked_by (Some route) asked = if (about_route route).has asked.method
+        then asking_by route asked.method asked.target asked.body else refuses method_not_allowed

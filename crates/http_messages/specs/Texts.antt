@@ -23,28 +23,25 @@ phrase status = unwrap_or (reason_phrase status) []
 abbrev pub closing_line : Bool → Bytes
 closing_line closes = if closes then codes "Connection: close\r\n" else []
 
-abbrev pub type_and_length : Bytes
-type_and_length = codes "\r\nContent-Type: application/json\r\nContent-Length: "
-
 -- the bytes of an answer
 -- rule: http-answer: the bytes of an answer, or a beginning of them
 abbrev pub response : StatusCode → Bool → Bytes → Bytes
 response status closes body =
-    codes "HTTP/1.1 " ++ (decimal status ++ (codes " " ++ (phrase status ++ (type_and_length
+    codes "HTTP/1.1 " ++ (decimal status ++ (codes " " ++ (phrase status
+    ++ (codes "\r\nContent-Type: application/json\r\nContent-Length: "
     ++ (decimal (length body) ++ (codes "\r\n" ++ (closing_line closes
     ++ (codes "\r\n" ++ body))))))))
-
--- the head of an answer whose body is so long and no JSON
-abbrev pub text_head : StatusCode → Bool → ℕ → Bytes
-text_head status closes n =
-    codes "HTTP/1.1 " ++ (decimal status ++ (codes " " ++ (phrase status
-    ++ (codes "\r\nContent-Type: text/plain\r\nContent-Length: "
-    ++ (decimal n ++ (codes "\r\n" ++ (closing_line closes ++ codes "\r\n")))))))
 
 -- the bytes of an answer whose body is of this kind
 abbrev pub response_of : Media → StatusCode → Bool → Bytes → Bytes
 response_of Json status closes body = response status closes body
 response_of Text status closes body = text_head status closes (length body) ++ body
+  where
+    text_head : StatusCode → Bool → ℕ → Bytes
+    text_head status closes n =
+        codes "HTTP/1.1 " ++ (decimal status ++ (codes " " ++ (phrase status
+        ++ (codes "\r\nContent-Type: text/plain\r\nContent-Length: "
+        ++ (decimal n ++ (codes "\r\n" ++ (closing_line closes ++ codes "\r\n")))))))
 
 -- the body of a refusal
 abbrev pub no_members : Bytes

@@ -6,8 +6,10 @@ ghost use Rattle.std.specs.List.{list_all};
 ghost use Rattle.std.specs.Char.{is_ascii_digit};
 ghost use Rattle.std.specs.Str.Parse.{digits_value};
 ghost use Rattle.httparse.specs.Spans.{IsHeaderWithin, header_bytes};
-ghost use Rattle.http_messages.specs.Fields.{same_name, values_of, said_number, said_length};
-ghost use Rattle.http_messages.specs.Fields.{length_without, length_by, body_length, says_close};
+ghost use Rattle.http_messages.specs.Fields.{same_name, values_of};
+ghost use Rattle.http_messages.specs.MessageParts.{said_number, said_length};
+ghost use Rattle.http_messages.specs.Fields.{body_length};
+ghost use Rattle.http_messages.specs.MessageParts.{length_without, length_by, says_close};
 ghost use Rattle.http_messages.specs.Found.{IsFound, FoundWithin};
 
 use http::{Method, StatusCode};

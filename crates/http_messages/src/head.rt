@@ -5,7 +5,8 @@ ghost use Rattle.std.specs.Prelude.{string_bytes};
 ghost use Rattle.http.specs.Token.{IsToken};
 ghost use Rattle.httparse.specs.Grammar.{RequestHead};
 ghost use Rattle.httparse.specs.Spans.{IsRequestAt, IsRequestWithin};
-ghost use Rattle.http_messages.specs.Requests.{IsHead, IsHeadIn};
+ghost use Rattle.http_messages.specs.MessageParts.{IsHead};
+ghost use Rattle.http_messages.specs.RequestsGiven.{IsHeadIn};
 
 use crate::fields::{body_length, count_closing};
 use http::method::MethodError;

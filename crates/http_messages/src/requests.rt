@@ -3,7 +3,8 @@
 ghost use Rattle.std.specs.Prelude.{◌≤◌, length, IfOk, IsErrOf, IfSome};
 ghost use Rattle.httparse.specs.Grammar.{RequestHead};
 ghost use Rattle.http_messages.specs.Parts.{Part, whole, first_part, IsHeadPart, IsShort};
-ghost use Rattle.http_messages.specs.Requests.{TellsNext, IsHeadOf, Tells, after_head, SaysStatus};
+ghost use Rattle.http_messages.specs.Requests.{after_head};
+ghost use Rattle.http_messages.specs.RequestsGiven.{TellsNext, IsHeadOf, Tells, SaysStatus};
 ghost use Rattle.http_messages.specs.Words.{most_head};
 
 use crate::buffers::Buffers;

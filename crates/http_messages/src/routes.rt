@@ -4,8 +4,11 @@ ghost use Rattle.std.specs.Prelude.{◌≡◌, IfOk, OnOk, OnErr};
 ghost use Rattle.matchit.specs.declared.InsertError.TheVariants.{OutOfMemory};
 ghost use Rattle.http_messages.specs.Methods.{is_get, is_post, is_put};
 ghost use Rattle.http_messages.specs.Routes.{about_route};
-ghost use Rattle.http_messages.specs.Table.{Fits, AreFitting, added, with_routes, table};
-ghost use Rattle.http_messages.specs.Table.{route_at, has_query, route_of, serves};
+ghost use Rattle.http_messages.specs.Table.{with_routes, table};
+ghost use Rattle.http_messages.specs.MessageParts.{Fits, AreFitting};
+ghost use Rattle.http_messages.specs.Table.{added};
+ghost use Rattle.http_messages.specs.Table.{route_at, route_of};
+ghost use Rattle.http_messages.specs.MessageParts.{has_query, serves};
 
 use http::Method;
 use matchit::{InsertError, Router};

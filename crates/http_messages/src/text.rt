@@ -8,8 +8,10 @@ ghost use Rattle.std.specs.Io.KnownBytes.{Appends};
 ghost use Rattle.http_messages.specs.Statuses.{bad_request, ok, service_unavailable};
 ghost use Rattle.wire.specs.Spelled.{fault_text};
 ghost use Rattle.http_messages.specs.declared.text.Media.TheVariants.{Text};
-ghost use Rattle.http_messages.specs.Texts.{phrase, closing_line, response, type_and_length};
-ghost use Rattle.http_messages.specs.Texts.{text_head, unable, Begins, TellsText, TellsFault};
+ghost use Rattle.http_messages.specs.Texts.{phrase, closing_line, response};
+ghost use Rattle.http_messages.specs.MessageParts.{type_and_length};
+ghost use Rattle.http_messages.specs.Texts.{unable, Begins, TellsText, TellsFault};
+ghost use Rattle.http_messages.specs.MessageParts.{text_head};
 ghost use Rattle.http_messages.specs.Texts.{WritesText, WritesTold};
 
 use http::StatusCode;

@@ -1,5 +1,5 @@
 use Rattle.std.proofs.Common.{refl, subst}
-use Rattle.http_messages.specs.Requests.{Tells}
+use Rattle.http_messages.specs.RequestsGiven.{Tells}
 use Rattle.http_api.proofs.HeadRefusals.{refused_heard}
 use Rattle.http_api.proofs.hearing.heard_of.Goals as goal
 

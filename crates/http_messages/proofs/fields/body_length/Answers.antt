@@ -1,6 +1,7 @@
 use Rattle.std.proofs.Common.{codes, map}
 use Rattle.httparse.specs.Spans.{header_bytes}
-use Rattle.http_messages.specs.Fields.{values_of, length_by}
+use Rattle.http_messages.specs.Fields.{values_of}
+use Rattle.http_messages.specs.MessageParts.{length_by}
 use Rattle.http_messages.proofs.Founds.{unless_none}
 use Rattle.http_messages.proofs.fields.body_length.Goals as goal
 

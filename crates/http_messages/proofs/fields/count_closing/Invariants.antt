@@ -1,7 +1,7 @@
 use Rattle.std.proofs.Common.{◌≡◌, ◌≤◌, map, take}
 use Rattle.std.specs.Prelude.{count_by}
 use Rattle.httparse.specs.Spans.{header_bytes}
-use Rattle.http_messages.specs.Fields.{says_close}
+use Rattle.http_messages.specs.MessageParts.{says_close}
 use Rattle.http_messages.proofs.fields.count_closing.Given as goal
 
 abbrev pub invariant-loop-field : goal.invariant-loop-field

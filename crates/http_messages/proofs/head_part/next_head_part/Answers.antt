@@ -1,7 +1,8 @@
 use Rattle.std.proofs.Common.{◌≡◌, ◌≤◌, ℕ, List, ◌∷◌, [], length, true, false, IfSome, Some, None}
 use Rattle.std.proofs.Common.{Option, arith, rules, subst, sym, ◌∙◌}
 use Rattle.http_messages.specs.declared.head_part.HeadPart.TheVariants as head_part
-use Rattle.http_messages.specs.Parts.{first_part, part_after, ends_head, IsHeadPart, too_long}
+use Rattle.http_messages.specs.Parts.{first_part, part_after, IsHeadPart, too_long}
+use Rattle.http_messages.specs.Shortest.{ends_head}
 use Rattle.texts.proofs.PieceLemmas.{piece_length}
 use Rattle.http_messages.proofs.Pieces.{IsKnown, goes_on, ends_whole}
 use Rattle.http_messages.proofs.Shown.{ended, whole_taken, short_taken}

@@ -1,6 +1,6 @@
 use Rattle.std.proofs.Common.{subst, sym}
 use Rattle.http_messages.specs.Routes.{every_route}
-use Rattle.http_messages.specs.Table.{AreFitting}
+use Rattle.http_messages.specs.MessageParts.{AreFitting}
 use Rattle.http_messages.proofs.Fitting.{all_fit}
 use Rattle.http_messages.proofs.routes.known_router.Goals as goal
 
