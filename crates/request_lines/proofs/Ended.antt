@@ -1,6 +1,6 @@
 -- What answering lines ends with, by the keeper's fault and by what became of writing the answers.
 use Rattle.std.proofs.Common.{◌≡◌, ℕ, List, map, refl, sym, ap, subst, ◌∙◌, Option, Some, None}
-use Rattle.std.proofs.Common.{IfSome, Result, Ok, Err, le_refl, length, []}
+use Rattle.std.proofs.Common.{IfSome, Result, Ok, Err, length, []}
 use Rattle.std.proofs.lemmas.Option.{none-some}
 use Rattle.std.specs.Prelude.{IfErr, IfNone, OnOk, OnErr}
 use Rattle.std.specs.Io.KnownBytes.{Appends}
@@ -23,11 +23,12 @@ use Rattle.request_lines.specs.Input.{told_fault, IsInput}
 use Rattle.request_lines.specs.Lines.{line_request}
 use Rattle.request_lines.specs.Served.{opening_for, answer_texts, faults_in, AnswersLines}
 use Rattle.request_lines.specs.Served.{IsAnswered}
-use Rattle.request_lines.specs.Served.{BeginsLines, AreLinesBegun, IsCut, TellsLines}
-use Rattle.request_lines.specs.Served.{IsRunOpened, IsStopped, IsUntold}
+use Rattle.request_lines.specs.Served.{BeginsLines, AreLinesBegun, IsShort, TellsLines}
+use Rattle.request_lines.specs.Served.{IsRunOpened, IsUntold}
 use Rattle.request_lines.proofs.Answered.{answered-run, begun-none, begun-run, continued-same}
 use Rattle.request_lines.proofs.Answered.{short-run}
 use Rattle.request_lines.proofs.Answered.{untold-run}
+use Rattle.request_lines.proofs.Carried.{carried-none}
 
 -- ---- which fault it is
 
@@ -72,35 +73,6 @@ pub ended-read : {A : Type 0} (fault : Option StoreFault) (written : Result A St
     result ≡ Err (Read f) → ⊥
 ended-read fault written result f e k =
     no_read fault written (subst IsRead (sym k ∙ e) tt)
-
-store_told : {A : Type 0} (fault : Option StoreFault) (written : Result A StreamFault)
-    (f : StoreFault) → store_in (ended_as fault written) ≡ Some f → fault ≡ Some f
-unfolding store_in
-store_told None (Ok x) f h = absurd (none-some f h)
-store_told None (Err g) f h = absurd (none-some f h)
-store_told (Some k) (Ok x) f h = h
-store_told (Some k) (Err g) f h = absurd (none-some f h)
-
-both_told : {A : Type 0} (fault : Option StoreFault) (written : Result A StreamFault)
-    (f : StoreFault) → both_in (ended_as fault written) ≡ Some f → fault ≡ Some f
-unfolding both_in
-both_told None (Ok x) f h = absurd (none-some f h)
-both_told None (Err g) f h = absurd (none-some f h)
-both_told (Some k) (Ok x) f h = absurd (none-some f h)
-both_told (Some k) (Err g) f h = h
-
--- the keeper's fault is the one that is reported
-pub ended-store : {A : Type 0} (fault : Option StoreFault) (written : Result A StreamFault)
-    (result : Result A LinesFault) (f : StoreFault) → result ≡ ended_as fault written →
-    result ≡ Err (Store f) → fault ≡ Some f
-unfolding store_in
-ended-store fault written result f e k = store_told fault written f (ap store_in (sym e ∙ k))
-
-pub ended-both : {A : Type 0} (fault : Option StoreFault) (written : Result A StreamFault)
-    (result : Result A LinesFault) (f : StoreFault) → result ≡ ended_as fault written →
-    result ≡ Err (Both f) → fault ≡ Some f
-unfolding both_in
-ended-both fault written result f e k = both_told fault written f (ap both_in (sym e ∙ k))
 
 -- ---- what is left
 
@@ -149,7 +121,7 @@ module _ {A : Type 0} (b : Shelf) (amount : Option ℕ) (w0 w1 r : Option (List 
   stopped : (fault : Option StoreFault) (written : Result A StreamFault) (f : StoreFault) →
       store_in (ended_as fault written) ≡ Some f →
       IsWritten b amount w0 w1 r old new fault written →
-      IfSome r (λ stream. ForEachList b old (IsStopped b amount stream w0 w1 new))
+      IfSome r (λ stream. ForEachList b old (IsShort b amount stream (Appends w0 w1) new))
   unfolding store_in
   stopped None (Ok x) f k h = absurd (none-some f k)
   stopped None (Err g) f k h = absurd (none-some f k)
@@ -161,7 +133,7 @@ module _ {A : Type 0} (b : Shelf) (amount : Option ℕ) (w0 w1 r : Option (List 
   pub ended-stopped : (fault : Option StoreFault) (written : Result A StreamFault)
       (result : Result A LinesFault) (f : StoreFault) → result ≡ ended_as fault written →
       result ≡ Err (Store f) → IsWritten b amount w0 w1 r old new fault written →
-      IfSome r (λ stream. ForEachList b old (IsStopped b amount stream w0 w1 new))
+      IfSome r (λ stream. ForEachList b old (IsShort b amount stream (Appends w0 w1) new))
   unfolding store_in
   ended-stopped fault written result f e k h =
       stopped fault written f (ap store_in (sym e ∙ k)) h
@@ -169,7 +141,7 @@ module _ {A : Type 0} (b : Shelf) (amount : Option ℕ) (w0 w1 r : Option (List 
   cut : (fault : Option StoreFault) (written : Result A StreamFault) (f : StoreFault) →
       both_in (ended_as fault written) ≡ Some f →
       IsWritten b amount w0 w1 r old new fault written →
-      IfSome r (λ stream. ForEachList b old (IsCut b amount stream w0 w1 new))
+      IfSome r (λ stream. ForEachList b old (IsShort b amount stream (WritesBeginning w0 w1) new))
   unfolding both_in
   cut None (Ok x) f k h = absurd (none-some f k)
   cut None (Err g) f k h = absurd (none-some f k)
@@ -181,7 +153,7 @@ module _ {A : Type 0} (b : Shelf) (amount : Option ℕ) (w0 w1 r : Option (List 
   pub ended-cut : (fault : Option StoreFault) (written : Result A StreamFault)
       (result : Result A LinesFault) (f : StoreFault) → result ≡ ended_as fault written →
       result ≡ Err (Both f) → IsWritten b amount w0 w1 r old new fault written →
-      IfSome r (λ stream. ForEachList b old (IsCut b amount stream w0 w1 new))
+      IfSome r (λ stream. ForEachList b old (IsShort b amount stream (WritesBeginning w0 w1) new))
   unfolding both_in
   ended-cut fault written result f e k h = cut fault written f (ap both_in (sym e ∙ k)) h
 
@@ -217,35 +189,6 @@ pub ended-write : {A : Type 0} (P : StreamFault → Type 0) (fault : Option Stor
     (written : Result A StreamFault) (result : Result A LinesFault) (f : StreamFault) →
     result ≡ ended_as fault written → result ≡ Err (Write f) → IfErr written P → P f
 ended-write P fault written result f e k h = write_told P fault written f (sym e ∙ k) h
-
--- ---- whether the keeper can be asked after it
-
--- after all was run, and only then is it no fault of the keeper
-stands_told : {A : Type 0} (P : Type 0) (fault : Option StoreFault)
-    (written : Result A StreamFault) → IfNone fault P → OnOk (ended_as fault written) P
-stands_told P None (Ok x) h = h
-stands_told P None (Err g) h = tt
-stands_told P (Some f) (Ok x) h = tt
-stands_told P (Some f) (Err g) h = tt
-
-pub ended-stands : {A : Type 0} (P : Type 0) (fault : Option StoreFault)
-    (written : Result A StreamFault) (result : Result A LinesFault) →
-    result ≡ ended_as fault written → IfNone fault P → OnOk result P
-ended-stands {A = A} P fault written result e h =
-    subst (λ (r : Result A LinesFault). OnOk r P) (sym e) (stands_told P fault written h)
-
-asked_told : {A P : Type 0} (fault : Option StoreFault) (written : Result A StreamFault) →
-    IsWrite (ended_as fault written) → IfNone fault P → P
-asked_told None (Ok x) k h = absurd k
-asked_told None (Err g) k h = h
-asked_told (Some f) (Ok x) k h = absurd k
-asked_told (Some f) (Err g) k h = absurd k
-
-pub ended-asked : {A P : Type 0} (fault : Option StoreFault) (written : Result A StreamFault)
-    (result : Result A LinesFault) (f : StreamFault) → result ≡ ended_as fault written →
-    result ≡ Err (Write f) → IfNone fault P → P
-ended-asked fault written result f e k h =
-    asked_told fault written (subst IsWrite (sym k ∙ e) tt) h
 
 -- ---- what is answered, whatever the keeper holds
 
@@ -320,8 +263,5 @@ none_answered {A = A} b amount r w keeper result f is = record {
   both = λ fault no whole. absurd (subst IsRead (sym is ∙ no) tt);
   untold = λ fault no whole. absurd (subst IsRead (sym is ∙ no) tt);
   continued = λ whole. continued-same b keeper.tables;
-  cleanness = λ whole. whole;
-  failures = le_refl keeper.failed;
-  cause = λ no. absurd (subst IsRead (sym is ∙ no) tt);
-  cause_of_both = λ no. absurd (subst IsRead (sym is ∙ no) tt);
+  keeper = carried-none keeper result f is;
 }

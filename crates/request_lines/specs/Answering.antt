@@ -1,13 +1,13 @@
 -- What answering the lines of a reader leaves of a keeper and a writer.
 -- Source: profile.
-use Rattle.std.specs.Prelude.{◌≡◌, ◌≢◌, Option, IfSome, Result, Err, OnOk, OnErr}
+use Rattle.std.specs.Prelude.{◌≡◌, ◌≢◌, ◌⊎◌, Option, IfSome, Result, Err, OnOk, OnErr}
 use Rattle.units.specs.Words.{Micros}
 use Rattle.texts.specs.StreamWords.{Bytes}
 use Rattle.texts.specs.declared.streams.StreamFault.{StreamFault}
 use Rattle.texts.specs.declared.streams.StreamFault.TheVariants.{Read as ReadFailed}
 use Rattle.shelves.specs.Shelves.{Shelf}
 use Rattle.keepers.specs.Seen.{Seen}
-use Rattle.charging.specs.Parts.{Leaves}
+use Rattle.keepers.specs.Tables.{Tables}
 use Rattle.operations.specs.Imports.{HoldsBeginning}
 use Rattle.request_lines.specs.Served.{AnswersLines, BeginsLines, TellsLines, commands_of}
 use Rattle.request_lines.specs.declared.fault.LinesFault.{LinesFault}
@@ -30,12 +30,7 @@ pub record LinesOver {A K W : Type 0} (seen : K → Seen) (contents : W → Opti
   -- rule: request-lines
   pub unwritten : (fault : StreamFault) → result ≡ Err (Read fault) → after ≡ before
   pub fault : (fault : StreamFault) → result ≡ Err (Write fault) → fault ≢ ReadFailed
-  pub honesty : (seen new).honest → (seen old).honest
   -- rule: request-lines
-  pub stands : (seen new).honest → (seen old).clean → OnOk result (seen new).clean
-  -- rule: request-lines
-  pub asked : (fault : StreamFault) → result ≡ Err (Write fault) → (seen new).honest →
-      (seen old).clean → (seen new).clean
-  -- rule: request-lines
-  pub left : (seen old).clean → Leaves (seen old) (seen new) (λ t. IfSome bytes (λ stream.
-      HoldsBeginning b (commands_of opening stream) (seen old).tables t))
+  pub left : (seen old).clean → (seen new).honest → (t : Tables) → (seen new).left t →
+      (seen old).left t ⊎ IfSome bytes (λ stream.
+      HoldsBeginning b (commands_of opening stream) (seen old).tables t)

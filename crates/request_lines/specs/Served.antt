@@ -2,7 +2,7 @@
 -- is answered.
 -- Source: profile.
 use Rattle.std.specs.Prelude.{ℕ, List, [], ◌∷◌, ◌++◌, codes, length, map, take, drop, Option, Some}
-use Rattle.std.specs.Prelude.{None, IfNone, IfSome, Result, Ok, Err, ◌≡◌, ◌<◌, ◌≤◌, ◌+◌, min}
+use Rattle.std.specs.Prelude.{None, IfNone, IfSome, Result, Ok, Err, ◌≡◌, ◌<◌, ◌+◌}
 use Rattle.std.specs.Prelude.{OnOk, OnErr}
 use Rattle.std.specs.Io.KnownBytes.{Appends}
 use Rattle.units.specs.Words.{Micros}
@@ -16,19 +16,18 @@ use Rattle.commands.specs.declared.command.Command.TheVariants.{Ccr, OpenAccount
 use Rattle.json_fields.specs.declared.fault.WireFault.{WireFault}
 use Rattle.wire.specs.Spelled.{answer_text, fault_text}
 use Rattle.shelves.specs.Shelves.{Shelf}
-use Rattle.keepers.specs.Faults.{max_failures}
 use Rattle.keepers.specs.Seen.{Seen}
 use Rattle.keepers.specs.Tables.{Tables}
 use Rattle.keepers.specs.declared.fault.StoreFault.{StoreFault}
-use Rattle.keepers.specs.declared.fault.StoreFault.TheVariants.{Store as StoreFailed}
 use Rattle.charging.specs.Accepted.{Accepted, IsInTime}
 use Rattle.charging.specs.Continued.{ForEachList, Continues}
+use Rattle.charging.specs.Promise.{Carries}
 use Rattle.charging.specs.declared.running.DatedCommand.{DatedCommand}
 use Rattle.charging.specs.Served.{AreTables}
 use Rattle.charging.specs.Runs.{answers_to, after_commands}
 use Rattle.request_lines.specs.Lines.{line_request}
 use Rattle.request_lines.specs.declared.fault.LinesFault.{LinesFault}
-use Rattle.request_lines.specs.declared.fault.LinesFault.TheVariants.{Both, Store, Write}
+use Rattle.request_lines.specs.declared.fault.LinesFault.TheVariants.{Both, Read, Store, Write}
 use Rattle.operations.specs.Written.{WritesBeginning}
 
 -- ---- commands
@@ -136,19 +135,6 @@ pub record IsShort (b : Shelf) (opening : Option Micros) (stream : Bytes) (Write
   pub tables : AreTables b (after_commands b list (take count (commands_of opening stream))) content
   pub written : Writes (text_to count b list opening stream)
 
--- all of that text
--- rule: request-lines
-abbrev pub IsStopped : Shelf → Option Micros → Bytes → Option Bytes → Option Bytes → Tables →
-    List Accepted → Type 0
-IsStopped b opening stream old new content list =
-    IsShort b opening stream (Appends old new) content list
-
--- or a beginning of it
-abbrev pub IsCut : Shelf → Option Micros → Bytes → Option Bytes → Option Bytes → Tables →
-    List Accepted → Type 0
-IsCut b opening stream old new content list =
-    IsShort b opening stream (WritesBeginning old new) content list
-
 -- the same, where all commands may have been run
 -- rule: request-lines
 pub record AreLinesBegun (b : Shelf) (opening : Option Micros) (stream : Bytes)
@@ -174,6 +160,14 @@ pub record IsRunOpened {F : Type 0} (b : Shelf) (opening requests : List DatedCo
 
 -- ---- over a keeper, a reader and a writer
 
+-- the keeper's fault that answering lines ended with, where it is one
+abbrev pub keeper_fault : {A : Type 0} → Result A LinesFault → Option StoreFault
+keeper_fault (Ok answered) = None
+keeper_fault (Err (Read fault)) = None
+keeper_fault (Err (Store fault)) = Some fault
+keeper_fault (Err (Both fault)) = Some fault
+keeper_fault (Err (Write fault)) = None
+
 -- what answering lines leaves of a keeper that stays clean, where the reader shows its bytes: all
 -- are answered, or a beginning of them, and the faults of the keeper and of the writer say which
 -- rule: request-lines
@@ -188,20 +182,17 @@ pub record AnswersLines {A : Type 0} (b : Shelf) (opening : Option Micros)
   -- rule: request-lines
   pub stopped : (fault : StoreFault) → result ≡ Err (Store fault) → new.clean →
       IfSome bytes (λ stream. ForEachList b old.tables
-      (IsStopped b opening stream empty full new.tables))
+      (IsShort b opening stream (Appends empty full) new.tables))
   pub both : (fault : StoreFault) → result ≡ Err (Both fault) → new.clean →
       IfSome bytes (λ stream. ForEachList b old.tables
-      (IsCut b opening stream empty full new.tables))
+      (IsShort b opening stream (WritesBeginning empty full) new.tables))
   pub untold : (fault : StreamFault) → result ≡ Err (Write fault) → new.clean →
       IfSome bytes (λ stream. ForEachList b old.tables
       (IsUntold b opening stream empty full new.tables))
   -- rule: request-lines
   pub continued : new.clean → Continues b old.tables new.tables
-  pub cleanness : new.clean → old.clean
-  pub failures : old.failed ≤ new.failed
-  pub cause : result ≡ Err (Store StoreFailed) → min (old.failed + 1) max_failures ≤ new.failed
-  pub cause_of_both : result ≡ Err (Both StoreFailed) →
-      min (old.failed + 1) max_failures ≤ new.failed
+  -- rule: request-lines
+  pub keeper : Carries old new (keeper_fault result)
 
 -- ---- whatever a keeper holds
 

@@ -1,5 +1,6 @@
 use Rattle.ocs.proofs.OnceLemmas.{once-answered, once-begun}
 use Rattle.ocs.proofs.EndLemmas.{reached_lines}
+use Rattle.request_lines.proofs.Carried.{carried-cause, carried-cause_of_both}
 use Rattle.ocs.proofs.doing.answer_lines.Goals as goal
 
 pub returns-clause-done : goal.returns-clause-done
@@ -11,5 +12,6 @@ returns-clause-fault g c = once-begun c.lines.result _ _ _ _ _ _ _ _ c.in_ok-she
     c.new-keeper.ensures.content (c.lines.ensures.answers.begun tt)
 
 pub returns-clause-reached : goal.returns-clause-reached
-returns-clause-reached g c = reached_lines c.lines.result c.lines.ensures.answers.cause
-    c.lines.ensures.answers.cause_of_both
+returns-clause-reached g c = reached_lines c.lines.result
+    (carried-cause _ _ c.lines.result c.lines.ensures.answers.keeper)
+    (carried-cause_of_both _ _ c.lines.result c.lines.ensures.answers.keeper)

@@ -5,16 +5,15 @@ use Rattle.std.specs.Prelude.{◌≢◌, OnErr, OnOk}
 use Rattle.texts.specs.declared.streams.StreamFault.{StreamFault}
 use Rattle.texts.specs.declared.streams.StreamFault.TheVariants.{Read as ReadFailed}
 use Rattle.charging.specs.declared.running.DatedCommand.{DatedCommand}
-use Rattle.keepers.specs.declared.fault.StoreFault.TheVariants.{Store as StoreFailed}
 use Rattle.operations.specs.Written.{WritesBeginning}
 use Rattle.request_lines.specs.Input.{told_fault}
 use Rattle.request_lines.specs.Served.{opening_for, answer_texts}
 use Rattle.operations.proofs.Beginnings.{on_err, whole_or_begun}
 use Rattle.request_lines.proofs.Answered.{continued-run}
-use Rattle.request_lines.proofs.Ended.{IsWritten, ended-answered, ended-asked, ended-begun}
-use Rattle.request_lines.proofs.Ended.{ended-both}
-use Rattle.request_lines.proofs.Ended.{begun_in, ended-cut, ended-read, ended-stopped, ended-store}
-use Rattle.request_lines.proofs.Ended.{ended-stands, ended-told, ended-untold, ended-write}
+use Rattle.request_lines.proofs.Carried.{carried-ended}
+use Rattle.request_lines.proofs.Ended.{IsWritten, ended-answered, ended-begun}
+use Rattle.request_lines.proofs.Ended.{begun_in, ended-cut, ended-read, ended-stopped}
+use Rattle.request_lines.proofs.Ended.{ended-told, ended-untold, ended-write}
 use Rattle.request_lines.proofs.Ended.{none_answered, none_begun, not_written}
 use Rattle.request_lines.proofs.HeldLines.{held-stream}
 use Rattle.request_lines.proofs.line_answers.lines.Goals as goal
@@ -33,9 +32,6 @@ returns-in_err-input g c =
       unread = search rules;
       unwritten = search rules;
       fault = λ fault told. absurd (not_written c.from_residual.result _ fault is told);
-      honesty = search rules;
-      stands = search rules;
-      asked = λ fault told. absurd (not_written c.from_residual.result _ fault is told);
       left = λ clean honest t left. inl left;
     }
 
@@ -54,9 +50,6 @@ returns-in_err-opening g c =
       unread = search rules;
       unwritten = search rules;
       fault = λ fault told. absurd (not_written result _ fault is told);
-      honesty = search rules;
-      stands = search rules;
-      asked = λ fault told. absurd (not_written result _ fault is told);
       left = λ clean honest t left. inl left;
     }
 
@@ -115,12 +108,15 @@ returns g c =
         continued = λ clean. continued-run b c.in_ok-opening.opening.items
             c.in_ok-input.input.requests.items old new c.run_opened-answers.result.answers.items fault
             (c.run_opened-answers.ensures.runs clean);
-        cleanness = c.run_opened-answers.ensures.cleanness;
-        failures = c.run_opened-answers.ensures.failures;
-        cause = λ k. c.run_opened-answers.ensures.cause
-            (ended-store fault written result StoreFailed is k);
-        cause_of_both = λ k. c.run_opened-answers.ensures.cause
-            (ended-both fault written result StoreFailed is k);
+        keeper = carried-ended (g.K.Keeper.seen c.args.keeper.now)
+            (g.K.Keeper.seen c.run_opened-answers.new.keeper) fault written result is
+            (record {
+              clean = c.run_opened-answers.ensures.cleanness;
+              honest = c.run_opened-answers.ensures.honesty;
+              stands = c.run_opened-answers.ensures.stands;
+              failures = c.run_opened-answers.ensures.failures;
+              cause = c.run_opened-answers.ensures.cause;
+            });
       };
       told = ended-told w0 w1 c.in_ok-input.input given fault written result r is
           c.in_ok-input.ensures c.run_opened-answers.ensures.whole whole;
@@ -131,13 +127,6 @@ returns g c =
       unwritten = λ f k. absurd (ended-read fault written result f is k);
       fault = λ f k. ended-write (λ (e : StreamFault). e ≢ ReadFailed) fault written result f is k
           c.write_output-written.ensures.fault;
-      honesty = c.run_opened-answers.ensures.honesty;
-      stands = λ honest clean.
-          ended-stands (g.K.Keeper.seen c.run_opened-answers.new.keeper).clean fault written result
-          is (c.run_opened-answers.ensures.stands honest clean);
-      asked = λ f k honest clean.
-          ended-asked fault written result f is k
-          (c.run_opened-answers.ensures.stands honest clean);
       left = λ clean honest t left. inr (held-stream b old t opening c.in_ok-input.input
           c.in_ok-opening.opening.items r c.in_ok-input.ensures opened
           (c.run_opened-answers.ensures.held honest clean t left));
