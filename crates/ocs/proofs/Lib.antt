@@ -1,3 +1,4 @@
 pub mod OnceLemmas
 pub mod EndLemmas
 pub mod Buffers
+pub mod Versions

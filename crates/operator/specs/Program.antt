@@ -148,6 +148,11 @@ command_app Replay = replay_app
 
 -- ---- the program
 
+-- what is printed of its version: its own, that of the tables of its databases, and the kit
+-- rule: version: the version that is printed
+abbrev pub version_text : Text
+version_text = codes "0.2.0, tables 3, rattle-kit-13f logic dac8208d650f15bf"
+
 -- its name and version; one of its commands must be there
 abbrev pub top_app : App
 top_app = let empty = new_app (codes "ocs") in

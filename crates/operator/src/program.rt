@@ -1,15 +1,16 @@
 //! The program's commands: their names, operands and options.
 
-ghost use Rattle.std.specs.Prelude.{◌≡◌, IfOk, false, nat_eq};
+ghost use Rattle.std.specs.Prelude.{◌≡◌, IfOk, Some, codes, false, nat_eq, option_map};
 ghost use Rattle.std.specs.List.{find};
 ghost use Rattle.std.specs.Cmp.Lexicographic.{pointwise};
-ghost use Rattle.clap.specs.Words.{app_of, with_rule, with_subcommand};
+ghost use Rattle.clap.specs.Words.{app_of, new_app, with_rule, with_subcommand};
 ghost use Rattle.clap.specs.declared.builder.command.Command.TheViews.{out-Command as fields_of};
 ghost use Rattle.operator.specs.Program.{account_app, allow_app, allow_operands_app, at, book_app};
 ghost use Rattle.operator.specs.Program.{command_app, command_name, command_named, credit_app};
 ghost use Rattle.operator.specs.Program.{credit_operands_app, import_app, init_app, migrate_app};
 ghost use Rattle.operator.specs.Program.{office_app, once_app, program_app, replay_app, serve_app};
-ghost use Rattle.operator.specs.Program.{statement_app, sweep_app, top_app, with_commands};
+ghost use Rattle.operator.specs.Program.{statement_app, sweep_app, top_app, version_text};
+ghost use Rattle.operator.specs.Program.{with_commands};
 
 use crate::arguments::{with_flag, with_operand, with_option};
 use crate::office::OfficeName;
@@ -102,6 +103,14 @@ const DATABASE: &str = "The database's file";
 
 const ACCOUNT: &str = "The account's number, 1 to 15 digits";
 
+/// A command of this name, with what it is for and an example of it, which its help has.
+fn named_command<'a>(alloc: Global, name: &'a str, about: &'a str, example: &'a str) -> Command<'a>
+    ensures app { app_of result ≡ new_app name.entry.now }
+    ensures local { (fields_of result).has_globals ≡ false }
+{
+    Command::new(alloc, name).about(about).after_help(example)
+}
+
 /// A command with the option `--at`.
 fn with_at<'a>(alloc: Global, command: Command<'a>) -> Result<Command<'a>, AllocError>
     requires { (fields_of command).has_globals ≡ false }
@@ -116,9 +125,12 @@ fn once_command<'a>(alloc: Global) -> Result<Command<'a>, AllocError>
     ensures app { IfOk result (λ c. app_of c ≡ once_app) }
     ensures local { IfOk result (λ c. (fields_of c).has_globals ≡ false) }
 {
-    let command = Command::new(alloc, "once").about(
-        "Answers requests from standard input, without a database",
+    let about = "Answers requests from standard input, without a database";
+    let example = concat!(
+        "Example: ocs once --credit 1000000 --price 100000 --block 60 ",
+        "< examples/requests/enquiry.in",
     );
+    let command = named_command(alloc, "once", about, example);
     let credit = "What the account is opened with, 1 to 10^15 micro-units";
     let command = with_option(alloc, command, "credit", "A", true, credit)?;
     let price = "The price of a block, 0 to 10^9 micro-units";
@@ -131,7 +143,9 @@ fn init_command<'a>(alloc: Global) -> Result<Command<'a>, AllocError>
     ensures app { IfOk result (λ c. app_of c ≡ init_app) }
     ensures local { IfOk result (λ c. (fields_of c).has_globals ≡ false) }
 {
-    let command = Command::new(alloc, "init").about("Creates a database for a tariff book");
+    let about = "Creates a database for a tariff book";
+    let example = "Example: ocs init office.db examples/book.toml";
+    let command = named_command(alloc, "init", about, example);
     let command = with_operand(alloc, command, "DB", DATABASE)?;
     with_operand(alloc, command, "BOOK", "The tariff book, as TOML")
 }
@@ -140,9 +154,9 @@ fn migrate_command<'a>(alloc: Global) -> Result<Command<'a>, AllocError>
     ensures app { IfOk result (λ c. app_of c ≡ migrate_app) }
     ensures local { IfOk result (λ c. (fields_of c).has_globals ≡ false) }
 {
-    let command = Command::new(alloc, "migrate").about(
-        "Brings a database of an older version to the latest",
-    );
+    let about = "Brings a database of an older version to the latest";
+    let example = "Example: ocs migrate office.db";
+    let command = named_command(alloc, "migrate", about, example);
     with_operand(alloc, command, "DB", DATABASE)
 }
 
@@ -150,7 +164,9 @@ fn book_command<'a>(alloc: Global) -> Result<Command<'a>, AllocError>
     ensures app { IfOk result (λ c. app_of c ≡ book_app) }
     ensures local { IfOk result (λ c. (fields_of c).has_globals ≡ false) }
 {
-    let command = Command::new(alloc, "book").about("Adds a tariff book to a database");
+    let about = "Adds a tariff book to a database";
+    let example = "Example: ocs book office.db examples/book.toml --from 1767657600";
+    let command = named_command(alloc, "book", about, example);
     let command = with_operand(alloc, command, "DB", DATABASE)?;
     let command = with_operand(alloc, command, "FILE", "The tariff book, as TOML")?;
     let from = "The moment from which the book holds, in seconds since 1970";
@@ -161,7 +177,9 @@ fn serve_command<'a>(alloc: Global) -> Result<Command<'a>, AllocError>
     ensures app { IfOk result (λ c. app_of c ≡ serve_app) }
     ensures local { IfOk result (λ c. (fields_of c).has_globals ≡ false) }
 {
-    let command = Command::new(alloc, "serve").about("Serves connections of HTTP on 127.0.0.1");
+    let about = "Serves connections of HTTP on 127.0.0.1";
+    let example = "Example: ocs serve office.db --port 8080 --connections 8 --at 1767607200";
+    let command = named_command(alloc, "serve", about, example);
     let command = with_operand(alloc, command, "DB", DATABASE)?;
     let command = with_option(alloc, command, "port", "P", true, "The port, 1 to 65535")?;
     let connections = "How many connections are served, 1 to 1000000";
@@ -173,7 +191,9 @@ fn import_command<'a>(alloc: Global) -> Result<Command<'a>, AllocError>
     ensures app { IfOk result (λ c. app_of c ≡ import_app) }
     ensures local { IfOk result (λ c. (fields_of c).has_globals ≡ false) }
 {
-    let command = Command::new(alloc, "import").about("Adds the vouchers of a file");
+    let about = "Adds the vouchers of a file";
+    let example = "Example: ocs import office.db examples/vouchers.csv --at 1767607200";
+    let command = named_command(alloc, "import", about, example);
     let command = with_operand(alloc, command, "DB", DATABASE)?;
     let command = with_operand(alloc, command, "FILE", "The vouchers, as CSV")?;
     with_at(alloc, command)
@@ -184,21 +204,53 @@ fn account_command<'a>(
     alloc: Global,
     name: &'a str,
     about: &'a str,
+    example: &'a str,
 ) -> Result<Command<'a>, AllocError>
     ensures app { IfOk result (λ c. app_of c ≡ account_app name.entry.now) }
     ensures local { IfOk result (λ c. (fields_of c).has_globals ≡ false) }
 {
-    let command = Command::new(alloc, name).about(about);
+    let command = named_command(alloc, name, about, example);
     let command = with_operand(alloc, command, "DB", DATABASE)?;
     let command = with_operand(alloc, command, "ACCOUNT", ACCOUNT)?;
     with_at(alloc, command)
+}
+
+fn open_command<'a>(alloc: Global) -> Result<Command<'a>, AllocError>
+    ensures app { IfOk result (λ c. app_of c ≡ account_app (codes "open")) }
+    ensures local { IfOk result (λ c. (fields_of c).has_globals ≡ false) }
+{
+    let example = "Example: ocs open office.db 49151 --at 1767607200";
+    account_command(alloc, "open", "Opens an account", example)
+}
+
+fn bar_command<'a>(alloc: Global) -> Result<Command<'a>, AllocError>
+    ensures app { IfOk result (λ c. app_of c ≡ account_app (codes "bar")) }
+    ensures local { IfOk result (λ c. (fields_of c).has_globals ≡ false) }
+{
+    let example = "Example: ocs bar office.db 49151 --at 1767607200";
+    account_command(
+        alloc,
+        "bar",
+        "Bars an account: it is granted nothing more",
+        example,
+    )
+}
+
+fn unbar_command<'a>(alloc: Global) -> Result<Command<'a>, AllocError>
+    ensures app { IfOk result (λ c. app_of c ≡ account_app (codes "unbar")) }
+    ensures local { IfOk result (λ c. (fields_of c).has_globals ≡ false) }
+{
+    let example = "Example: ocs unbar office.db 49151 --at 1767607200";
+    account_command(alloc, "unbar", "Ends that an account is barred", example)
 }
 
 fn sweep_command<'a>(alloc: Global) -> Result<Command<'a>, AllocError>
     ensures app { IfOk result (λ c. app_of c ≡ sweep_app) }
     ensures local { IfOk result (λ c. (fields_of c).has_globals ≡ false) }
 {
-    let command = Command::new(alloc, "sweep").about("Brings each account to the moment");
+    let about = "Brings each account to the moment";
+    let example = "Example: ocs sweep office.db --at 1767607200";
+    let command = named_command(alloc, "sweep", about, example);
     let command = with_operand(alloc, command, "DB", DATABASE)?;
     with_at(alloc, command)
 }
@@ -208,7 +260,9 @@ fn credit_operands<'a>(alloc: Global) -> Result<Command<'a>, AllocError>
     ensures app { IfOk result (λ c. app_of c ≡ credit_operands_app) }
     ensures local { IfOk result (λ c. (fields_of c).has_globals ≡ false) }
 {
-    let command = Command::new(alloc, "credit").about("Gives an account money");
+    let about = "Gives an account money";
+    let example = "Example: ocs credit office.db 49151 1000000 c1 --at 1767607200";
+    let command = named_command(alloc, "credit", about, example);
     let command = with_operand(alloc, command, "DB", DATABASE)?;
     let command = with_operand(alloc, command, "ACCOUNT", ACCOUNT)?;
     let command = with_operand(alloc, command, "AMOUNT", "1 to 10^15 micro-units")?;
@@ -233,7 +287,9 @@ fn allow_operands<'a>(alloc: Global) -> Result<Command<'a>, AllocError>
     ensures app { IfOk result (λ c. app_of c ≡ allow_operands_app) }
     ensures local { IfOk result (λ c. (fields_of c).has_globals ≡ false) }
 {
-    let command = Command::new(alloc, "allow").about("Gives an account blocks of a rating group");
+    let about = "Gives an account blocks of a rating group";
+    let example = "Example: ocs allow office.db 49151 3 a1 --scope 30 --at 1767607200";
+    let command = named_command(alloc, "allow", about, example);
     let command = with_operand(alloc, command, "DB", DATABASE)?;
     let command = with_operand(alloc, command, "ACCOUNT", ACCOUNT)?;
     let command = with_operand(alloc, command, "BLOCKS", "1 to 10^9 blocks")?;
@@ -257,7 +313,9 @@ fn statement_command<'a>(alloc: Global) -> Result<Command<'a>, AllocError>
     ensures app { IfOk result (λ c. app_of c ≡ statement_app) }
     ensures local { IfOk result (λ c. (fields_of c).has_globals ≡ false) }
 {
-    let command = Command::new(alloc, "statement").about("Writes an account's charges of a month");
+    let about = "Writes an account's charges of a month";
+    let example = "Example: ocs statement office.db 49151 202601 --at 1767607200";
+    let command = named_command(alloc, "statement", about, example);
     let command = with_operand(alloc, command, "DB", DATABASE)?;
     let command = with_operand(alloc, command, "ACCOUNT", ACCOUNT)?;
     let command = with_operand(alloc, command, "YYYYMM", "The month, 197001 to 209912")?;
@@ -269,7 +327,9 @@ fn replay_command<'a>(alloc: Global) -> Result<Command<'a>, AllocError>
     ensures app { IfOk result (λ c. app_of c ≡ replay_app) }
     ensures local { IfOk result (λ c. (fields_of c).has_globals ≡ false) }
 {
-    let command = Command::new(alloc, "replay").about("Answers dated requests from a file");
+    let about = "Answers dated requests from a file";
+    let example = "Example: ocs replay office.db examples/requests/debit.in";
+    let command = named_command(alloc, "replay", about, example);
     let command = with_operand(alloc, command, "DB", DATABASE)?;
     with_operand(
         alloc,
@@ -285,25 +345,35 @@ fn office_command<'a>(alloc: Global, name: OfficeName) -> Result<Command<'a>, Al
     ensures local { IfOk result (λ c. (fields_of c).has_globals ≡ false) }
 {
     match name {
-        OfficeName::Open => account_command(alloc, "open", "Opens an account"),
-        OfficeName::Bar => {
-            account_command(alloc, "bar", "Bars an account: it is granted nothing more")
-        }
-        OfficeName::Unbar => account_command(alloc, "unbar", "Ends that an account is barred"),
+        OfficeName::Open => open_command(alloc),
+        OfficeName::Bar => bar_command(alloc),
+        OfficeName::Unbar => unbar_command(alloc),
         OfficeName::Sweep => sweep_command(alloc),
         OfficeName::Credit => credit_command(alloc),
         OfficeName::Allow => allow_command(alloc),
     }
 }
 
+/// What `--version` prints behind the program's name: its own version, that of the tables of its
+/// databases, and the kit that it is built with.
+// rule: version
+fn version_text() -> &'static str
+    ensures { result.now ≡ version_text }
+{
+    "0.2.0, tables 3, rattle-kit-13f logic dac8208d650f15bf"
+}
+
 /// The program, before its commands.
 fn top_command<'a>(alloc: Global) -> Command<'a>
     ensures app { app_of result ≡ top_app }
+    // rule: version
+    ensures version { option_map (λ text. text.now) (fields_of result).version
+        ≡ Some version_text }
     ensures local { (fields_of result).has_globals ≡ false }
 {
     Command::new(alloc, "ocs")
         .about("Online charging for prepaid subscribers")
-        .version("0.1.0")
+        .version(version_text())
         .subcommand_required(true)
 }
 
