@@ -2,14 +2,14 @@
 # tools/repo words compares them with what the program says of its words.
 
 _ocs_commands() {
-    echo once init migrate book serve import open bar unbar sweep credit allow statement replay help
+    echo once init migrate book serve import open bar unbar sweep credit allow statement clock replay help
 }
 
 # The options of a command, or of the program where it is none.
 _ocs_options() {
     case $1 in
         once) echo --credit --price --block -h --help ;;
-        init | migrate | replay) echo -h --help ;;
+        init | migrate | clock | replay) echo -h --help ;;
         book) echo --from -h --help ;;
         serve) echo --port --connections --at -h --help ;;
         import | open | bar | unbar | sweep) echo --at -h --help ;;
@@ -24,7 +24,7 @@ _ocs_options() {
 _ocs_paths() {
     case $1 in
         init | book | import | replay) echo 2 ;;
-        migrate | serve | open | bar | unbar | sweep | credit | allow | statement) echo 1 ;;
+        migrate | serve | open | bar | unbar | sweep | credit | allow | statement | clock) echo 1 ;;
         *) echo 0 ;;
     esac
 }

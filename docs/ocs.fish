@@ -18,7 +18,7 @@ function __ocs_wants_path
     switch "$bare[1]"
         case init book import replay
             set paths 2
-        case migrate serve open bar unbar sweep credit allow statement
+        case migrate serve open bar unbar sweep credit allow statement clock
             set paths 1
     end
     test (count $bare) -ge 1 -a (count $bare) -le $paths
@@ -41,9 +41,10 @@ complete -c ocs -n __fish_use_subcommand -a sweep -d 'Brings each account to the
 complete -c ocs -n __fish_use_subcommand -a credit -d 'Gives an account money'
 complete -c ocs -n __fish_use_subcommand -a allow -d 'Gives an account blocks of a rating group'
 complete -c ocs -n __fish_use_subcommand -a statement -d 'Writes an account\'s charges of a month'
+complete -c ocs -n __fish_use_subcommand -a clock -d 'Prints the day, the month and the period at moments'
 complete -c ocs -n __fish_use_subcommand -a replay -d 'Answers dated requests from a file'
 complete -c ocs -n __fish_use_subcommand -a help -d 'Print this message or the help of the given subcommand(s)'
-complete -c ocs -n '__fish_seen_subcommand_from help' -a 'once init migrate book serve import open bar unbar sweep credit allow statement replay help'
+complete -c ocs -n '__fish_seen_subcommand_from help' -a 'once init migrate book serve import open bar unbar sweep credit allow statement clock replay help'
 complete -c ocs -n '__fish_seen_subcommand_from once' -x -l credit -d 'What the account is opened with'
 complete -c ocs -n '__fish_seen_subcommand_from once' -x -l price -d 'The price of a block, 0 to 10^9 micro-units'
 complete -c ocs -n '__fish_seen_subcommand_from once' -x -l block -d 'The size of a block'

@@ -17,6 +17,7 @@ _ocs_commands() {
         'credit:Gives an account money'
         'allow:Gives an account blocks of a rating group'
         "statement:Writes an account's charges of a month"
+        'clock:Prints the day, the month and the period at moments'
         'replay:Answers dated requests from a file'
         'help:Print this message or the help of the given subcommand(s)'
     )
@@ -56,6 +57,7 @@ _ocs_words() {
         statement)
             _arguments -S $help $at $database $account '3:month: ' '--csv[Writes the charges as CSV]'
             ;;
+        clock) _arguments -S $help $database '*:moment: ' ;;
         replay) _arguments -S $help $database '2:requests:_files' ;;
         help) _arguments '1:command:_ocs_commands' ;;
     esac

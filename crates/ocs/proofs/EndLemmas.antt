@@ -199,6 +199,8 @@ pub refused_begun : {F : Type 0} (bytes : F → Option (List ℕ)) (said : Progr
 refused_begun bytes (words.Statement statement) before after status ended failed =
     inr (all_written before after unknown_line
     (subst (IsEnded (Appends before after unknown_line)) failed ended))
+refused_begun bytes (words.Clock clock) before after status ended failed =
+    absurd (subst (IsEnded ⊥) failed ended)
 refused_begun bytes (words.Replay replay) before after status ended failed =
     absurd (subst (IsEnded ⊥) failed ended)
 refused_begun bytes _ before after status ended failed = tt
@@ -209,6 +211,7 @@ nothing_started : {F : Type 0} (bytes : F → Option (List ℕ)) (said : Program
 nothing_started bytes (words.Statement statement) before after same =
     inr (subst (λ (w : Option (List ℕ)). WritesBeginning before w unknown_line) (sym same)
     (nothing_written before unknown_line))
+nothing_started bytes (words.Clock clock) before after same = inr same
 nothing_started bytes (words.Replay replay) before after same = inr same
 nothing_started bytes _ before after same = tt
 

@@ -11,6 +11,7 @@ use Rattle.operations.specs.Months.{unknown_line}
 use Rattle.operations.specs.Printed.{PrintsAnswer, PrintsCounts}
 use Rattle.operations.specs.declared.status.Status.{Status}
 use Rattle.operations.specs.declared.status.Status.TheVariants.{Done, Failed, Unread}
+use Rattle.service.specs.CivilClock.{BeginsClock, PrintsClock}
 use Rattle.service.specs.Stating.{BeginsMonthOf, PrintsMonthOf}
 use Rattle.operator.specs.Program.{program_app}
 use Rattle.operator.specs.Read.{IsInvalid, IsSaid}
@@ -56,8 +57,8 @@ abbrev pub BeginsLinesOf : {File : Type 0} → (File → Option Bytes) → Optio
 BeginsLinesOf bytes old new = BeginsSomeLines bytes old new ⊎ (new ≡ old)
 
 -- an import has printed its counts; an operator's command its answer, and a statement the month
--- that is asked for or that there is no such account, with which they end so; a replay what the
--- lines of a file are answered, by the bytes that files show
+-- that is asked for or that there is no such account, with which they end so; a clock the lines of
+-- its moments; a replay what the lines of a file are answered, by the bytes that files show
 -- rule: exit-status
 abbrev pub HasPrinted : {File : Type 0} → (File → Option Bytes) → ProgramWords → Option Bytes →
     Option Bytes → Status → Type 0
@@ -65,14 +66,17 @@ HasPrinted bytes (words.Import import) old new status = PrintsCounts old new
 HasPrinted bytes (words.Office office) old new status = PrintsAnswer status old new
 HasPrinted bytes (words.Statement statement) old new status =
     PrintsMonthOf statement old new status
+HasPrinted bytes (words.Clock clock) old new status = PrintsClock clock old new
 HasPrinted bytes (words.Replay replay) old new status = PrintsLines bytes old new
 HasPrinted bytes _ old new status = Unit {0}
 
--- a statement or a replay has printed a beginning of that, or of the line that it is refused by
+-- a statement, a clock or a replay has printed a beginning of that, or of the line that it is
+-- refused by
 -- rule: exit-status
 abbrev pub HasBegun : {File : Type 0} → (File → Option Bytes) → ProgramWords → Option Bytes →
     Option Bytes → Type 0
 HasBegun bytes (words.Statement statement) old new = BeginsMonthOf statement old new
+HasBegun bytes (words.Clock clock) old new = BeginsClock clock old new
 HasBegun bytes (words.Replay replay) old new = BeginsLinesOf bytes old new
 HasBegun bytes _ old new = Unit {0}
 

@@ -11,6 +11,7 @@ use Rattle.operator.specs.declared.parsed.ProgramWords.TheVariants as words
 use Rattle.request_lines.specs.declared.fault.LinesFault.{LinesFault}
 use Rattle.request_lines.specs.declared.fault.LinesFault.TheVariants.{Read, Store, Both, Write}
 use Rattle.service.specs.Adding.{IsAdditionFault}
+use Rattle.service.specs.CivilClock.{IsClockFault}
 use Rattle.service.specs.Making.{IsInitFault}
 use Rattle.service.specs.Opening.{IsCommandFault, IsUnopened}
 use Rattle.service.specs.declared.fault.DatabaseFault.{DatabaseFault}
@@ -79,6 +80,7 @@ IsFaultOf (words.Serve serve) = OnlyDatabase IsServeFault
 IsFaultOf (words.Import import) = IsImportFault import.at
 IsFaultOf (words.Office office) = OnlyDatabase (IsCommandFault office.at)
 IsFaultOf (words.Statement statement) = OnlyDatabase (IsCommandFault statement.at)
+IsFaultOf (words.Clock clock) = OnlyDatabase IsClockFault
 IsFaultOf (words.Replay replay) = IsReplayFault
 
 -- memory was refused

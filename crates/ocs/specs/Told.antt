@@ -90,7 +90,7 @@ IfDatabase _ says = Unit {0}
 
 -- nothing is printed before this fault: of `once` and `replay` the lines weren't read, of `init`,
 -- `migrate` and `book` the database isn't made or changed, of `serve` the port isn't listened to,
--- of a statement the office isn't asked, of others there is no answer; so it is of each fault that
+-- of a statement and a clock the office isn't asked, of others there is no answer; so it is of each fault that
 -- the words don't come to
 abbrev pub IsSilent : ProgramWords → ProgramFault → Type 0
 IsSilent (words.Once once) fault = IfLines fault AreUnread
@@ -98,6 +98,7 @@ IsSilent (words.Serve serve) fault = IfDatabase fault IsUnlistened
 IsSilent (words.Import import) fault = IfDatabase fault IsUnanswered
 IsSilent (words.Office office) fault = IfDatabase fault IsUnanswered
 IsSilent (words.Statement statement) fault = IfDatabase fault IsUnasked
+IsSilent (words.Clock clock) fault = IfDatabase fault IsUnasked
 IsSilent (words.Replay replay) fault = IfLines fault AreUnread
 IsSilent _ fault = IfStream fault (λ _. ⊥)
 

@@ -17,7 +17,7 @@ use crate::fault::ProgramFault;
 use crate::making::{answer_book, answer_init, answer_migrate};
 use crate::replaying::answer_replay;
 use crate::serving::answer_serve;
-use crate::storing::{answer_import, answer_office, answer_statement};
+use crate::storing::{answer_clock, answer_import, answer_office, answer_statement};
 use keepers::MemoryKeeper;
 use operations::Status;
 use operator::{OnceWords, ProgramWords};
@@ -38,6 +38,7 @@ use tariffs::once_book;
 /// - `serve` one before the first connection;
 /// - `import` one of the file or of its command;
 /// - an operator's command and a statement their command's;
+/// - `clock` one of the database or of writing its lines;
 /// - `replay` one of a file, of the database or of the lines.
 pub(crate) fn do_said<F: Files, I: Read, O: Write, E: Write>(
     rt: &HostRuntime,
@@ -77,6 +78,7 @@ pub(crate) fn do_said<F: Files, I: Read, O: Write, E: Write>(
         ProgramWords::Import(import) => answer_import(rt, import, output),
         ProgramWords::Office(office) => answer_office(rt, office, output),
         ProgramWords::Statement(statement) => answer_statement(rt, statement, output),
+        ProgramWords::Clock(clock) => answer_clock(rt, &clock, output),
         ProgramWords::Replay(replay) => answer_replay(rt, files, &replay, output),
     }
 }

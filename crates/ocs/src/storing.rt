@@ -2,6 +2,7 @@
 
 ghost use Rattle.std.specs.Prelude.{◌≡◌, IfErr, IfOk, OnErr, OnOk};
 ghost use Rattle.std.specs.Io.KnownBytes.{Appends};
+ghost use Rattle.service.specs.CivilClock.{BeginsClock, IsClockFault, PrintsClock};
 ghost use Rattle.service.specs.Opening.{IsCommandFault, IsUnanswered, IsUnasked};
 ghost use Rattle.service.specs.Stating.{BeginsMonthOf, PrintsMonthOf};
 ghost use Rattle.operations.specs.Months.{unknown_line};
@@ -12,8 +13,8 @@ ghost use Rattle.ocs.specs.Told.{IfDatabase};
 
 use crate::fault::ProgramFault;
 use operations::Status;
-use operator::{ImportWords, OfficeWords, StatementWords};
-use service::{command_office, import_office, state_office};
+use operator::{ClockWords, ImportWords, OfficeWords, StatementWords};
+use service::{clock_office, command_office, import_office, state_office};
 use std::io::Write;
 
 /// Carries out an operator's command.
@@ -51,6 +52,25 @@ pub(crate) fn answer_statement<O: Write>(
         IfDatabase fault IsUnasked → output.new ≡ output.old) }
 {
     Ok(state_office(rt, words, output)?)
+}
+
+/// Prints what the clock of the books shows at moments.
+pub(crate) fn answer_clock<O: Write>(
+    rt: &HostRuntime,
+    clock: &ClockWords,
+    output: &mut O,
+) -> Result<Status, ProgramFault>
+    ensures ended { IfOk result (IsEnded ⊥) }
+    ensures printed { OnOk result
+        (PrintsClock clock.now (O.contents output.old) (O.contents output.new)) }
+    ensures begun { OnErr result
+        (BeginsClock clock.now (O.contents output.old) (O.contents output.new)) }
+    ensures reached { IfErr result (OnlyDatabase IsClockFault) }
+    ensures unwritten { IfErr result (λ fault.
+        IfDatabase fault IsUnasked → output.new ≡ output.old) }
+{
+    clock_office(rt, clock, output)?;
+    Ok(Status::Done)
 }
 
 /// Adds the vouchers of a file, and prints what became of them.

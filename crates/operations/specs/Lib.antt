@@ -3,6 +3,7 @@ pub mod Stored
 pub mod Told
 pub mod Carried
 pub mod Months
+pub mod CivilClock
 pub mod Counts
 pub mod Imports
 pub mod Printed

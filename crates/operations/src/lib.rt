@@ -2,6 +2,7 @@
 //! became of vouchers, an account's month, or one line of its fault.
 #![tactic(auto)]
 
+mod civil_clock;
 mod counts;
 mod fault;
 mod importing;
@@ -12,6 +13,7 @@ mod status;
 mod telling;
 mod writing;
 
+pub use crate::civil_clock::serve_clock;
 pub use crate::counts::Counts;
 pub use crate::fault::{OfficeFault, store_line, stream_line};
 pub use crate::importing::{import, serve_import};

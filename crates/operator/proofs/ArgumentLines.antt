@@ -53,6 +53,10 @@ pub scope_line : argument_line argument.Scope ≡ range_line (codes "--scope") 0
 unfolding digits
 scope_line = refl
 
+pub moment_line : argument_line argument.Moment ≡ range_line (codes "MOMENT") 0 latest_command
+unfolding digits
+moment_line = refl
+
 pub at_line : argument_line argument.At ≡ range_line (codes "--at") 0 latest_command
 unfolding digits
 at_line = refl

@@ -5,14 +5,14 @@ use Rattle.std.specs.Prelude.{Bool, true, false, Some, codes, List, [], ◌∷�
 use Rattle.std.specs.List.{find}
 use Rattle.std.specs.Cmp.Lexicographic.{pointwise}
 use Rattle.clap.specs.Words.{App, Rule, Text, new_app, new_rule, with_rule, with_subcommand}
-use Rattle.clap.specs.declared.builder.action.ArgAction.TheVariants.{Set, SetTrue}
+use Rattle.clap.specs.declared.builder.action.ArgAction.TheVariants.{Append, Set, SetTrue}
 use Rattle.operator.specs.Office.{office_name}
 use Rattle.operator.specs.declared.office.OfficeName.{OfficeName}
 use Rattle.operator.specs.declared.office.OfficeName.TheVariants as office
 use Rattle.operator.specs.declared.program.CommandName.{CommandName}
 use Rattle.operator.specs.declared.program.CommandName.TheVariants.{Once, Init, Migrate, Book}
 use Rattle.operator.specs.declared.program.CommandName.TheVariants.{Serve, Import, Office}
-use Rattle.operator.specs.declared.program.CommandName.TheVariants.{Statement, Replay}
+use Rattle.operator.specs.declared.program.CommandName.TheVariants.{Statement, Clock, Replay}
 
 -- ---- names
 
@@ -25,12 +25,13 @@ command_name Serve = codes "serve"
 command_name Import = codes "import"
 command_name (Office office) = office_name office
 command_name Statement = codes "statement"
+command_name Clock = codes "clock"
 command_name Replay = codes "replay"
 
 abbrev pub command_names : List CommandName
 command_names = Once ∷ Init ∷ Migrate ∷ Book ∷ Serve ∷ Import
     ∷ Office office.Open ∷ Office office.Bar ∷ Office office.Unbar ∷ Office office.Sweep
-    ∷ Office office.Credit ∷ Office office.Allow ∷ Statement ∷ Replay ∷ []
+    ∷ Office office.Credit ∷ Office office.Allow ∷ Statement ∷ Clock ∷ Replay ∷ []
 
 -- the command of a name
 abbrev pub command_named : Text → Option CommandName
@@ -41,6 +42,10 @@ command_named name = find (λ c. pointwise nat_eq (command_name c) name) command
 -- a word in its place, which must be there
 abbrev pub operand : Text → Rule
 operand id = record (new_rule id) { required = true; action = Some Set }
+
+-- words in the last place, one or more
+abbrev pub operands : Text → Rule
+operands id = record (new_rule id) { required = true; action = Some Append }
 
 -- a word after `--id`, or joined to it by `=`, which may have to be there
 abbrev pub valued : Bool → Text → Rule
@@ -123,6 +128,10 @@ statement_app = with_rule (with_rule (with_rule (with_rule (with_rule (new_app (
     (operand (codes "DB"))) (operand (codes "ACCOUNT"))) (operand (codes "YYYYMM")))
     (flag (codes "csv"))) at
 
+abbrev pub clock_app : App
+clock_app = with_rule (with_rule (new_app (codes "clock"))
+    (operand (codes "DB"))) (operands (codes "MOMENT"))
+
 abbrev pub replay_app : App
 replay_app = with_rule (with_rule (new_app (codes "replay"))
     (operand (codes "DB"))) (operand (codes "FILE"))
@@ -144,6 +153,7 @@ command_app Serve = serve_app
 command_app Import = import_app
 command_app (Office office) = office_app office
 command_app Statement = statement_app
+command_app Clock = clock_app
 command_app Replay = replay_app
 
 -- ---- the program

@@ -1,6 +1,6 @@
 -- What the program's words come to, by what `clap` says of them, and the ranges of what they say.
 -- Source: profile.
-use Rattle.std.specs.Prelude.{◌≡◌, ◌≢◌, ℕ, ◌≤◌, List, [], map, Option, IfSome, Ok, Err}
+use Rattle.std.specs.Prelude.{◌≡◌, ◌≢◌, ℕ, ◌≤◌, All, List, [], map, Option, IfSome, Ok, Err}
 use Rattle.std.specs.Borrow.{Bor}
 use Rattle.units.specs.Words.{Moment, latest_command, greatest_price, most_granted}
 use Rattle.units.specs.Words.{most_of_16_bits}
@@ -17,6 +17,7 @@ use Rattle.operator.specs.declared.fault.ValueFault.TheVariants as value
 use Rattle.operator.specs.declared.fault.WordsFault.{WordsFault}
 use Rattle.operator.specs.declared.fault.WordsFault.TheVariants.{Unread, Invalid, Memory}
 use Rattle.operator.specs.declared.parsed.BookWords.{BookWords}
+use Rattle.operator.specs.declared.parsed.ClockWords.{ClockWords}
 use Rattle.operator.specs.declared.parsed.ImportWords.{ImportWords}
 use Rattle.operator.specs.declared.parsed.OfficeWords.{OfficeWords}
 use Rattle.operator.specs.declared.parsed.OnceWords.{OnceWords}
@@ -91,6 +92,10 @@ pub record IsOfficeInRange (words : OfficeWords) : Type 0 where
 abbrev pub IsStatementInRange : StatementWords → Type 0
 IsStatementInRange statement = IsAtInRange statement.at
 
+-- each moment is that of a command
+abbrev pub IsClockInRange : ClockWords → Type 0
+IsClockInRange clock = All (λ t. t ≤ latest_command) clock.moments
+
 -- rule: words
 abbrev pub IsInRange : ProgramWords → Type 0
 IsInRange (words.Once once) = IsOnceInRange once
@@ -99,4 +104,5 @@ IsInRange (words.Serve serve) = IsServeInRange serve
 IsInRange (words.Import import) = IsImportInRange import
 IsInRange (words.Office office) = IsOfficeInRange office
 IsInRange (words.Statement statement) = IsStatementInRange statement
+IsInRange (words.Clock clock) = IsClockInRange clock
 IsInRange _ = Unit {0}

@@ -6,13 +6,14 @@ use Rattle.clap.specs.Words.{Row, Text}
 use Rattle.texts.specs.Steps.{◌>>=◌, or_fault}
 use Rattle.operator.specs.Office.{office_command_said}
 use Rattle.operator.specs.Program.{command_named}
-use Rattle.operator.specs.Values.{account_of, at_of, database_of, from_of, has_flag, month_at}
-use Rattle.operator.specs.Values.{most_connections, number_at, path_at}
+use Rattle.operator.specs.Values.{account_of, at_of, database_of, from_of, has_flag, moments_of}
+use Rattle.operator.specs.Values.{month_at, most_connections, number_at, path_at}
 use Rattle.operator.specs.declared.argument_names.Argument.TheVariants as argument
 use Rattle.operator.specs.declared.fault.ValueFault.{ValueFault}
 use Rattle.operator.specs.declared.fault.ValueFault.TheVariants.{Invalid}
 use Rattle.operator.specs.declared.office.OfficeName.{OfficeName}
 use Rattle.operator.specs.declared.parsed.BookWords.{BookWords}
+use Rattle.operator.specs.declared.parsed.ClockWords.{ClockWords}
 use Rattle.operator.specs.declared.parsed.ImportWords.{ImportWords}
 use Rattle.operator.specs.declared.parsed.InitWords.{InitWords}
 use Rattle.operator.specs.declared.parsed.MigrateWords.{MigrateWords}
@@ -88,6 +89,12 @@ statement_said rows = do
     at = at;
   })
 
+unfoldable pub clock_said : List Row → Result ClockWords ValueFault
+clock_said rows = do
+  database ← database_of rows
+  moments ← moments_of rows
+  Ok (record { database = database; moments = moments })
+
 unfoldable pub replay_said : List Row → Result ReplayWords ValueFault
 replay_said rows = do
   database ← database_of rows
@@ -109,6 +116,7 @@ command_said name.Serve rows = said_as words.Serve (serve_said rows)
 command_said name.Import rows = said_as words.Import (import_said rows)
 command_said (name.Office office) rows = said_as words.Office (office_said office rows)
 command_said name.Statement rows = said_as words.Statement (statement_said rows)
+command_said name.Clock rows = said_as words.Clock (clock_said rows)
 command_said name.Replay rows = said_as words.Replay (replay_said rows)
 
 -- what a line's words say, by the command that they name and what it finds

@@ -8,8 +8,8 @@ use Rattle.identifiers.specs.Texts.{is_account_number, is_reference, same_name}
 use Rattle.texts.specs.Months.{month_of}
 use Rattle.texts.specs.Numbers.{number_of}
 use Rattle.texts.specs.NumberWords.{MonthNumber}
-use Rattle.texts.specs.Steps.{◌>>=◌, or_fault, where_holds}
-use Rattle.clap.specs.Words.{Row, Text, first_of}
+use Rattle.texts.specs.Steps.{◌>>=◌, collected, or_fault, where_holds}
+use Rattle.clap.specs.Words.{Row, Text, all_of, first_of}
 use Rattle.operator.specs.Arguments.{argument_id}
 use Rattle.operator.specs.Paths.{is_file_path}
 use Rattle.operator.specs.declared.argument_names.Argument.{Argument}
@@ -46,6 +46,16 @@ optional_in low high argument (Some text) = do
 abbrev pub optional_at : ℕ → ℕ → Argument → List Row → Result (Option ℕ) ValueFault
 optional_at low high argument rows =
     optional_in low high argument (first_of (argument_id argument) rows)
+
+-- the moment of a command that a word says
+abbrev pub moment_in : Text → Result Moment ValueFault
+moment_in text = number_in 0 latest_command argument.Moment text
+
+-- those of all words of an operand, in their order
+unfoldable pub moments_of : List Row → Result (List Moment) ValueFault
+moments_of rows = do
+  texts ← or_fault (Invalid argument.Moment) (all_of (argument_id argument.Moment) rows)
+  collected (λ before. moment_in) [] texts
 
 -- the moment of a command, where it is said
 abbrev pub at_of : List Row → Result (Option Moment) ValueFault

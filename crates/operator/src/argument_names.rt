@@ -24,6 +24,8 @@ pub enum Argument {
     Reference,
     /// The month of a statement.
     Month,
+    /// A moment at which a clock is looked at, in seconds since 1970.
+    Moment,
     /// What the account is opened with, in micro-units.
     Credit,
     /// The price of a block, in micro-units.
@@ -59,6 +61,7 @@ impl Argument {
             Argument::Blocks => "BLOCKS",
             Argument::Reference => "REFERENCE",
             Argument::Month => "YYYYMM",
+            Argument::Moment => "MOMENT",
             Argument::Credit => "credit",
             Argument::Price => "price",
             Argument::Block => "block",
@@ -86,6 +89,7 @@ impl Argument {
             Argument::Blocks => "ocs: BLOCKS takes 1 to 1000000000",
             Argument::Reference => "ocs: REFERENCE takes 1 to 64 characters from ! to ~",
             Argument::Month => "ocs: YYYYMM takes 197001 to 209912",
+            Argument::Moment => "ocs: MOMENT takes 0 to 4102444799",
             Argument::Credit => "ocs: --credit takes 1 to 1000000000000000",
             Argument::Price => "ocs: --price takes 0 to 1000000000",
             Argument::Block => "ocs: --block takes 1 to 1000000000000000",

@@ -3,7 +3,7 @@
 ghost use Rattle.std.specs.Prelude.{◌≡◌, IfOk, false};
 ghost use Rattle.clap.specs.Words.{app_of, with_rule};
 ghost use Rattle.clap.specs.declared.builder.command.Command.TheViews.{out-Command as fields_of};
-ghost use Rattle.operator.specs.Program.{flag, operand, valued};
+ghost use Rattle.operator.specs.Program.{flag, operand, operands, valued};
 
 use clap::{Arg, ArgAction, Command};
 use std::alloc::{AllocError, Global};
@@ -25,6 +25,25 @@ pub(crate) fn with_operand<'a>(
         .required(true)
         .action(ArgAction::Set);
     command.arg(operand)
+}
+
+/// A command with one more word in the last place, which must be there and may come many times.
+pub(crate) fn with_operands<'a>(
+    alloc: Global,
+    command: Command<'a>,
+    id: &'a str,
+    help: &'a str,
+) -> Result<Command<'a>, AllocError>
+    requires { (fields_of command).has_globals ≡ false }
+    ensures app { IfOk result
+        (λ c. app_of c ≡ with_rule (app_of command.entry) (operands id.entry.now)) }
+    ensures local { IfOk result (λ c. (fields_of c).has_globals ≡ false) }
+{
+    let operands = Arg::new(alloc, id)
+        .help(help)
+        .required(true)
+        .action(ArgAction::Append);
+    command.arg(operands)
 }
 
 /// A command with one more option, which takes a value of this name and may have to be there.

@@ -1,7 +1,7 @@
 //! Why words aren't the program's.
 
 use crate::argument_names::Argument;
-use std::alloc::AllocError;
+use std::alloc::{AllocError, AllocFailed};
 use thiserror::Error;
 
 /// Why words aren't the program's.
@@ -35,6 +35,17 @@ impl From<AllocError> for ValueFault {
     ghost from_gives = { λ _ e. e ≡ out_of_memory };
 
     fn from(_error: AllocError) -> ValueFault {
+        ValueFault::Memory
+    }
+}
+
+impl<T: Drop> From<AllocFailed<T>> for ValueFault {
+    ghost use Rattle.std.specs.Prelude.{◌≡◌};
+    ghost use Rattle.operator.specs.Faults.{out_of_memory};
+
+    ghost from_gives = { λ _ e. e ≡ out_of_memory };
+
+    fn from(_error: AllocFailed<T>) -> ValueFault {
         ValueFault::Memory
     }
 }

@@ -5,6 +5,7 @@ mod argument_names;
 mod arguments;
 mod dated;
 mod fault;
+mod moments;
 mod office;
 mod parsed;
 mod path;
@@ -16,10 +17,11 @@ mod values;
 pub use crate::argument_names::Argument;
 pub use crate::dated::{DatedLine, dated_line};
 pub use crate::fault::WordsFault;
+pub use crate::moments::MomentList;
 pub use crate::office::OfficeCommand;
 pub use crate::parsed::{
-    BookWords, ImportWords, InitWords, MigrateWords, OfficeWords, OnceWords, ProgramWords,
-    ReplayWords, ServeWords, StatementWords,
+    BookWords, ClockWords, ImportWords, InitWords, MigrateWords, OfficeWords, OnceWords,
+    ProgramWords, ReplayWords, ServeWords, StatementWords,
 };
 pub use crate::path::FilePath;
 pub use crate::reading::program_words;

@@ -1,5 +1,6 @@
 //! What the program's words say.
 
+use crate::moments::MomentList;
 use crate::office::OfficeCommand;
 use crate::path::FilePath;
 use identifiers::AccountNumber;
@@ -94,6 +95,15 @@ pub struct StatementWords {
     pub at: Option<Moment>,
 }
 
+/// What the words of `clock` say: moments at which the clock of the books is looked at.
+#[derive(Drop)]
+pub struct ClockWords {
+    /// The path of the database that has the books.
+    pub database: FilePath,
+    /// The moments, each 0 to 4,102,444,799, in the order of the words.
+    pub moments: MomentList,
+}
+
 /// What the words of `replay` say: a file of dated requests for a database.
 #[derive(Drop)]
 pub struct ReplayWords {
@@ -122,6 +132,8 @@ pub enum ProgramWords {
     Office(OfficeWords),
     /// `statement`: the charges of an account in a month.
     Statement(StatementWords),
+    /// `clock`: the day, the month and the period at moments.
+    Clock(ClockWords),
     /// `replay`: dated requests from a file.
     Replay(ReplayWords),
 }

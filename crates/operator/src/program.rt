@@ -6,13 +6,14 @@ ghost use Rattle.std.specs.Cmp.Lexicographic.{pointwise};
 ghost use Rattle.clap.specs.Words.{app_of, new_app, with_rule, with_subcommand};
 ghost use Rattle.clap.specs.declared.builder.command.Command.TheViews.{out-Command as fields_of};
 ghost use Rattle.operator.specs.Program.{account_app, allow_app, allow_operands_app, at, book_app};
-ghost use Rattle.operator.specs.Program.{command_app, command_name, command_named, credit_app};
-ghost use Rattle.operator.specs.Program.{credit_operands_app, import_app, init_app, migrate_app};
+ghost use Rattle.operator.specs.Program.{clock_app, command_app, command_name, command_named};
+ghost use Rattle.operator.specs.Program.{credit_app, credit_operands_app, import_app, init_app};
+ghost use Rattle.operator.specs.Program.{migrate_app};
 ghost use Rattle.operator.specs.Program.{office_app, once_app, program_app, replay_app, serve_app};
 ghost use Rattle.operator.specs.Program.{statement_app, sweep_app, top_app, version_text};
 ghost use Rattle.operator.specs.Program.{with_commands};
 
-use crate::arguments::{with_flag, with_operand, with_option};
+use crate::arguments::{with_flag, with_operand, with_operands, with_option};
 use crate::office::OfficeName;
 use clap::Command;
 use std::alloc::{AllocError, Global};
@@ -28,11 +29,12 @@ pub(crate) enum CommandName {
     Import,
     Office(OfficeName),
     Statement,
+    Clock,
     Replay,
 }
 
 /// All commands of the program.
-const COMMANDS: [CommandName; 14] = [
+const COMMANDS: [CommandName; 15] = [
     CommandName::Once,
     CommandName::Init,
     CommandName::Migrate,
@@ -46,6 +48,7 @@ const COMMANDS: [CommandName; 14] = [
     CommandName::Office(OfficeName::Credit),
     CommandName::Office(OfficeName::Allow),
     CommandName::Statement,
+    CommandName::Clock,
     CommandName::Replay,
 ];
 
@@ -69,6 +72,7 @@ impl CommandName {
             CommandName::Import => "import",
             CommandName::Office(office) => office.name(),
             CommandName::Statement => "statement",
+            CommandName::Clock => "clock",
             CommandName::Replay => "replay",
         }
     }
@@ -87,6 +91,7 @@ impl CommandName {
             CommandName::Import => import_command(alloc),
             CommandName::Office(office) => office_command(alloc, office),
             CommandName::Statement => statement_command(alloc),
+            CommandName::Clock => clock_command(alloc),
             CommandName::Replay => replay_command(alloc),
         }
     }
@@ -321,6 +326,18 @@ fn statement_command<'a>(alloc: Global) -> Result<Command<'a>, AllocError>
     let command = with_operand(alloc, command, "YYYYMM", "The month, 197001 to 209912")?;
     let command = with_flag(alloc, command, "csv", "Writes the charges as CSV")?;
     with_at(alloc, command)
+}
+
+fn clock_command<'a>(alloc: Global) -> Result<Command<'a>, AllocError>
+    ensures app { IfOk result (λ c. app_of c ≡ clock_app) }
+    ensures local { IfOk result (λ c. (fields_of c).has_globals ≡ false) }
+{
+    let about = "Prints the day, the month and the period at moments";
+    let example = "Example: ocs clock office.db 1767607200";
+    let command = named_command(alloc, "clock", about, example);
+    let command = with_operand(alloc, command, "DB", DATABASE)?;
+    let moment = "A moment, in seconds since 1970, 0 to 4102444799";
+    with_operands(alloc, command, "MOMENT", moment)
 }
 
 fn replay_command<'a>(alloc: Global) -> Result<Command<'a>, AllocError>

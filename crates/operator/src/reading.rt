@@ -14,8 +14,8 @@ use crate::fault::{ValueFault, WordsFault};
 use crate::parsed::ProgramWords;
 use crate::program::{CommandName, program};
 use crate::saying::{
-    book_words, import_words, init_words, migrate_words, office_words, once_said, replay_words,
-    serve_words, statement_words,
+    book_words, clock_words, import_words, init_words, migrate_words, office_words, once_said,
+    replay_words, serve_words, statement_words,
 };
 use clap::error::ErrorKind;
 use clap::{ArgMatches, Error};
@@ -123,6 +123,7 @@ fn said_of(
             Ok(ProgramWords::Office(office_words(alloc, name, matches)?))
         }
         CommandName::Statement => Ok(ProgramWords::Statement(statement_words(alloc, matches)?)),
+        CommandName::Clock => Ok(ProgramWords::Clock(clock_words(alloc, matches)?)),
         CommandName::Replay => Ok(ProgramWords::Replay(replay_words(alloc, matches)?)),
     }
 }

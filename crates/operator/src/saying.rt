@@ -3,21 +3,23 @@
 ghost use Rattle.std.specs.Prelude.{IfOk};
 ghost use Rattle.clap.specs.Words.{found_of, rows_of};
 ghost use Rattle.texts.specs.Steps.{GivesUnless, Says};
-ghost use Rattle.operator.specs.Read.{IsBookInRange, IsImportInRange, IsOfficeInRange};
+ghost use Rattle.operator.specs.Read.{IsBookInRange, IsClockInRange, IsImportInRange};
+ghost use Rattle.operator.specs.Read.{IsOfficeInRange};
 ghost use Rattle.operator.specs.Read.{IsOnceInRange, IsServeInRange, IsStatementInRange};
-ghost use Rattle.operator.specs.Said.{book_said, import_said, init_said, migrate_said, office_said};
-ghost use Rattle.operator.specs.Said.{once_said, replay_said, serve_said, statement_said};
+ghost use Rattle.operator.specs.Said.{book_said, clock_said, import_said, init_said, migrate_said};
+ghost use Rattle.operator.specs.Said.{office_said, once_said, replay_said, serve_said};
+ghost use Rattle.operator.specs.Said.{statement_said};
 ghost use Rattle.operator.specs.declared.fault.ValueFault.TheVariants.{Memory};
 
 use crate::argument_names::Argument;
 use crate::fault::ValueFault;
 use crate::office::{OfficeName, office_command};
 use crate::parsed::{
-    BookWords, ImportWords, InitWords, MigrateWords, OfficeWords, OnceWords, ReplayWords,
-    ServeWords, StatementWords,
+    BookWords, ClockWords, ImportWords, InitWords, MigrateWords, OfficeWords, OnceWords,
+    ReplayWords, ServeWords, StatementWords,
 };
 use crate::values::{
-    account, amount_at, at, database, first_moment, has_flag, month, number_at, path_at,
+    account, amount_at, at, database, first_moment, has_flag, moments, month, number_at, path_at,
 };
 use clap::ArgMatches;
 use std::alloc::Global;
@@ -155,6 +157,18 @@ pub(crate) fn statement_words(
         csv: has_flag(matches, "csv"),
         at,
     })
+}
+
+/// The words of `clock`.
+#[tactic(auto, unfolding(crate::specs::Said::clock_said))]
+pub(crate) fn clock_words(alloc: Global, matches: &ArgMatches<'_>) -> Result<ClockWords, ValueFault>
+    ensures value { GivesUnless Memory (λ w. w) result
+        (clock_said (rows_of (found_of matches.now))) }
+    ensures in_range { IfOk result IsClockInRange }
+{
+    let database = database(alloc, matches)?;
+    let moments = moments(alloc, matches)?;
+    Ok(ClockWords { database, moments })
 }
 
 /// The words of `replay`.

@@ -1,17 +1,19 @@
 //! The values of operands and options.
 
-ghost use Rattle.std.specs.Prelude.{◌≡◌, ◌≤◌, IfOk, IfSome, option_map};
+ghost use Rattle.std.specs.Prelude.{◌≡◌, ◌≤◌, [], All, IfOk, IfSome, map, option_map};
 ghost use Rattle.units.specs.Words.{latest_command, most_money, most_blocks};
-ghost use Rattle.clap.specs.Words.{found_of, first_of, rows_of};
-ghost use Rattle.texts.specs.Steps.{GivesUnless, Says};
+ghost use Rattle.clap.specs.Words.{all_of, found_of, first_of, rows_of};
+ghost use Rattle.texts.specs.Steps.{GivesUnless, Says, collected};
 ghost use Rattle.operator.specs.Values.{account_of, at_of, database_of, from_of, group_of};
-ghost use Rattle.operator.specs.Values.{has_flag, month_at, number_at, number_in, optional_at};
+ghost use Rattle.operator.specs.Values.{has_flag, moment_in, moments_of, month_at, number_at};
+ghost use Rattle.operator.specs.Values.{number_in, optional_at};
 ghost use Rattle.operator.specs.Values.{path_at, reference_of, scope_of, until_of, word};
 ghost use Rattle.operator.specs.declared.argument_names.Argument.TheVariants as argument;
 ghost use Rattle.operator.specs.declared.fault.ValueFault.TheVariants.{Memory};
 
 use crate::argument_names::Argument;
 use crate::fault::ValueFault;
+use crate::moments::MomentList;
 use crate::path::FilePath;
 use clap::ArgMatches;
 use commands::{AllowanceBlocks, CreditEnd};
@@ -110,6 +112,50 @@ pub(crate) fn first_moment(matches: &ArgMatches<'_>) -> Result<Moment, ValueFaul
 {
     let seconds = number_at(matches, 0, LATEST_COMMAND, Argument::From)?;
     Moment::of_command(seconds).ok_or(ValueFault::Invalid(Argument::From))
+}
+
+/// All words of an operand, where it is there.
+fn found_all<'m, 'a>(matches: &'m ArgMatches<'a>, id: &str) -> Option<&'m [&'a str]>
+    ensures { option_map (λ l. map (λ s. s.now) l.now) result
+        ≡ all_of id.now (rows_of (found_of matches.now)) }
+{
+    matches.get_strs(id)
+}
+
+/// The moment of a command that a word says.
+fn moment_in(word: &str) -> Result<Moment, ValueFault>
+    ensures value { Says (λ t. t) result (moment_in word.now) }
+    ensures in_range { IfOk result (λ t. t ≤ latest_command) }
+{
+    let seconds = number_in(0, LATEST_COMMAND, Argument::Moment, word)?;
+    Moment::of_command(seconds).ok_or(ValueFault::Invalid(Argument::Moment))
+}
+
+/// The moments that words say.
+fn moments_in(alloc: Global, words: &[&str]) -> Result<Vec<Moment>, ValueFault>
+    ensures value { GivesUnless Memory (λ v. v.items) result
+        (collected (λ before. moment_in) [] (map (λ w. w.now) words.now)) }
+    ensures in_range { IfOk result (λ v. All (λ t. t ≤ latest_command) v.items) }
+{
+    let mut moments = Vec::new(alloc);
+    for word in words {
+        let moment = moment_in(word)?;
+        moments.push(moment)?;
+    }
+    Ok(moments)
+}
+
+/// The moments of an operand that comes once or more.
+#[tactic(auto, unfolding(crate::specs::Values::moments_of))]
+pub(crate) fn moments(alloc: Global, matches: &ArgMatches<'_>) -> Result<MomentList, ValueFault>
+    ensures value { GivesUnless Memory (λ l. l) result
+        (moments_of (rows_of (found_of matches.now))) }
+    ensures in_range { IfOk result (λ l. All (λ t. t ≤ latest_command) l) }
+{
+    let found = found_all(matches, Argument::Moment.id());
+    let words = found.ok_or(ValueFault::Invalid(Argument::Moment))?;
+    let moments = moments_in(alloc, words)?;
+    Ok(MomentList::new(moments))
 }
 
 /// The moment of `--at`, where it is there.

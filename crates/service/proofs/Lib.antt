@@ -3,6 +3,7 @@ pub mod CommandLemmas
 pub mod ImportingLemmas
 pub mod MakingLemmas
 pub mod OverLemmas
+pub mod ClockLemmas
 pub mod UnopenedFaults
 pub mod AddingLemmas
 pub mod FaultLines

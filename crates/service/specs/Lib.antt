@@ -6,6 +6,7 @@ pub mod Adding
 pub mod Importing
 pub mod Stating
 pub mod Over
+pub mod CivilClock
 pub mod Clocks
 pub mod Connecting
 pub mod ServingTold

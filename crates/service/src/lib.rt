@@ -5,6 +5,7 @@
 #![tactic(auto)]
 
 mod adding;
+mod civil_clock;
 mod clock;
 mod commanding;
 mod database_files;
@@ -23,6 +24,7 @@ mod stating;
 mod telling;
 
 pub use crate::adding::{add_book, add_over, add_text};
+pub use crate::civil_clock::{clock_office, clock_over};
 pub use crate::clock::{command_moment, machine_moment};
 pub use crate::commanding::{command_office, command_over};
 pub use crate::database_files::{DatabaseFiles, open_database};
