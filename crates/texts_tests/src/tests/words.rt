@@ -3,8 +3,8 @@
 use crate::tests::tables::{Told, try_told, word};
 use commands::{Allowance, Credit};
 use operator::{
-    BookWords, ImportWords, OfficeCommand, OfficeWords, OnceWords, ProgramWords, ServeWords,
-    StatementWords, WordsFault, program_words,
+    BookWords, ClockWords, ImportWords, OfficeCommand, OfficeWords, OnceWords, ProgramWords,
+    ServeWords, StatementWords, WordsFault, program_words,
 };
 use std::alloc::{AllocError, Global};
 use std::process::Abort;
@@ -77,6 +77,15 @@ fn stating(alloc: Global, statement: &StatementWords) -> Result<String, AllocErr
     )
 }
 
+fn looking(alloc: Global, clock: &ClockWords) -> Result<String, AllocError> {
+    let mut text = format!(in alloc; "clock {}", clock.database.as_str())?;
+    for moment in clock.moments.as_slice() {
+        let more = format!(in alloc; " {}", moment.seconds())?;
+        text.push_str(more.as_str())?;
+    }
+    Ok(text)
+}
+
 fn playing(alloc: Global, once: &OnceWords) -> Result<String, AllocError> {
     format!(in alloc;
         "once {} {} {}",
@@ -123,6 +132,7 @@ fn said(rt: &impl Abort, alloc: Global, words: &ProgramWords) -> Result<String, 
         ProgramWords::Import(import) => importing(alloc, import),
         ProgramWords::Office(words) => ordering(rt, alloc, words),
         ProgramWords::Statement(statement) => stating(alloc, statement),
+        ProgramWords::Clock(clock) => looking(alloc, clock),
         ProgramWords::Replay(replay) => format!(in alloc;
             "replay {} {}",
             replay.database.as_str(),
@@ -220,6 +230,12 @@ ocs statement db 49151 202601 -> statement db 49151 202601 false None
 ocs statement --csv db 49151 202612 --at 5 -> statement db 49151 202612 true Some(5)
 ocs statement db 49151 202613 -> ocs: YYYYMM takes 197001 to 209912
 ocs statement db 49151 196912 -> ocs: YYYYMM takes 197001 to 209912
+ocs clock db 5 -> clock db 5
+ocs clock db 0 4102444799 5 5 -> clock db 0 4102444799 5 5
+ocs clock db -> unread 2
+ocs clock db 5 --at 5 -> unread 2
+ocs clock db 5 4102444800 -> ocs: MOMENT takes 0 to 4102444799
+ocs clock db 5 x -> ocs: MOMENT takes 0 to 4102444799
 ocs replay db file -> replay db file
 ocs replay db file --at 1 -> unread 2
 ocs -> unread 2
