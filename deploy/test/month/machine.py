@@ -142,10 +142,14 @@ class Machine:
         self.process.kill()
         self.process.wait(SECONDS)
         groups = [self.group, *(each for each in self.group.rglob("*") if each.is_dir())]
-        lists = [each / "cgroup.procs" for each in groups]
-        wait_until(lambda: not any(each.read_text() for each in lists), "the copy's end")
-        for each in sorted(groups, reverse=True):
-            each.rmdir()
+        wait_until(lambda: all(map(is_removed, sorted(groups, reverse=True))), "the copy's end")
+
+
+def is_removed(group: pathlib.Path) -> bool:
+    """Whether a control group is gone; it stays busy until the kernel has left its last process."""
+    with contextlib.suppress(OSError):
+        group.rmdir()
+    return not group.exists()
 
 
 def program() -> str:
