@@ -1,6 +1,7 @@
 """Somebody at the office's page in Chromium: at a door, by keys or by a pointer."""
 from __future__ import annotations
 
+import contextlib
 import json
 import pathlib
 import re
@@ -46,7 +47,13 @@ class Person(Browser):
 
     def is_counted(self, what: str, before: int) -> None:
         """Waits until the page has finished such a thing once more."""
-        until(lambda: self.counted(what) > before, f"{what} after {before}")
+        until(lambda: self.has_counted(what, before), f"{what} after {before}")
+
+    def has_counted(self, what: str, before: int) -> bool:
+        """Whether the page has finished more such things; one that is being left says nothing."""
+        with contextlib.suppress(OSError):
+            return self.counted(what) > before
+        return False
 
     def text(self, selector: str) -> str:
         """The text of an element."""
