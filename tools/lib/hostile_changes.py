@@ -20,7 +20,7 @@ PIECES += [70_000 * b"x", b"\x80", b"9"]
 TOKEN = re.compile(rb'"(?:[^"\\]|\\.)*"|-?[0-9]+')
 NUMBER = re.compile(rb"-?[0-9]+")
 LONGEST = 70_000
-PAGE, FRAME = 4096, 4120
+PAGE, FRAME = 2048, 2072
 
 
 def piece_of(chance, text):

@@ -9,6 +9,7 @@ ghost use Rattle.wal_check.specs.Sound.{IsSound};
 ghost use Rattle.service.specs.Connecting.{ConnectsTo};
 
 use crate::file_header::is_other_file;
+use crate::first_page::first_page;
 use sqlite::{Connection, Error, ErrorCode};
 use sqlite_disk::{Disk, Files, Start};
 use sqlite_pager::Options;
@@ -16,19 +17,19 @@ use sqlite_std_file::{FileFrom, OpenError};
 use sqlite_store::FileStore;
 use sqlite_wal::Error as LogError;
 use std::alloc::Global;
-use std::fs::OpenOptions;
+use std::fs::{self, File, OpenOptions};
 use std::hash::{BuildHasher, RandomState};
 use std::io::{self, ErrorKind};
-use std::os::unix::fs::OpenOptionsExt;
+use std::os::unix::fs::{FileExt, OpenOptionsExt};
 use wal_check::is_sound;
 
 /// The file and the log of a database, which held what `S` says.
 pub type DatabaseFiles<S> = FileStore<FileFrom<S>>;
 
 /// How many pages that were read are kept, and how many may change in a transaction before some are
-/// written to the log: 8 MB of memory each. The memory of those that are kept is taken as a
-/// database is opened, so more of them make each opening slower.
-const PAGES: usize = 2000;
+/// written to the log: 8 MB of memory each, over pages of `PAGE_SIZE`. The memory of those that are
+/// kept is taken as a database is opened, so more of them make each opening slower.
+const PAGES: usize = 4000;
 
 /// After how many pages the log is written back into the file. A longer log makes the mean command
 /// faster; the one that writes it back and a start, which reads it, become slower.
@@ -62,17 +63,47 @@ fn files_at<S: Start>(rt: &HostRuntime, path: &str, start: S) -> Result<Files<Fi
     }
 }
 
-/// Makes the file where there is none, for its owner alone. The log gets the rights of its file.
+/// Makes the file of a database where there is none, for its owner alone. It holds a first page, or
+/// nothing where that can't be laid down: then the engine chooses how large the pages are. The log
+/// gets the rights of its file.
 fn make_private(rt: &HostRuntime, path: &str) -> io::Result<()> {
-    let made = OpenOptions::new()
-        .write(true)
-        .create_new(true)
-        .mode(OWNER_ALONE)
-        .open(rt, path);
-    match made {
+    if fs::symlink_metadata(rt, path).is_ok() {
+        return Ok(());
+    }
+    let draft = format!(in rt.alloc(); "{path}-new")?;
+    match lay_page(rt, draft.as_str(), path) {
+        Err(error) if error.kind() == ErrorKind::OutOfMemory => return Err(error),
+        _ => {}
+    }
+    match make_file(rt, path) {
         Err(error) if error.kind() != ErrorKind::AlreadyExists => Err(error),
         _ => Ok(()),
     }
+}
+
+/// Makes an empty file, for its owner alone.
+fn make_file(rt: &HostRuntime, path: &str) -> io::Result<File> {
+    OpenOptions::new()
+        .write(true)
+        .create_new(true)
+        .mode(OWNER_ALONE)
+        .open(rt, path)
+}
+
+/// Makes the file with the first page of a database, whole or not at all, whatever stops it: the
+/// page is written and synced in a draft, which then gets the name of the file.
+fn lay_page(rt: &HostRuntime, draft: &str, path: &str) -> io::Result<()> {
+    let file = make_file(rt, draft)?;
+    let named = name_page(rt, &file, draft, path);
+    fs::remove_file(rt, draft).and(named)
+}
+
+/// Writes the first page of a database into the draft, and gives it the name of the file.
+fn name_page(rt: &HostRuntime, file: &File, draft: &str, path: &str) -> io::Result<()> {
+    file.write_all_at(&first_page(), 0)?;
+    file.sync_all()?;
+    fs::hard_link(rt, draft, path)?;
+    file.sync_all()
 }
 
 /// The same, of a path that may be a database's.

@@ -4,7 +4,7 @@ use std::fs;
 use std::io::{self, Read};
 
 /// What the file of a database begins with.
-const FILE_HEADER: &[u8; 16] = b"SQLite format 3\0";
+pub(crate) const FILE_HEADER: &[u8; 16] = b"SQLite format 3\0";
 
 /// Whether there is a file at the path that isn't a database's: it has more than one byte, begins
 /// otherwise, and has no log beside it, which one that is half made has. Nothing is written.

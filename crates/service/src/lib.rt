@@ -12,6 +12,7 @@ mod database_files;
 mod fault;
 mod file_header;
 mod files;
+mod first_page;
 mod importing;
 mod laws;
 mod listening;

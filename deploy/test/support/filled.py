@@ -9,7 +9,7 @@ from support.served import BOOKS, FIRST, GATEWAYS, Served
 from support.uncut import Uncut
 
 # Of the engine: a log's header, a frame's with its page; frames until the log is written back.
-HEADER, FRAME, FULL = 32, 24 + 4096, 16_000
+HEADER, FRAME, FULL = 32, 24 + 2048, 16_000
 # So many frames are left, some ten commands.
 LEFT = 150
 
