@@ -1,8 +1,8 @@
 -- How the program ends, by what its words say and by why they weren't read.
-use Rattle.std.proofs.Common.{◌≡◌, ℕ, ◌≤◌, ◌+◌, ◌++◌, ◌∷◌, ◌⊎◌, Bool, true, false, List, []}
+use Rattle.std.proofs.Common.{◌≡◌, ℕ, ◌++◌, ◌∷◌, ◌⊎◌, Bool, true, false, List, []}
 use Rattle.std.proofs.Common.{sym, ap, subst, ◌∙◌, refl, inl, inr, Option, Some, None, Result, Ok}
 use Rattle.std.proofs.Common.{Err}
-use Rattle.std.specs.Prelude.{IfErr, IfSome, OnErr, min}
+use Rattle.std.specs.Prelude.{IfErr, IfSome, OnErr}
 use Rattle.std.specs.Io.KnownBytes.{Appends, Keeps}
 use Rattle.std.proofs.KnownBytes.{Keeps-refl}
 use Rattle.texts.specs.declared.streams.StreamFault.{StreamFault}
@@ -10,8 +10,6 @@ use Rattle.texts.specs.declared.streams.StreamFault.TheVariants as stream
 use Rattle.clap.specs.Values.{kind_of}
 use Rattle.clap.specs.Words.{IsAmong, Kinds, Text, fault_of}
 use Rattle.clap.specs.declared.error.kind.ErrorKind.{ErrorKind}
-use Rattle.keepers.specs.Faults.{max_failures}
-use Rattle.keepers.specs.declared.fault.StoreFault.TheVariants as store
 use Rattle.commands.specs.declared.answer.Answer.{Answer}
 use Rattle.commands.specs.declared.answer.Answer.TheVariants as answer
 use Rattle.operations.specs.Months.{unknown_line}
@@ -34,32 +32,16 @@ use Rattle.operator.proofs.ProgramLemmas.{one_invalid}
 use Rattle.service.specs.declared.fault.DatabaseFault.{DatabaseFault}
 use Rattle.ocs.specs.Ends.{HasPrinted, IfOnce, IsEnd, IsEndBy, IsEndOf, IsMemory, IsRefused}
 use Rattle.ocs.specs.Ends.{HasBegun}
-use Rattle.ocs.specs.Faults.{IsFaultIn, IsFaultOf, IsMemoryFault, IsReachedByLines}
+use Rattle.ocs.specs.Faults.{IsFaultIn, IsFaultOf, IsMemoryFault}
 use Rattle.ocs.specs.Faults.{IsWriteFault, OnlyDone}
 use Rattle.tariffs.specs.OnceBook.{once_book}
-use Rattle.ocs.specs.Once.{BeginsOnce, once_text}
 use Rattle.ocs.specs.Runs.{PrintsSaid}
-use Rattle.ocs.specs.Told.{AreUnread, IsTextTold, IsTold}
+use Rattle.ocs.specs.Told.{IsTextTold, IsTold}
 use Rattle.ocs.specs.Told.{IsToldAtEnd, IsToldBy, IsToldOf, LeavesOutput, ServesConnections}
 use Rattle.ocs.specs.Told.{TellsFault, fault_line, line_of}
-use Rattle.request_lines.specs.declared.fault.LinesFault.{LinesFault}
-use Rattle.request_lines.specs.declared.fault.LinesFault.TheVariants.{Read, Store, Both, Write}
+use Rattle.request_lines.specs.Once.{BeginsOnce, once_text}
 use Rattle.ocs.specs.declared.fault.ProgramFault.{ProgramFault}
 use Rattle.ocs.specs.declared.fault.ProgramFault.TheVariants as program
-use Rattle.ocs.proofs.OnceLemmas.{no_cause}
-
--- ---- lines over a store that never fails
-
-pub reached_lines : {A : Type 0} (r : Result A LinesFault) →
-    (r ≡ Err (Store store.Store) → min (0 + 1) max_failures ≤ 0) →
-    (r ≡ Err (Both store.Store) → min (0 + 1) max_failures ≤ 0) → IfErr r (IsReachedByLines ⊥)
-reached_lines (Ok x) cause both = tt
-reached_lines (Err (Read f)) cause both = tt
-reached_lines (Err (Store store.Memory)) cause both = tt
-reached_lines (Err (Store store.Store)) cause both = no_cause (cause refl)
-reached_lines (Err (Both store.Memory)) cause both = tt
-reached_lines (Err (Both store.Store)) cause both = no_cause (both refl)
-reached_lines (Err (Write f)) cause both = tt
 
 -- ---- faults
 
@@ -89,25 +71,6 @@ pub write_done : {A : Type 0} (r : Result A ProgramFault) (P : DatabaseFault →
     IfErr r IsWriteFault → IfErr r (OnlyDone P)
 write_done (Ok x) P h = tt
 write_done (Err f) P h = subst (λ (g : ProgramFault). OnlyDone P g) (sym h) refl
-
--- lines over a store that may fail
-pub reached_over : {A : Type 0} (r : Result A LinesFault) → IfErr r (IsReachedByLines (Unit {0}))
-reached_over (Ok x) = tt
-reached_over (Err (Read f)) = tt
-reached_over (Err (Store store.Memory)) = tt
-reached_over (Err (Store store.Store)) = tt
-reached_over (Err (Both store.Memory)) = tt
-reached_over (Err (Both store.Store)) = tt
-reached_over (Err (Write f)) = tt
-
--- what holds where lines weren't read
-pub where_unread : {A : Type 0} (r : Result A LinesFault) (P : Type 0) →
-    ((f : StreamFault) → r ≡ Err (Read f) → P) → IfErr r (λ f. AreUnread f → P)
-where_unread (Ok x) P h = tt
-where_unread (Err (Read f)) P h = λ unread. h f refl
-where_unread (Err (Store f)) P h = λ unread. absurd unread
-where_unread (Err (Both f)) P h = λ unread. absurd unread
-where_unread (Err (Write f)) P h = λ unread. absurd unread
 
 -- ---- words that are read
 

@@ -1,4 +1,3 @@
-pub mod OnceLemmas
 pub mod EndLemmas
 pub mod Buffers
 pub mod Versions

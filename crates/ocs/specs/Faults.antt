@@ -4,12 +4,10 @@ use Rattle.std.specs.Prelude.{◌≡◌, ◌⊎◌, List, Option}
 use Rattle.units.specs.Words.{Moment}
 use Rattle.texts.specs.declared.streams.StreamFault.TheVariants as stream
 use Rattle.clap.specs.Words.{Text}
-use Rattle.keepers.specs.declared.fault.StoreFault.TheVariants as store
 use Rattle.operator.specs.Read.{IsSaid}
 use Rattle.operator.specs.declared.parsed.ProgramWords.{ProgramWords}
 use Rattle.operator.specs.declared.parsed.ProgramWords.TheVariants as words
-use Rattle.request_lines.specs.declared.fault.LinesFault.{LinesFault}
-use Rattle.request_lines.specs.declared.fault.LinesFault.TheVariants.{Read, Store, Both, Write}
+use Rattle.request_lines.specs.Faults.{IsReachedByLines}
 use Rattle.service.specs.Adding.{IsAdditionFault}
 use Rattle.service.specs.CivilClock.{IsClockFault}
 use Rattle.service.specs.Making.{IsInitFault}
@@ -28,15 +26,6 @@ of_import (importing.Vouchers fault) = program.Vouchers fault
 of_import (importing.Database fault) = program.Database fault
 
 -- ---- by what is done
-
--- memory is a store that never fails; one that may fail there is only where this is so
-abbrev pub IsReachedByLines : Type 0 → LinesFault → Type 0
-IsReachedByLines Over (Read fault) = Unit {0}
-IsReachedByLines Over (Store store.Memory) = Unit {0}
-IsReachedByLines Over (Store store.Store) = Over
-IsReachedByLines Over (Both store.Memory) = Unit {0}
-IsReachedByLines Over (Both store.Store) = Over
-IsReachedByLines Over (Write fault) = Unit {0}
 
 -- one of lines over memory
 abbrev pub IsOnceFault : ProgramFault → Type 0

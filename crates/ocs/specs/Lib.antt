@@ -1,4 +1,3 @@
-pub mod Once
 pub mod Ends
 pub mod Faults
 pub mod Told

@@ -23,12 +23,12 @@ use Rattle.service.specs.Opening.{IsUnanswered, IsUnasked}
 use Rattle.service.specs.Told.{about_database}
 use Rattle.service.specs.declared.fault.DatabaseFault.{DatabaseFault}
 use Rattle.service.specs.ServingTold.{IsUnlistened, TellsFaults, listening_line}
+use Rattle.request_lines.specs.Faults.{AreUnread}
 use Rattle.request_lines.specs.Told.{about_lines}
 use Rattle.vouchers.specs.Faults.{voucher_fault_number}
 use Rattle.ocs.specs.Ends.{IsRefused, Says}
 use Rattle.ocs.specs.Faults.{IsFaultIn, IsFaultOf, IsMemoryFault, IsWriteFault}
 use Rattle.request_lines.specs.declared.fault.LinesFault.{LinesFault}
-use Rattle.request_lines.specs.declared.fault.LinesFault.TheVariants.{Read, Store, Both, Write}
 use Rattle.ocs.specs.declared.fault.ProgramFault.{ProgramFault}
 use Rattle.ocs.specs.declared.fault.ProgramFault.TheVariants as program
 
@@ -65,13 +65,6 @@ line_of (words.Serve serve) = Some (listening_line serve.port)
 line_of _ = None
 
 -- ---- what isn't printed
-
--- the lines weren't read
-abbrev pub AreUnread : LinesFault → Type 0
-AreUnread (Read fault) = Unit {0}
-AreUnread (Store fault) = ⊥
-AreUnread (Both fault) = ⊥
-AreUnread (Write fault) = ⊥
 
 -- this is so of a fault of lines
 abbrev pub IfLines : ProgramFault → (LinesFault → Type 0) → Type 0

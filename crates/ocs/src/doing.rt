@@ -1,32 +1,28 @@
 //! What the words ask for, done.
 
-ghost use Rattle.std.specs.Prelude.{◌≡◌, ◌≤◌, Err, IfErr, IfOk, IfSome, OnOk, OnErr};
+ghost use Rattle.std.specs.Prelude.{◌≡◌, IfErr, IfOk, IfSome, OnOk, OnErr};
 ghost use Rattle.std.specs.Io.KnownBytes.{Appends};
-ghost use Rattle.units.specs.Words.{greatest_price, most_granted};
 ghost use Rattle.operations.specs.Printed.{IsEnded};
 ghost use Rattle.operations.specs.Written.{WritesBeginning};
 ghost use Rattle.tariffs.specs.OnceBook.{once_book};
 ghost use Rattle.operator.specs.Read.{IsInRange, IsOnceInRange};
-ghost use Rattle.shelves.specs.Shelves.{one_book};
 ghost use Rattle.ocs.specs.Ends.{HasBegun, HasPrinted, IfOnce, IsRefused};
-ghost use Rattle.ocs.specs.Faults.{IsFaultOf, IsOnceFault, IsReachedByLines};
-ghost use Rattle.ocs.specs.Once.{BeginsOnce, WritesOnce};
-ghost use Rattle.ocs.specs.Told.{AreUnread, IfLines, IsSilent, IsToldAtEnd, line_of};
+ghost use Rattle.ocs.specs.Faults.{IsFaultOf, IsOnceFault};
+ghost use Rattle.ocs.specs.Told.{IfLines, IsSilent, IsToldAtEnd, line_of};
+ghost use Rattle.request_lines.specs.Faults.{AreUnread};
+ghost use Rattle.request_lines.specs.Once.{BeginsOnce, WritesOnce};
 
 use crate::fault::ProgramFault;
 use crate::making::{answer_book, answer_init, answer_migrate};
 use crate::replaying::answer_replay;
 use crate::serving::answer_serve;
 use crate::storing::{answer_clock, answer_import, answer_office, answer_statement};
-use keepers::MemoryKeeper;
 use operations::Status;
 use operator::{OnceWords, ProgramWords};
-use request_lines::{LinesFault, lines};
-use shelves::TariffShelf;
-use std::alloc::{AllocError, Global};
+use request_lines::once_lines;
+use std::alloc::Global;
 use std::fs::Files;
 use std::io::{Read, Write};
-use tariffs::once_book;
 
 /// Does what the words say; the lines of a file are read of `files`. The status is `Failed` where
 /// an operator's command or a statement is refused.
@@ -99,38 +95,6 @@ fn answer_once<I: Read, O: Write>(
     ensures fault { OnErr result (BeginsOnce (once_book once.price once.block) once.credit
         (I.remaining input.old) (O.contents output.old) (O.contents output.new)) }
 {
-    answer_lines(alloc, once, input, output)?;
+    once_lines(alloc, once.credit, once.price, once.block, input, output)?;
     Ok(Status::Done)
-}
-
-/// Answers the lines of the input as `answer_once` does; an error is the fault of the lines.
-fn answer_lines<I: Read, O: Write>(
-    alloc: Global,
-    once: OnceWords,
-    input: &mut I,
-    output: &mut O,
-) -> Result<(), LinesFault>
-    requires { IsOnceInRange once }
-    ensures reached { IfErr result (IsReachedByLines ⊥) }
-    ensures unwritten { IfErr result (λ fault. AreUnread fault → output.new ≡ output.old) }
-    ensures done { OnOk result (WritesOnce (once_book once.price once.block) once.credit
-        (I.remaining input.old) (O.contents output.old) (O.contents output.new)) }
-    ensures fault { OnErr result (BeginsOnce (once_book once.price once.block) once.credit
-        (I.remaining input.old) (O.contents output.old) (O.contents output.new)) }
-{
-    let shelf = once_shelf(alloc, once.price, once.block)?;
-    let mut keeper = MemoryKeeper::new(alloc);
-    lines(alloc, &mut keeper, &shelf, Some(once.credit), input, output)
-}
-
-/// The shelf on which the book of one price is alone: `price` micro-units a block of `block`
-/// seconds.
-fn once_shelf(alloc: Global, price: u64, block: u64) -> Result<TariffShelf, AllocError>
-    requires price { price ≤ greatest_price }
-    requires some_block { 1 ≤ block }
-    requires block { block ≤ most_granted }
-    ensures { IfOk result (λ s. s ≡ one_book (once_book price block)) }
-{
-    let book = once_book(alloc, price, block)?;
-    TariffShelf::new(alloc, book).map_err(|_| AllocError)
 }

@@ -10,9 +10,10 @@ ghost use Rattle.sql_keeper.specs.Inside.{clean_in, tables_in};
 ghost use Rattle.sql_keeper.specs.Stops.{honest_in};
 ghost use Rattle.service.specs.Over.{Comes};
 ghost use Rattle.ocs.specs.Ends.{BeginsLinesOf, PrintsLines};
-ghost use Rattle.ocs.specs.Faults.{IsReachedByLines, IsReplayFault};
+ghost use Rattle.ocs.specs.Faults.{IsReplayFault};
 ghost use Rattle.ocs.specs.Replayed.{IsReplayDone};
-ghost use Rattle.ocs.specs.Told.{AreUnread, IfLines};
+ghost use Rattle.ocs.specs.Told.{IfLines};
+ghost use Rattle.request_lines.specs.Faults.{AreUnread, IsReachedByLines};
 
 use crate::fault::ProgramFault;
 use keepers::Keeper;
@@ -126,7 +127,7 @@ fn answer_reader<K: Keeper, R: Read + Drop, O: Write>(
 }
 
 /// Answers the lines of a reader over a keeper, which may fail.
-#[tactic(auto, using(crate::proofs::EndLemmas::reached_over, crate::proofs::EndLemmas::where_unread))]
+#[tactic(auto, using(request_lines::proofs::Reached::reached_over, request_lines::proofs::Reached::where_unread))]
 fn answer_requests<K: Keeper, R: Read, O: Write>(
     alloc: Global,
     keeper: &mut K,

@@ -6,3 +6,5 @@ pub mod Answered
 pub mod Carried
 pub mod Ended
 pub mod HeldLines
+pub mod OnceLemmas
+pub mod Reached

@@ -1,9 +1,10 @@
--- Wants of memory among the faults of lines, and what answering lines ends with.
+-- The faults of lines: wants of memory, which come over a store, and what answering lines ends with.
 -- Source: profile.
 use Rattle.std.specs.Prelude.{Option, Some, None, Result, Ok, Err}
 use Rattle.texts.specs.declared.streams.StreamFault.{StreamFault}
 use Rattle.texts.specs.declared.streams.StreamFault.TheVariants as stream
 use Rattle.keepers.specs.declared.fault.StoreFault.{StoreFault}
+use Rattle.keepers.specs.declared.fault.StoreFault.TheVariants as store
 use Rattle.request_lines.specs.declared.fault.LinesFault.{LinesFault}
 use Rattle.request_lines.specs.declared.fault.LinesFault.TheVariants.{Read, Store, Both, Write}
 
@@ -16,3 +17,19 @@ ended_as None (Ok written) = Ok written
 ended_as None (Err fault) = Err (Write fault)
 ended_as (Some fault) (Ok written) = Err (Store fault)
 ended_as (Some fault) (Err unwritten) = Err (Both fault)
+
+-- memory is a store that never fails; one that may fail there is only where this is so
+abbrev pub IsReachedByLines : Type 0 → LinesFault → Type 0
+IsReachedByLines Over (Read fault) = Unit {0}
+IsReachedByLines Over (Store store.Memory) = Unit {0}
+IsReachedByLines Over (Store store.Store) = Over
+IsReachedByLines Over (Both store.Memory) = Unit {0}
+IsReachedByLines Over (Both store.Store) = Over
+IsReachedByLines Over (Write fault) = Unit {0}
+
+-- the lines weren't read
+abbrev pub AreUnread : LinesFault → Type 0
+AreUnread (Read fault) = Unit {0}
+AreUnread (Store fault) = ⊥
+AreUnread (Both fault) = ⊥
+AreUnread (Write fault) = ⊥

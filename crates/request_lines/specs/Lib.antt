@@ -5,3 +5,4 @@ pub mod Served
 pub mod Answering
 pub mod Input
 pub mod Output
+pub mod Once

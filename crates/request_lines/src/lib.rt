@@ -5,10 +5,12 @@
 mod fault;
 mod input;
 mod line_answers;
+mod once;
 mod opening;
 mod output;
 mod reading;
 
 pub use crate::fault::LinesFault;
 pub use crate::line_answers::lines;
+pub use crate::once::once_lines;
 pub use crate::reading::read_line;

@@ -1,11 +1,10 @@
 -- What `once` writes: lines before any command, over a store in memory.
 use Rattle.std.proofs.Common.{◌≡◌, ℕ, List, [], sym, subst, Option, Some, None, IfSome, Result, Ok}
-use Rattle.std.proofs.Common.{Err, ◌+◌, ◌≤◌, arith}
-use Rattle.std.specs.Prelude.{min, OnOk, OnErr}
+use Rattle.std.proofs.Common.{Err}
+use Rattle.std.specs.Prelude.{OnOk, OnErr}
 use Rattle.std.specs.Io.KnownBytes.{Appends}
 use Rattle.tariffs.specs.Books.{Book}
 use Rattle.shelves.specs.Shelves.{Shelf, one_book}
-use Rattle.keepers.specs.Faults.{max_failures}
 use Rattle.keepers.specs.Tables.{Tables, no_tables}
 use Rattle.charging.proofs.runs.AcceptedTables.{tables_none}
 use Rattle.charging.specs.Outcomes.{book_days, outcome}
@@ -14,7 +13,7 @@ use Rattle.charging.specs.Served.{AreTables}
 use Rattle.operations.specs.Written.{WritesBeginning}
 use Rattle.request_lines.specs.Served.{IsAnswered, AreLinesBegun, text_of}
 use Rattle.request_lines.proofs.Answered.{begins}
-use Rattle.ocs.specs.Once.{once_text}
+use Rattle.request_lines.specs.Once.{once_text}
 
 -- rule: once
 pub once-answered : {A E : Type 0} (result : Result A E) (b : Shelf) (c : Book) (credit : ℕ)
@@ -41,7 +40,3 @@ once-begun (Err e) b c credit (Some stream) w0 w1 old new same none h =
     h [] tt (subst (AreTables b []) (sym none) (tables_none (book_days b) (outcome b) b)) in
     subst (λ (shelf : Shelf). WritesBeginning w0 w1 (text_of shelf [] (Some credit) stream)) same
     (begins b [] (Some credit) stream begun.count w0 w1 begun.written)
-
--- a count that stays at 0 has no cause
-pub no_cause : min (0 + 1) max_failures ≤ 0 → ⊥
-no_cause h = omega (arith, h)

@@ -1,7 +1,7 @@
-use Rattle.ocs.proofs.OnceLemmas.{once-answered, once-begun}
-use Rattle.ocs.proofs.EndLemmas.{reached_lines}
+use Rattle.request_lines.proofs.OnceLemmas.{once-answered, once-begun}
+use Rattle.request_lines.proofs.Reached.{reached_lines}
 use Rattle.request_lines.proofs.Carried.{carried-cause, carried-cause_of_both}
-use Rattle.ocs.proofs.doing.answer_lines.Goals as goal
+use Rattle.request_lines.proofs.once.once_lines.Goals as goal
 
 pub returns-clause-done : goal.returns-clause-done
 returns-clause-done g c = once-answered c.lines.result _ _ _ _ _ _ _ _ c.in_ok-shelf.ensures
