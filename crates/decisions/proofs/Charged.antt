@@ -6,6 +6,7 @@ use Rattle.std.proofs.lemmas.Bool.Decides.{nat_tests}
 use Rattle.commands.specs.declared.answer.Failure.TheVariants.{UnableToComply}
 use Rattle.commands.specs.declared.answer.Outcome.{Outcome}
 use Rattle.commands.specs.declared.answer.Outcome.TheVariants.{Services, Refunded, Failed}
+use Rattle.commands.specs.declared.answer.ServiceFailure.TheVariants.{CreditLimitReached}
 use Rattle.commands.specs.declared.answer.ServiceOutcome.TheVariants as service
 use Rattle.commands.specs.Refunds.{Refunded as Refund}
 use Rattle.units.specs.declared.blocks.UsedPart.{UsedPart}
@@ -24,7 +25,7 @@ use Rattle.reserving.specs.Rows.{AccountRows, IsRowsOf}
 use Rattle.reserving.specs.Left.{LeftRows, joined, NotLeft, IsBeside, IsWith}
 use Rattle.reserving.proofs.ChargeRows.{told_row, charge_rows-settlement, charge_rows-debit}
 use Rattle.reserving.proofs.ChargeRows.{charge_rows-recorded, charge_rows-credited}
-use Rattle.decisions.specs.Decisions.{Decision, accepted, told}
+use Rattle.decisions.specs.Decisions.{Decision, accepted, denied, told}
 use Rattle.decisions.specs.Parts.{charged_if_covered, refunded}
 use Rattle.decisions.specs.Follows.{IsNew, Agrees, Follows, Reports}
 use Rattle.decisions.proofs.Rulings.{uncharged}
@@ -102,6 +103,12 @@ follows_charged old middle new tariff t s n g units settled row is debit records
     rw (own.covered, own.within) refl in
     subst (λ d. Agrees (debit_outcome tariff g units) true (row ∷ []) d ledger left t new)
     (sym same) agrees
+
+-- an event whose price isn't covered
+pub charge_uncovered : (b : Shelf) (tariff : GroupTariff) (t : ℕ) (s : List ℕ) (n g units : ℕ)
+    (ledger : Ledger) → is_covered b t g units ledger ≡ false →
+    charged_if_covered b tariff t s n g units ledger ≡ denied t s n CreditLimitReached ledger
+charge_uncovered b tariff t s n g units ledger none = rw none refl
 
 -- an event whose price is covered, and whose charge passes a limit
 pub charge_passes : (b : Shelf) (tariff : GroupTariff) (t : ℕ) (s : List ℕ) (n g units : ℕ)

@@ -26,7 +26,7 @@ use Rattle.ledger.specs.Settlement.{due_of, use_of, reported, report_price, char
 use Rattle.ledger.specs.Settlement.{settled_by, missing, passes}
 use Rattle.ledger.specs.Reservation.{grant_at, hold_facts, reserved}
 use Rattle.ledger.specs.Debiting.{rest_price, charged_use, debited}
-use Rattle.reserving.specs.Results.{IsSettlementOf, IsDebitOf}
+use Rattle.reserving.specs.Results.{IsAnswered, IsSettlementOf, IsDebitOf}
 use Rattle.ledger.specs.Lists.{EachIn}
 use Rattle.reserving.specs.Rows.{AccountRows}
 use Rattle.ledger.proofs.Fronts.{total-front, each_charge, each_hold}
@@ -192,7 +192,7 @@ charge_rows-settlement b t n s g p ps ledger x number is =
     let due : Due = due_of (report_price b t s g (p ∷ ps) ledger) in
     let left : ℕ = missing b t s g (p ∷ ps) ledger in
     let collected : x.collected.0 ≡ due.money - left =
-    omega (arith, is.collected, is.rated, is.uncollected) in
+    omega (arith, x.sum, is.rated, is.uncollected) in
     charge_rows-reported b t s g p ps ledger
     ∙ (λ i. charge_rows ledger
     ++ charge_row (sym number i) t s g (report_price b t s g (p ∷ ps) ledger).blocks due left
@@ -208,13 +208,15 @@ pub charge_rows-debit : (b : Shelf) (t n : ℕ) (s : List ℕ) (g units : ℕ) (
     charge_rows (debited b t s g units ledger) ≡ charge_rows ledger ++ told_row n t s g x ∷ []
 charge_rows-debit b t n s g units ledger after x number is =
     let price : Rated = rest_price b t g units ledger in
-    let collected : x.collected.0 ≡ price.amount.0 - 0 = omega (arith, is.collected, is.rated) in
+    let answer : IsAnswered price 0 x = is.answer in
+    let collected : x.collected.0 ≡ price.amount.0 - 0 =
+    omega (arith, x.sum, answer.rated, answer.uncollected) in
     charge_rows-charged_use (validity_of b) t s g units price.blocks (due_of price) ledger
     ∙ (λ i. charge_rows ledger
     ++ charge_row (sym number i) t s g price.blocks (due_of price) 0 ∷ [])
     ∙ ap (λ r. charge_rows ledger ++ r ∷ [])
-    (told_is n t s g price.blocks (due_of price) 0 x is.blocks is.covered_blocks is.rated
-    is.uncollected collected)
+    (told_is n t s g price.blocks (due_of price) 0 x answer.blocks answer.covered answer.rated
+    answer.uncollected collected)
 
 -- ---- numbers
 

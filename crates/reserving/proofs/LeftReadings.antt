@@ -1,7 +1,7 @@
 -- What is read of an account beside the rows that were left: funds, prices, quotas and limits.
-use Rattle.std.proofs.Common.{◌≡◌, ℕ, ◌+◌, ◌-◌, arith, ◌≤◌, true, false, List, [], refl, sym, ap}
-use Rattle.std.proofs.Common.{subst, ◌∙◌, Option, None}
-use Rattle.std.specs.Prelude.{option_map}
+use Rattle.std.proofs.Common.{◌≡◌, ℕ, ◌+◌, ◌-◌, arith, ◌≤◌, true, false, List, [], ◌∷◌, refl, sym}
+use Rattle.std.proofs.Common.{ap, subst, ◌∙◌, Option, None}
+use Rattle.std.specs.Prelude.{option_map, nat_le}
 use Rattle.units.specs.declared.blocks.UsedPart.{UsedPart}
 use Rattle.buckets.specs.declared.holds.HeldAmount.{HeldAmount}
 use Rattle.buckets.specs.Row.{BucketRow}
@@ -14,21 +14,22 @@ use Rattle.buckets.specs.declared.kind.Due.{Due}
 use Rattle.shelves.specs.Shelves.{book_at}
 use Rattle.reserving.specs.declared.session.SessionGroup.{SessionGroup}
 use Rattle.reserving.specs.declared.session.Reservation.{Reservation}
-use Rattle.ledger.specs.Ledger.{Ledger, is_live}
+use Rattle.ledger.specs.Ledger.{Ledger, is_live, used, counter}
 use Rattle.ledger.specs.Balance.{buckets_at}
-use Rattle.ledger.specs.Pricing.{cycle_at, periods_at, validity_of}
+use Rattle.ledger.specs.Pricing.{cycle_at, periods_at, validity_of, tariff_at, grant_with}
 use Rattle.reserving.specs.Quotas.{IsQuota}
 use Rattle.ledger.specs.Reservation.{grant_for}
 use Rattle.reserving.specs.Sessions.{is_of, is_live_in}
 use Rattle.ledger.specs.Settlement.{reported, price_of, passes, passes_limit, passes_after}
-use Rattle.ledger.specs.Debiting.{untagged, event_price, rest_price, debit_passes}
+use Rattle.ledger.specs.Debiting.{untagged, event_price, rest_price, is_covered, debit_passes}
 use Rattle.reserving.specs.Changes.{advanced, used_in, count_in, price_in, event_price_in}
-use Rattle.reserving.specs.Changes.{rest_price_in}
+use Rattle.reserving.specs.Changes.{rest_price_in, is_covered_in, passes_in, granted_in}
 use Rattle.ledger.specs.Lists.{EachIn}
 use Rattle.reserving.specs.Rows.{AccountRows}
 use Rattle.ledger.specs.Laws.{IsDead}
 use Rattle.reserving.specs.Left.{LeftRows, merged, joined, IsLeft, AreOfOtherCycles, IsWith}
 use Rattle.reserving.proofs.Advancing.{IsRowsOf-advanced, is_live_in-is}
+use Rattle.reserving.proofs.SettledRows.{used_in_is, count_in_is}
 use Rattle.reserving.proofs.PassedLimits.{passes_after-none}
 use Rattle.reserving.proofs.calls.Settled.{passes_after_is}
 use Rattle.reserving.proofs.calls.Debited.{event_price_is, rest_price_is, debit_passes_is}
@@ -121,6 +122,13 @@ debit_passes_told ledger left t a s g units not_of le h =
     (count_beside a.shelf t g left.counters a.counters h.cycles i)
     (rest_price_joined left a g units t h.apart h.cycles i).blocks a.next_charge)
 
+pub covered_told : (ledger : Ledger) (left : LeftRows) (t : ℕ) (a : AccountRows) (g units : ℕ) →
+    a.as_of ≤ t → IsWith ledger left t a →
+    is_covered a.shelf t g units ledger ≡ is_covered_in g units t a
+covered_told ledger left t a g units le h =
+    λ i. nat_le (sym (rest_price_told ledger left t a g units le h) i).amount.0
+    (sym (funds_told ledger left t a g le h) i)
+
 -- ---- a report
 
 pub price_joined : (left : LeftRows) (a : AccountRows) (s : List ℕ) (g t : ℕ)
@@ -164,6 +172,15 @@ passes_told ledger left t a s g used_parts le h alive some =
     ∙ passes_after_told 0 ledger left t a s g used_parts le h alive some
     ∙ ap (passes (used_in s g a.groups) (reported used_parts)
     (count_in g (cycle_at a.shelf g t) a.counters) (price_in s g t used_parts a).blocks) next
+
+-- so it does by the rows
+pub passes_in_told : (ledger : Ledger) (left : LeftRows) (t : ℕ) (a : AccountRows) (s : List ℕ)
+    (g : ℕ) (used_parts : List UsedPart) → a.as_of ≤ t → IsWith ledger left t a →
+    is_live_in (validity_of a.shelf) t a.sessions s ≡ true →
+    passes_limit a.shelf t s g used_parts ledger ≡ passes_in s g t used_parts a
+passes_in_told ledger left t a s g [] le h alive = refl
+passes_in_told ledger left t a s g (p ∷ ps) le h alive =
+    passes_told ledger left t a s g (p ∷ ps) le h alive (λ e. (let no : p ∷ ps ≡ [] = e in cc))
 
 -- what is collected of an amount doesn't know of dead buckets
 pub uncollected_merged : (holds : List HeldAmount) (g t : ℕ) (due : Due)
@@ -222,3 +239,20 @@ pub quota_of_joined : (left : LeftRows) (a : AccountRows) (s : List ℕ) (g t : 
 quota_of_joined left a s g t requested units grant h cycles not_of q =
     quota_joined left a (used_in s g a.groups) (used_in s g (joined left a).groups) g t requested
     units grant h cycles (used_joined left a s g h not_of) q
+
+-- what is granted by the rows is what is granted of the ledger
+pub granted_told : (ledger : Ledger) (left : LeftRows) (t : ℕ) (a : AccountRows) (s : List ℕ)
+    (g : ℕ) (requested : Option ℕ) → a.as_of ≤ t → IsWith ledger left t a →
+    is_live_in (validity_of a.shelf) t a.sessions s ≡ true →
+    granted_in s g t requested a ≡ grant_for a.shelf t g (used s g ledger) requested ledger
+granted_told ledger left t a s g requested le h alive =
+    let not_of : EachIn (λ r. is_of s g r ≡ false) left.groups =
+    not_of_live left a t s g h.apart alive in
+    let before : used_in s g a.groups ≡ used s g ledger =
+    sym (used_joined left a s g h.apart not_of) ∙ used_in_is ledger (joined left a) s g h.rows in
+    let cycle : ℕ = cycle_at a.shelf g t in
+    let count : count_in g cycle a.counters ≡ counter (cycle_at a.shelf g) g cycle ledger =
+    sym (count_beside a.shelf t g left.counters a.counters h.cycles)
+    ∙ count_in_is ledger (joined left a) g cycle h.rows in
+    λ i. grant_with (tariff_at a.shelf t g) (periods_at a.shelf t) (before i) (count i) requested
+    (funds_told ledger left t a g le h i) (allowance_told ledger left t a g le h i)

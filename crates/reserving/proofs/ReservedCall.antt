@@ -34,7 +34,7 @@ use Rattle.reserving.specs.Changes.{lapse_group, lapsed_in, advanced, new_group,
 use Rattle.reserving.specs.Changes.{used_in, count_in, with_reservation, reserved_account}
 use Rattle.reserving.specs.Prepared.{with_group, with_group_row, reservation_in}
 use Rattle.reserving.specs.Rows.{AccountRows, IsAccount, IsRowsOf}
-use Rattle.reserving.specs.Results.{IsGrantOf, IsWithin}
+use Rattle.reserving.specs.Results.{IsGrantOf}
 use Rattle.reserving.specs.Placed.{AreOfBook}
 use Rattle.reserving.specs.Sessions.{group_before}
 use Rattle.reserving.proofs.Lists.{find-map, some_of, no_some}
@@ -334,6 +334,13 @@ quota_covered a s g t requested units grant q = by_tariff (tariff_at a.shelf t g
         let none : grant.amount.0 ≡ 0 = ap (λ (x : Grant). x.amount.0) same in
         omega (arith, none)
     by_tariff (Some x) e = (q.greatest x e).covered
+
+-- units that are granted are some, of a group with a tariff, and no more than its greatest grant
+pub record IsWithin (t : Option GroupTariff) (units : ℕ) : Type 0 where
+  pub some : 0 < units
+  pub tariff : GroupTariff
+  pub known : t ≡ Some tariff
+  pub most : units ≤ tariff.max_grant
 
 -- the group of a grant has a tariff, also once the account is brought to its moment
 pub tariff_middle : (a middle : AccountRows) (s : List ℕ) (g t units : ℕ) →

@@ -1,9 +1,10 @@
 -- What each call on an account says: by its rows, whatever they are, of each ledger whose rows they
--- are, and of each ledger whose rows they are together with those that were left.
+-- are, and of each ledger whose rows they are together with those that were left. Settlements,
+-- debits and reservations say it by the rows alone; what they are of a ledger follows (`ByLedger`).
 -- Source: RFC 8506 sections 5.2 to 5.4 and 6.3; TS 32.296, account balance management function; TS
 -- 32.299, session charging with unit reservation and immediate event charging.
-use Rattle.std.specs.Prelude.{◌≡◌, ◌≤◌, ◌<◌, ◌==◌, ◌↔◌, Bool, true, false, nat_lt, is_some}
-use Rattle.std.specs.Prelude.{List, [], Option, None, Result, Err, OnOk, OnErr, IsOk, IfOk}
+use Rattle.std.specs.Prelude.{◌≡◌, ◌≤◌, ◌<◌, ◌↔◌, Bool, true, false, nat_lt}
+use Rattle.std.specs.Prelude.{List, [], Option, Result, Err, OnOk, OnErr, IsOk, IfOk}
 use Rattle.std.specs.Prelude.{IfSome, IfNone, IsErrOf}
 use Rattle.units.specs.Words.{Moment, BlockCount, UnitCount, GroupId, greatest_number}
 use Rattle.identifiers.specs.Words.{SessionName}
@@ -23,23 +24,19 @@ use Rattle.reserving.specs.declared.settle.Settled.{Settled}
 use Rattle.ledger.specs.Ledger.{Ledger, is_barred, is_live}
 use Rattle.ledger.specs.Pricing.{tariff_at, cycle_at, periods_at, grant_with, validity_of}
 use Rattle.ledger.specs.Balance.{buckets_at}
-use Rattle.reserving.specs.Sessions.{session_in, group_in, is_live_in}
-use Rattle.ledger.specs.Settlement.{due_of, passes_limit, settled_by}
+use Rattle.reserving.specs.Sessions.{is_live_in}
 use Rattle.ledger.specs.Reservation.{grant_for}
-use Rattle.ledger.specs.Debiting.{is_covered, debit_passes}
 use Rattle.ledger.specs.Requests.{credited}
 use Rattle.reserving.specs.Rows.{AccountRows, IsRowsOf}
 use Rattle.reserving.specs.Placed.{ArePlaced}
 use Rattle.reserving.specs.Stored.{StoredRows, IsStored, priced}
 use Rattle.reserving.specs.Restored.{in_key_order, FindsSame, AreReordered}
-use Rattle.reserving.specs.Prepared.{reservation_in}
-use Rattle.reserving.specs.Changes.{advanced, count_in, passes_in, settled_by_rows, rest_price_in}
-use Rattle.reserving.specs.Changes.{is_covered_in, debit_passes_in, debited_account}
+use Rattle.reserving.specs.Changes.{advanced, count_in, price_in, missing_in, passes_in}
+use Rattle.reserving.specs.Changes.{settled_by_rows, is_covered_in, debit_passes_in}
 use Rattle.reserving.specs.Changes.{credited_account}
-use Rattle.reserving.specs.Left.{LeftRows, NotLeft, left_of, joined, IsBeside, IsWith}
+use Rattle.reserving.specs.Left.{LeftRows, NotLeft, left_of, IsWith}
 use Rattle.reserving.specs.Live.{live_part, with_counters}
-use Rattle.reserving.specs.Results.{IsSettlementOf, GivesGrant, GivesGrantIn, IsWithinGrant}
-use Rattle.reserving.specs.Results.{IsDebit}
+use Rattle.reserving.specs.Results.{IsAnswered, GivesGrantIn, GivesDebitIn}
 
 -- ---- what is read of an account
 
@@ -131,98 +128,38 @@ pub record Credits (kind : BucketKind) (from until : Moment) (scope : Option Gro
 
 -- ---- settlements
 
--- a report is settled within the limits and its reservation ends; at an error nothing has changed
--- rule: database-loads
+-- a report is settled by the account's rows, whatever they are, within the limits, and its
+-- reservation ends; at an error nothing has changed
+-- rule: grant-units.passes-in
 pub record Settles (session : SessionName) (group : GroupId) (used_parts : List UsedPart)
     (t : Moment) (before after : AccountRows) (result : Result Settled AccountFault) : Type 0 where
-  pub rows : OnOk result ((ledger : Ledger) → IsRowsOf ledger before →
-      IsRowsOf (settled_by before.shelf t session group used_parts ledger) after)
-  pub left : OnOk result ((ledger : Ledger) (left : LeftRows) → IsWith ledger left t before →
-      IsWith (settled_by before.shelf t session group used_parts ledger) left t after)
-  -- rule: grant-units.passes-in
-  pub by_rows : OnOk result (after ≡ settled_by_rows session group used_parts (advanced t before))
-  pub as_of : OnOk result (after.as_of ≡ t)
-  pub tariff : after.shelf ≡ before.shelf
-  pub sessions : OnOk result (after.sessions ≡ (advanced t before).sessions)
-  pub settled : IfOk result (λ s. (ledger : Ledger) → IsRowsOf ledger before →
-      IsSettlementOf before.shelf t session group used_parts ledger s)
-  pub settled_left : IfOk result (λ s. (ledger : Ledger) (left : LeftRows) →
-      IsWith ledger left t before → IsSettlementOf before.shelf t session group used_parts ledger s)
-  pub within : OnOk result ((ledger : Ledger) → IsRowsOf ledger before →
-      passes_limit before.shelf t session group used_parts ledger ≡ false)
-  pub within_left : OnOk result ((ledger : Ledger) (left : LeftRows) → IsWith ledger left t before →
-      passes_limit before.shelf t session group used_parts ledger ≡ false)
-  pub limit : result ≡ Err Limit → (ledger : Ledger) → IsRowsOf ledger before →
-      passes_limit before.shelf t session group used_parts ledger ≡ true
-  pub limit_left : result ≡ Err Limit → (ledger : Ledger) (left : LeftRows) →
-      IsWith ledger left t before →
-      passes_limit before.shelf t session group used_parts ledger ≡ true
-  pub within_rows : OnOk result (passes_in session group t used_parts before ≡ false)
-  -- rule: grant-units.passes-in
-  pub limit_rows : result ≡ Err Limit → passes_in session group t used_parts before ≡ true
+  pub rows : OnOk result (after ≡ settled_by_rows session group used_parts (advanced t before))
+  pub settled : IfOk result (IsAnswered (price_in session group t used_parts before)
+      (missing_in session group t used_parts before))
+  pub within : OnOk result (passes_in session group t used_parts before ≡ false)
+  pub limit : result ≡ Err Limit → passes_in session group t used_parts before ≡ true
   pub ended : used_parts ≡ [] → IsOk result
-  pub free : OnOk result (reservation_in session group after.groups ≡ None)
-  pub others : OnOk result ((s : SessionName) (g : GroupId) →
-      reservation_in s g before.groups ≡ None → reservation_in s g after.groups ≡ None)
   pub err : OnErr result (after ≡ before)
 
 -- ---- debits
 
 -- an event's units are charged, where they are covered and stay within the limits; else nothing has
 -- changed
--- rule: database-loads.with
+-- rule: grant-units.passes-in
 pub record Debits (session : SessionName) (group : GroupId) (units : UnitCount) (t : Moment)
     (before after : AccountRows) (result : Result (Option Settled) AccountFault) : Type 0 where
-  pub debit : IfOk result (λ s. (ledger : Ledger) → IsRowsOf ledger before →
-      IsDebit before.shelf t session group units ledger after s)
-  pub left : IfOk result (λ s. (ledger : Ledger) (left : LeftRows) →
-      group_in session group left.groups ≡ None → IsWith ledger left t before →
-      IsBeside left t after ×
-      IsDebit before.shelf t session group units ledger (joined left after) s)
-  pub limit : result ≡ Err Limit → (ledger : Ledger) → IsRowsOf ledger before →
-      (is_covered before.shelf t group units ledger ≡ true) ×
-      (debit_passes before.shelf t session group units ledger ≡ true)
-  pub limit_left : result ≡ Err Limit → (ledger : Ledger) (left : LeftRows) →
-      group_in session group left.groups ≡ None → IsWith ledger left t before →
-      (is_covered before.shelf t group units ledger ≡ true) ×
-      (debit_passes before.shelf t session group units ledger ≡ true)
-  -- rule: grant-units.passes-in
-  pub covered_rows : IfOk result (λ s. is_some s ≡ is_covered_in group units t before)
-  pub within_rows : IfOk result
-      (λ s. IfSome s (λ given. debit_passes_in session group units t before ≡ false))
-  pub limit_rows : result ≡ Err Limit →
+  pub debit : IfOk result (GivesDebitIn session group units t before after)
+  pub limit : result ≡ Err Limit →
       (is_covered_in group units t before ≡ true) ×
       (debit_passes_in session group units t before ≡ true)
-  pub by_rows : IfOk result
-      (λ s. IfSome s (λ given. after
-      ≡ debited_account session group units (rest_price_in group units t before).blocks
-      (due_of (rest_price_in group units t before)) (advanced t before)))
-  pub uncovered : IfOk result (λ s. s ≡ None → after ≡ before)
-  pub number : IfOk result (λ s. IfSome s (λ given. before.next_charge ≤ greatest_number))
-  pub as_of : IfOk result (λ s. IfSome s (λ given. after.as_of ≡ t))
-  pub new : IfOk result (λ s. (x : SessionName) → session_in x before.sessions ≡ None →
-      session_in x after.sessions ≡ None)
-  pub tariff : after.shelf ≡ before.shelf
   pub err : OnErr result (after ≡ before)
 
 -- ---- reservations
 
 -- as much is reserved as the funds cover; at an error, which is lack of memory, nothing has changed
--- rule: database-loads.with
 pub record Reserves (session : SessionName) (group : GroupId) (requested : Option UnitCount)
     (t : Moment) (before after : AccountRows) (result : Result Granted AccountFault) : Type 0 where
-  pub rows : IfOk result (λ granted. (ledger : Ledger) → IsRowsOf ledger before →
-      GivesGrant before.shelf t session group requested ledger after granted)
-  pub left : IfOk result (λ granted. (ledger : Ledger) (left : LeftRows) →
-      IsWith ledger left t before → IsBeside left t after ×
-      GivesGrant before.shelf t session group requested ledger (joined left after) granted)
-  pub by_rows : IfOk result (GivesGrantIn session group t requested before after)
-  pub as_of : OnOk result (after.as_of ≡ t)
-  pub tariff : after.shelf ≡ before.shelf
-  pub sessions : OnOk result (after.sessions ≡ (advanced t before).sessions)
-  pub within : IfOk result (IsWithinGrant (tariff_at before.shelf t group))
-  pub others : OnOk result ((g : GroupId) → (g == group) ≡ false →
-      reservation_in session g before.groups ≡ None → reservation_in session g after.groups ≡ None)
+  pub granted : IfOk result (GivesGrantIn session group t requested before after)
   pub memory : OnErr result (result ≡ Err Memory)
   pub err : OnErr result (after ≡ before)
 

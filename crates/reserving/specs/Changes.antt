@@ -4,7 +4,7 @@ use Rattle.std.specs.Prelude.{◌+◌, ◌*◌, ◌≤◌, Bool, false, not, ◌
 use Rattle.std.specs.Prelude.{if◌then◌else◌, List, [], ◌∷◌, Option, Some, None, map, unwrap_or}
 use Rattle.std.specs.Prelude.{option_map}
 use Rattle.units.specs.Words.{Moment, Seconds, UnitCount, BlockCount, Place, GroupId, CycleNumber}
-use Rattle.units.specs.Words.{CcRequestNumber}
+use Rattle.units.specs.Words.{CcRequestNumber, Micros}
 use Rattle.identifiers.specs.Words.{SessionName}
 use Rattle.buckets.specs.Words.{BucketAmount}
 use Rattle.units.specs.declared.blocks.UsedPart.{UsedPart}
@@ -15,7 +15,7 @@ use Rattle.buckets.specs.declared.kind.BucketKind.TheVariants.{Blocks}
 use Rattle.buckets.specs.declared.kind.Due.{Due}
 use Rattle.buckets.specs.Share.{sum_in}
 use Rattle.buckets.specs.Spend.{Each, inserted, held_rows, funds, allowance}
-use Rattle.buckets.specs.Holding.{settled_rows, released_rows, holds_of, held_sum}
+use Rattle.buckets.specs.Holding.{settled_rows, released_rows, holds_of, held_sum, uncollected}
 use Rattle.reserving.specs.declared.session.Session.{Session}
 use Rattle.reserving.specs.declared.session.SessionState.{SessionState}
 use Rattle.reserving.specs.declared.session.SessionState.TheVariants.{Open, Ended}
@@ -146,6 +146,12 @@ abbrev pub price_in : SessionName → GroupId → Moment → List UsedPart → A
 price_in s g t used_parts a =
     price_of a.shelf t g (terms_in s g a.groups) (used_in s g a.groups)
     (count_in g (cycle_at a.shelf g t) a.counters) (coverable_in s g t a) used_parts
+
+-- what of it neither the reservation nor any eligible bucket pays
+abbrev pub missing_in : SessionName → GroupId → Moment → List UsedPart → AccountRows → Micros
+missing_in s g t used_parts a =
+    uncollected (reserved_in s g (advanced t a).groups) g t (price_in s g t used_parts a).amount.0
+    (advanced t a).buckets
 
 -- a stored number would pass its limit, by the rows
 -- rule: grant-units.passes-in: limits, what is covered and what is granted, of any account's rows,

@@ -1,16 +1,17 @@
 -- What settlements and grants answer, by the ledger.
 -- Source: RFC 8506 sections 5.2 to 5.4; TS 32.299, session charging with unit reservation.
-use Rattle.std.specs.Prelude.{◌≡◌, ◌+◌, ◌-◌, ◌<◌, ◌≤◌, Bool, true, false, nat_lt, List, Option}
+use Rattle.std.specs.Prelude.{◌≡◌, ◌+◌, ◌-◌, ◌<◌, Bool, true, false, nat_lt, List, Option}
 use Rattle.std.specs.Prelude.{None}
 use Rattle.std.specs.Prelude.{Some}
-use Rattle.units.specs.Words.{Moment, Seconds, UnitCount, GroupId}
+use Rattle.units.specs.Words.{Moment, Seconds, UnitCount, GroupId, Micros}
 use Rattle.identifiers.specs.Words.{SessionName}
 use Rattle.units.specs.declared.blocks.UsedPart.{UsedPart}
 use Rattle.units.specs.Blocks.{started}
 use Rattle.shelves.specs.Shelves.{Shelf}
 use Rattle.tariffs.specs.Tariffs.{GroupTariff, tiers_at}
 use Rattle.rating.specs.Granted.{IsGreatest}
-use Rattle.buckets.specs.Spend.{funds}
+use Rattle.rating.specs.declared.report.Rated.{Rated}
+use Rattle.buckets.specs.Spend.{funds, allowance}
 use Rattle.reserving.specs.declared.reserve.Granted.{Granted}
 use Rattle.reserving.specs.declared.reserve.Granted.TheVariants.{Nothing, Units}
 use Rattle.reserving.specs.declared.settle.Settled.{Settled}
@@ -18,21 +19,28 @@ use Rattle.ledger.specs.Ledger.{Ledger, used, counter}
 use Rattle.ledger.specs.Pricing.{tariff_at, cycle_at, switch_at, validity_at, periods_at}
 use Rattle.ledger.specs.Pricing.{wanted_units, wanted_with, validity_of}
 use Rattle.ledger.specs.Balance.{buckets_at}
-use Rattle.ledger.specs.Settlement.{report_price, missing}
+use Rattle.ledger.specs.Settlement.{report_price, missing, due_of}
 use Rattle.ledger.specs.Reservation.{reserved, grant_for, held_due}
 use Rattle.ledger.specs.Debiting.{rest_price, is_covered, debit_passes, debited}
 use Rattle.reserving.specs.Rows.{AccountRows, IsRowsOf}
-use Rattle.reserving.specs.Changes.{advanced, granted_in, reserved_account}
+use Rattle.reserving.specs.Quotas.{IsGreatestFor}
+use Rattle.reserving.specs.Changes.{advanced, used_in, count_in, granted_in, reserved_account}
+use Rattle.reserving.specs.Changes.{rest_price_in, is_covered_in, debit_passes_in, debited_account}
 
--- the blocks that a report starts, those that allowances cover, the price of the others, and what
--- of it is collected and isn't
-pub record IsSettlementOf (b : Shelf) (t : Moment) (session : SessionName) (group : GroupId)
-    (used_parts : List UsedPart) (ledger : Ledger) (s : Settled) : Type 0 where
-  pub blocks : s.blocks.0 ≡ (report_price b t session group used_parts ledger).blocks
-  pub covered : s.covered.0 ≡ (report_price b t session group used_parts ledger).covered.0
-  pub rated : s.rated.0 ≡ (report_price b t session group used_parts ledger).amount.0
-  pub uncollected : s.uncollected.0 ≡ missing b t session group used_parts ledger
-  pub collected : s.collected.0 + s.uncollected.0 ≡ s.rated.0
+-- what is answered of a use: its blocks, those of them that are covered, the price of the others,
+-- and what of it isn't collected
+pub record IsAnswered (price : Rated) (missing : Micros) (s : Settled) : Type 0 where
+  pub blocks : s.blocks.0 ≡ price.blocks
+  pub covered : s.covered.0 ≡ price.covered.0
+  pub rated : s.rated.0 ≡ price.amount.0
+  pub uncollected : s.uncollected.0 ≡ missing
+
+-- what is answered of a report
+abbrev pub IsSettlementOf : Shelf → Moment → SessionName → GroupId → List UsedPart → Ledger →
+    Settled → Type 0
+IsSettlementOf b t session group used_parts ledger s =
+    IsAnswered (report_price b t session group used_parts ledger)
+    (missing b t session group used_parts ledger) s
 
 -- ---- grants
 
@@ -78,6 +86,11 @@ pub record IsGrantIn (session : SessionName) (group : GroupId) (t : Moment)
   pub switch : at ≡ switch_at before.shelf t
   pub validity : seconds ≡ validity_at before.shelf t
   pub fewer : final ≡ nat_lt given (wanted_with (tariff_at before.shelf t group) requested)
+  pub greatest : (x : GroupTariff) → tariff_at before.shelf t group ≡ Some x →
+      IsGreatestFor x (periods_at before.shelf t) (used_in session group before.groups)
+      (count_in group (cycle_at before.shelf group t) before.counters) requested
+      (funds group t (advanced t before).buckets) (allowance group t (advanced t before).buckets)
+      (granted_in session group t requested before)
   pub rows : after
       ≡ reserved_account session group (held_due (granted_in session group t requested before))
       (advanced t before)
@@ -90,17 +103,6 @@ GivesGrantIn session group t requested before after Nothing =
 GivesGrantIn session group t requested before after (Units units switch validity fewer) =
     IsGrantIn session group t requested before after units.0 switch validity fewer
 
--- units that are granted are some, of a group with a tariff, and no more than its greatest grant
-pub record IsWithin (t : Option GroupTariff) (units : UnitCount) : Type 0 where
-  pub some : 0 < units
-  pub tariff : GroupTariff
-  pub known : t ≡ Some tariff
-  pub most : units ≤ tariff.max_grant
-
-abbrev pub IsWithinGrant : Option GroupTariff → Granted → Type 0
-IsWithinGrant t Nothing = Unit {0}
-IsWithinGrant t (Units units switch validity fewer) = IsWithin t units.0
-
 -- ---- debits
 
 -- an event's units are charged whole: their price is covered
@@ -108,11 +110,7 @@ pub record IsDebitOf (b : Shelf) (t : Moment) (session : SessionName) (group : G
     (units : UnitCount) (ledger : Ledger) (after : AccountRows) (s : Settled) : Type 0 where
   pub covered : is_covered b t group units ledger ≡ true
   pub within : debit_passes b t session group units ledger ≡ false
-  pub blocks : s.blocks.0 ≡ (rest_price b t group units ledger).blocks
-  pub covered_blocks : s.covered.0 ≡ (rest_price b t group units ledger).covered.0
-  pub rated : s.rated.0 ≡ (rest_price b t group units ledger).amount.0
-  pub collected : s.collected.0 ≡ s.rated.0
-  pub uncollected : s.uncollected.0 ≡ 0
+  pub answer : IsAnswered (rest_price b t group units ledger) 0 s
   pub rows : IsRowsOf (debited b t session group units ledger) after
 
 -- what a debit answers, and what it makes of the account; nothing where the funds don't cover it
@@ -121,3 +119,21 @@ abbrev pub IsDebit : Shelf → Moment → SessionName → GroupId → UnitCount 
 IsDebit b t session group units ledger after None = is_covered b t group units ledger ≡ false
 IsDebit b t session group units ledger after (Some s) =
     IsDebitOf b t session group units ledger after s
+
+-- the same by the account's rows, whatever they are
+-- rule: grant-units.passes-in
+pub record IsDebitIn (session : SessionName) (group : GroupId) (units : UnitCount) (t : Moment)
+    (before after : AccountRows) (s : Settled) : Type 0 where
+  pub covered : is_covered_in group units t before ≡ true
+  pub within : debit_passes_in session group units t before ≡ false
+  pub answer : IsAnswered (rest_price_in group units t before) 0 s
+  pub rows : after
+      ≡ debited_account session group units (rest_price_in group units t before).blocks
+      (due_of (rest_price_in group units t before)) (advanced t before)
+
+abbrev pub GivesDebitIn : SessionName → GroupId → UnitCount → Moment → AccountRows → AccountRows →
+    Option Settled → Type 0
+GivesDebitIn session group units t before after None =
+    (is_covered_in group units t before ≡ false) × (after ≡ before)
+GivesDebitIn session group units t before after (Some s) =
+    IsDebitIn session group units t before after s

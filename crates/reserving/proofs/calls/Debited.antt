@@ -17,18 +17,17 @@ use Rattle.reserving.specs.declared.session.Counter.{Counter}
 use Rattle.reserving.specs.declared.settle.Settled.{Settled}
 use Rattle.ledger.specs.Ledger.{Ledger}
 use Rattle.ledger.specs.Pricing.{cycle_at, validity_of}
-use Rattle.ledger.specs.Balance.{buckets_at}
 use Rattle.reserving.specs.Keyed.{put}
 use Rattle.reserving.specs.Sessions.{is_of, is_live_in}
 use Rattle.ledger.specs.Settlement.{price_of, passes, due_of}
-use Rattle.ledger.specs.Debiting.{untagged, event_price, is_covered, debit_passes, charged_use}
+use Rattle.ledger.specs.Debiting.{untagged, event_price, debit_passes, charged_use}
 use Rattle.ledger.specs.Debiting.{debited, rest_price}
 use Rattle.reserving.specs.Changes.{lapse_group, lapsed_in, advanced, group_or_new, used_in}
 use Rattle.reserving.specs.Changes.{count_in, with_event, with_count, event_price_in}
-use Rattle.reserving.specs.Changes.{debited_account, rest_price_in}
+use Rattle.reserving.specs.Changes.{debited_account, rest_price_in, is_covered_in, debit_passes_in}
 use Rattle.reserving.specs.Prepared.{with_group, with_rows}
 use Rattle.reserving.specs.Rows.{AccountRows, IsAccount, IsRowsOf}
-use Rattle.reserving.specs.Results.{IsDebitOf}
+use Rattle.reserving.specs.Results.{IsAnswered, IsDebitIn, IsDebitOf}
 use Rattle.reserving.specs.Sessions.{group_before}
 use Rattle.reserving.proofs.Advancing.{IsRowsOf-advanced}
 use Rattle.reserving.proofs.Advanced.{IsAccount-advanced}
@@ -76,15 +75,12 @@ debit_passes_is ledger a s group units t account rows le =
     (sym (rest_price_is ledger a group units t account rows le) i).blocks (sym rows.next_charge i)
 
 -- the price is covered where the funds aren't less
-pub covered_is : (b : Bool) (ledger : Ledger) (a : AccountRows) (group units t paid price : ℕ) →
-    IsAccount a → IsRowsOf ledger a → a.as_of ≤ t →
-    paid ≡ funds group t (buckets_at (validity_of a.shelf) t ledger) →
-    price ≡ (rest_price_in group units t a).amount.0 → is_lt (nat_cmp paid price) ≡ b →
-    is_covered a.shelf t group units ledger ≡ not b
-covered_is b ledger a group units t paid price account rows le p q h =
-    let cost : price ≡ (rest_price a.shelf t group units ledger).amount.0 =
-    q ∙ ap (λ (x : Rated). x.amount.0) (rest_price_is ledger a group units t account rows le) in
-    (λ i. nat_le (sym cost i) (sym p i)) ∙ at_least paid price ∙ ap not h
+-- rule: grant-units.passes-in
+pub covered_in_is : (b : Bool) (a : AccountRows) (g units t paid price : ℕ) →
+    paid ≡ funds g t (advanced t a).buckets → price ≡ (rest_price_in g units t a).amount.0 →
+    is_lt (nat_cmp paid price) ≡ b → is_covered_in g units t a ≡ not b
+covered_in_is b a g units t paid price p q h =
+    (λ i. nat_le (sym q i) (sym p i)) ∙ at_least paid price ∙ ap not h
 
 -- ---- the rows
 
@@ -154,87 +150,75 @@ debited_is a middle after s g c t units blocks due k m e =
     e ∙ ap (debited_account s g units blocks due) (m ∙ (λ i. advanced t (with_rows s g (k i) a)))
     ∙ debited_later a s g t units blocks due
 
--- the rows of the ledger with the debit
-pub rows_debited : (ledger : Ledger) (a middle after : AccountRows) (s : List ℕ)
-    (g c t units blocks : ℕ) (due : Due) →
-    IsAccount a → IsRowsOf ledger a → a.as_of ≤ t → c ≡ cycle_at a.shelf g t →
-    blocks ≡ (rest_price_in g units t a).blocks → due ≡ due_of (rest_price_in g units t a) →
-    middle ≡ advanced t (with_rows s g c a) →
-    after ≡ debited_account s g units blocks due middle →
-    IsRowsOf (debited a.shelf t s g units ledger) after
-rows_debited ledger a middle after s g c t units blocks due account rows le k b r m e =
-    let later : AccountRows = advanced t a in
-    let cost : rest_price_in g units t a ≡ rest_price a.shelf t g units ledger =
-    rest_price_is ledger a g units t account rows le in
-    let same : after ≡ debited_account s g units blocks due later =
-    debited_is a middle after s g c t units blocks due k m e in
-    let done : IsRowsOf (charged_use (validity_of a.shelf) t s g units blocks due ledger) after =
-    subst (IsRowsOf (charged_use (validity_of a.shelf) t s g units blocks due ledger)) (sym same)
-    (IsRowsOf-debited ledger later s g units blocks due (IsAccount-advanced a t account)
-    (IsRowsOf-advanced ledger a t account rows le)) in
-    subst (λ n. IsRowsOf
-    (charged_use (validity_of a.shelf) t s g units n (due_of (rest_price a.shelf t g units ledger))
-    ledger) after) (b ∙ ap (λ (x : Rated). x.blocks) cost)
-    (subst (λ n. IsRowsOf (charged_use (validity_of a.shelf) t s g units blocks n ledger) after)
-    (r ∙ ap due_of cost) done)
-
 -- what is covered is collected whole
-all_collected : (rated collected missing held paid : ℕ) → nat_le rated paid ≡ true →
-    missing ≡ rated - held - paid → collected + missing ≡ rated →
-    (collected ≡ rated) × (missing ≡ 0)
-all_collected rated collected missing held paid h m c =
+all_collected : (rated missing held paid : ℕ) → nat_le rated paid ≡ true →
+    missing ≡ rated - held - paid → missing ≡ 0
+all_collected rated missing held paid h m =
     let le : rated ≤ paid = grind (arith, nat_tests) in
-    (omega arith, omega arith)
+    omega arith
 
 -- what the call found, and what it did
 pub record IsDebitMade (a middle after : AccountRows) (s : List ℕ) (g c t units paid : ℕ)
     (x : Settled) : Type 0 where
-  pub later : a.as_of ≤ t
   pub cycle : c ≡ cycle_at a.shelf g t
+  pub funded : paid ≡ funds g t (advanced t a).buckets
   pub covers : is_lt (nat_cmp paid x.rated.0) ≡ false
-  pub fits : passes (used_in s g a.groups) units (count_in g (cycle_at a.shelf g t) a.counters)
-      (rest_price_in g units t a).blocks a.next_charge ≡ false
+  pub fits : debit_passes_in s g units t a ≡ false
   pub started : x.blocks.0 ≡ (rest_price_in g units t a).blocks
   pub cover : x.covered.0 ≡ (rest_price_in g units t a).covered.0
   pub price : x.rated.0 ≡ (rest_price_in g units t a).amount.0
   pub brought : middle ≡ advanced t (with_rows s g c a)
   pub debited : after ≡ debited_account s g units x.blocks.0 (due x.rated.0 x.covered.0) middle
   pub missing : x.uncollected.0 ≡ uncollected [] g middle.as_of x.rated.0 middle.buckets
-  pub whole : x.collected.0 + x.uncollected.0 ≡ x.rated.0
 
 -- what the call answers
 -- rule: debit, event-price
-pub debit_is : (ledger : Ledger) (a middle after : AccountRows) (s : List ℕ) (g c t units paid : ℕ)
-    (x : Settled) →
-    IsAccount a → IsRowsOf ledger a → paid ≡ funds g t (buckets_at (validity_of a.shelf) t ledger) →
-    IsDebitMade a middle after s g c t units paid x →
-    IsDebitOf a.shelf t s g units ledger after x
-debit_is ledger a middle after s g c t units paid x account rows f made =
-    let cost : rest_price_in g units t a ≡ rest_price a.shelf t g units ledger =
-    rest_price_is ledger a g units t account rows made.later in
-    let covered : is_covered a.shelf t g units ledger ≡ true =
-    covered_is false ledger a g units t paid x.rated.0 account rows made.later f made.price
-    made.covers in
-    let buckets : middle.buckets ≡ buckets_at (validity_of a.shelf) t ledger =
-    ap (λ (y : AccountRows). y.buckets) made.brought ∙ buckets_later a s g c t
-    ∙ (IsRowsOf-advanced ledger a t account rows made.later).buckets in
-    let enough : nat_le x.rated.0 (funds g t (buckets_at (validity_of a.shelf) t ledger)) ≡ true =
-    ap (nat_le x.rated.0) (sym f) ∙ at_least paid x.rated.0 ∙ ap not made.covers in
-    let missing : x.uncollected.0
-    ≡ uncollected [] g t x.rated.0 (buckets_at (validity_of a.shelf) t ledger) =
-    made.missing ∙ (λ i. uncollected [] g (made.brought i).as_of x.rated.0 (buckets i)) in
-    let whole : (x.collected.0 ≡ x.rated.0) × (x.uncollected.0 ≡ 0) =
-    all_collected x.rated.0 x.collected.0 x.uncollected.0 _ _ enough missing made.whole in
+pub debit_made : (a middle after : AccountRows) (s : List ℕ) (g c t units paid : ℕ)
+    (x : Settled) → IsDebitMade a middle after s g c t units paid x →
+    IsDebitIn s g units t a after x
+debit_made a middle after s g c t units paid x made =
+    let enough : nat_le x.rated.0 (funds g t (advanced t a).buckets) ≡ true =
+    ap (nat_le x.rated.0) (sym made.funded) ∙ at_least paid x.rated.0 ∙ ap not made.covers in
+    let missing : x.uncollected.0 ≡ uncollected [] g t x.rated.0 (advanced t a).buckets =
+    made.missing
+    ∙ (λ i. uncollected [] g (made.brought i).as_of x.rated.0 (made.brought i).buckets)
+    ∙ ap (uncollected [] g t x.rated.0) (buckets_later a s g c t) in
     record {
-      covered = covered;
-      within = debit_passes_is ledger a s g units t account rows made.later ∙ made.fits;
-      blocks = made.started ∙ ap (λ (y : Rated). y.blocks) cost;
-      covered_blocks = made.cover ∙ ap (λ (y : Rated). y.covered.0) cost;
-      rated = made.price ∙ ap (λ (y : Rated). y.amount.0) cost;
-      collected = whole.0;
-      uncollected = whole.1;
-      rows = rows_debited ledger a middle after s g c t units x.blocks.0
-          (due x.rated.0 x.covered.0) account rows
-          made.later made.cycle made.started (λ i. due (made.price i) (made.cover i))
-          made.brought made.debited;
+      covered = covered_in_is false a g units t paid x.rated.0 made.funded made.price made.covers;
+      within = made.fits;
+      answer = record {
+        blocks = made.started;
+        covered = made.cover;
+        rated = made.price;
+        uncollected = all_collected x.rated.0 x.uncollected.0 _ _ enough missing;
+      };
+      rows =
+          debited_is a middle after s g c t units x.blocks.0 (due x.rated.0 x.covered.0) made.cycle
+          made.brought made.debited
+          ∙ (λ i. debited_account s g units (made.started i) (due (made.price i) (made.cover i))
+          (advanced t a));
+    }
+
+-- ---- the debit of the ledger
+
+pub debit_is : (ledger : Ledger) (a after : AccountRows) (s : List ℕ) (g t units : ℕ)
+    (x : Settled) → IsAccount a → IsRowsOf ledger a → a.as_of ≤ t →
+    IsDebitIn s g units t a after x → IsDebitOf a.shelf t s g units ledger after x
+debit_is ledger a after s g t units x account rows le made =
+    let price : Rated = rest_price_in g units t a in
+    let now : IsRowsOf ledger (advanced t a) = IsRowsOf-advanced ledger a t account rows le in
+    let cost : price ≡ rest_price a.shelf t g units ledger =
+    rest_price_is ledger a g units t account rows le in
+    record {
+      covered =
+          (λ i. nat_le (sym cost i).amount.0 (funds g t (sym now.buckets i))) ∙ made.covered;
+      within = debit_passes_is ledger a s g units t account rows le ∙ made.within;
+      answer = subst (λ (y : Rated). IsAnswered y 0 x) cost made.answer;
+      rows =
+          subst (λ (y : Rated). IsRowsOf (charged_use (validity_of a.shelf) t s g units y.blocks
+          (due_of y) ledger) after) cost
+          (subst (IsRowsOf (charged_use (validity_of a.shelf) t s g units price.blocks
+          (due_of price) ledger)) (sym made.rows)
+          (IsRowsOf-debited ledger (advanced t a) s g units price.blocks (due_of price)
+          (IsAccount-advanced a t account) now));
     }

@@ -1,12 +1,12 @@
 -- A settlement leaves no reservation of its session's group.
 use Rattle.std.proofs.Common.{◌≡◌, ℕ, ◌+◌, map, true, false, List, refl, ap, ◌∙◌, Option, Some}
-use Rattle.std.proofs.Common.{None}
+use Rattle.std.proofs.Common.{None, [], ◌∷◌}
 use Rattle.std.specs.Prelude.{if◌then◌else◌, option_map, unwrap_or}
-use Rattle.buckets.specs.declared.kind.Due.{Due}
+use Rattle.units.specs.declared.blocks.UsedPart.{UsedPart}
+use Rattle.ledger.specs.Settlement.{reported}
 use Rattle.reserving.specs.declared.session.SessionGroup.{SessionGroup}
 use Rattle.reserving.specs.Sessions.{is_of, group_in}
-use Rattle.reserving.specs.Changes.{ended_group, new_group, with_use, used_in, ended_rows}
-use Rattle.reserving.specs.Changes.{settled_account}
+use Rattle.reserving.specs.Changes.{ended_group, new_group, with_use, used_in, settled_by_rows}
 use Rattle.reserving.specs.Prepared.{reservation_in}
 use Rattle.reserving.specs.Rows.{AccountRows}
 use Rattle.reserving.specs.Sessions.{group_before}
@@ -44,12 +44,8 @@ free_used s g units rows =
     (record { session = s; group = g; used = used_in s g rows + units; reservation = None })
     refl refl))
 
-pub ended_free : (s : List ℕ) (g : ℕ) (middle after : AccountRows) → after ≡ ended_rows s g middle →
-    reservation_in s g after.groups ≡ None
-ended_free s g middle after e =
-    ap (λ (a : AccountRows). reservation_in s g a.groups) e ∙ free_ended s g middle.groups
-
-pub settled_free : (s : List ℕ) (g units blocks : ℕ) (due : Due) (middle after : AccountRows) →
-    after ≡ settled_account s g units blocks due middle → reservation_in s g after.groups ≡ None
-settled_free s g units blocks due middle after e =
-    ap (λ (a : AccountRows). reservation_in s g a.groups) e ∙ free_used s g units middle.groups
+-- the report has parts or none
+pub settled_free : (s : List ℕ) (g : ℕ) (used_parts : List UsedPart) (a : AccountRows) →
+    reservation_in s g (settled_by_rows s g used_parts a).groups ≡ None
+settled_free s g [] a = free_ended s g a.groups
+settled_free s g (p ∷ ps) a = free_used s g (reported (p ∷ ps)) a.groups

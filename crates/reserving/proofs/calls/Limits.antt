@@ -1,21 +1,20 @@
 -- The limits of calls, by an account's rows.
-use Rattle.std.proofs.Common.{◌≡◌, ℕ, ◌<◌, Bool, false, List, [], ◌∷◌, refl, sym, ap, ◌∙◌}
-use Rattle.std.proofs.Common.{Option}
-use Rattle.std.specs.Prelude.{nat_le, nat_lt, not}
-use Rattle.std.specs.Ordering.{is_lt, nat_cmp}
+use Rattle.std.proofs.Common.{◌≡◌, ℕ, ◌<◌, Bool, false, List, [], ◌∷◌, refl, ap, ◌∙◌}
+use Rattle.std.proofs.Common.{Option, subst}
+use Rattle.std.specs.Prelude.{nat_lt}
 use Rattle.units.specs.declared.blocks.UsedPart.{UsedPart}
-use Rattle.buckets.specs.Spend.{funds}
+use Rattle.buckets.specs.Spend.{funds, allowance}
 use Rattle.rating.specs.declared.grant.Grant.{Grant}
-use Rattle.ledger.specs.Pricing.{cycle_at, switch_at, validity_at}
+use Rattle.ledger.specs.Pricing.{cycle_at, switch_at, validity_at, periods_at}
 use Rattle.ledger.specs.Settlement.{reported, passes}
 use Rattle.ledger.specs.Reservation.{held_due}
 use Rattle.reserving.specs.Changes.{advanced, used_in, count_in, price_in, passes_in}
-use Rattle.reserving.specs.Changes.{rest_price_in, is_covered_in, reserved_account}
+use Rattle.reserving.specs.Changes.{reserved_account}
 use Rattle.reserving.specs.Prepared.{with_group_row}
 use Rattle.reserving.specs.Rows.{AccountRows}
+use Rattle.reserving.specs.Quotas.{IsGreatestFor}
 use Rattle.reserving.specs.Results.{IsGrantIn}
 use Rattle.reserving.proofs.ReservedCall.{QuotaOf, reserved_later}
-use Rattle.reserving.proofs.calls.Debited.{at_least}
 
 -- rule: grant-units.passes-in
 pub passes_in_some : (s : List ℕ) (g t : ℕ) (used_parts : List UsedPart) (a : AccountRows) →
@@ -30,14 +29,6 @@ passes_in_some s g t (p ∷ ps) a some = refl
 pub passes_in_none : (s : List ℕ) (g t : ℕ) (used_parts : List UsedPart) (a : AccountRows) →
     used_parts ≡ [] → passes_in s g t used_parts a ≡ false
 passes_in_none s g t used_parts a none = ap (λ ps. passes_in s g t ps a) none
-
--- the price is covered where the funds aren't less
--- rule: grant-units.passes-in
-pub covered_in_is : (b : Bool) (a : AccountRows) (g units t paid price : ℕ) →
-    paid ≡ funds g t (advanced t a).buckets → price ≡ (rest_price_in g units t a).amount.0 →
-    is_lt (nat_cmp paid price) ≡ b → is_covered_in g units t a ≡ not b
-covered_in_is b a g units t paid price p q h =
-    (λ i. nat_le (sym q i) (sym p i)) ∙ at_least paid price ∙ ap not h
 
 -- what a reservation answers
 -- rule: grant-units.passes-in
@@ -56,6 +47,11 @@ grant_in_is a middle after s g t requested wanted grant at validity fewer q some
       switch = switch;
       validity = valid;
       fewer = few ∙ ap (nat_lt grant.units.0) q.wanted;
+      greatest =
+          λ x k. subst (IsGreatestFor x (periods_at a.shelf t) (used_in s g a.groups)
+          (count_in g (cycle_at a.shelf g t) a.counters) requested
+          (funds g t (advanced t a).buckets) (allowance g t (advanced t a).buckets)) q.grant
+          (q.greatest x k);
       rows = e ∙ ap (reserved_account s g (held_due grant)) m
           ∙ reserved_later a s g t (held_due grant)
           ∙ ap (λ (x : Grant). reserved_account s g (held_due x) (advanced t a)) q.grant;

@@ -2,7 +2,7 @@
 use Rattle.std.specs.Prelude.{unwrap_or}
 use Rattle.shelves.specs.Shelves.{tariff_in}
 use Rattle.ledger.specs.declared.terms.Terms.{Terms}
-use Rattle.ledger.specs.Ledger.{open_grant, Ledger, used, is_live}
+use Rattle.ledger.specs.Ledger.{Ledger, used, is_live}
 use Rattle.ledger.specs.Pricing.{terms_now, validity_of, cycle_at, rated_with}
 use Rattle.std.specs.Prelude.{if◌then◌else◌}
 use Rattle.std.proofs.Common.{◌-◌}
@@ -14,7 +14,7 @@ use Rattle.buckets.specs.Spend.{allowance}
 use Rattle.buckets.specs.Holding.{held_sum, held_in}
 use Rattle.buckets.proofs.Dues.{sum_in-cons}
 use Rattle.buckets.proofs.Parts.{sum_at, held_in-sum_at}
-use Rattle.ledger.specs.Settlement.{due_of, settled_by, reported, price_of, report_price, passes}
+use Rattle.ledger.specs.Settlement.{due_of, reported, price_of, report_price, missing, passes}
 use Rattle.ledger.specs.Settlement.{passes_limit, passes_after}
 use Rattle.reserving.specs.Changes.{coverable_in}
 use Rattle.reserving.proofs.rows.TwoAdvances.{advanced_twice}
@@ -23,14 +23,14 @@ use Rattle.reserving.proofs.rows.Lapsing.{ends_keep}
 use Rattle.buckets.specs.declared.kind.Due.{Due}
 use Rattle.std.proofs.Common.{◌≡◌, ℕ, ◌+◌, ◌≤◌, Bool, true, false, List, [], ◌∷◌, map, refl, sym}
 use Rattle.std.proofs.Common.{ap, subst, ◌∙◌, arith, Option, Some, None}
-use Rattle.std.specs.Prelude.{is_some, not}
+use Rattle.std.specs.Prelude.{is_some}
 use Rattle.std.proofs.lemmas.Bool.Decides.{nat_tests}
 use Rattle.units.specs.declared.blocks.UsedPart.{UsedPart}
 use Rattle.buckets.specs.Row.{BucketRow, with_release, with_end}
 use Rattle.buckets.specs.Holding.{uncollected}
 use Rattle.reserving.specs.declared.session.SessionGroup.{SessionGroup}
 use Rattle.reserving.specs.declared.settle.Settled.{Settled}
-use Rattle.ledger.specs.Balance.{buckets_at, holds_at}
+use Rattle.ledger.specs.Balance.{holds_at}
 use Rattle.reserving.specs.Sessions.{group_in, counter_in, holds_in, is_live_in}
 use Rattle.reserving.specs.Sessions.{is_counter, counter_before}
 use Rattle.tariffs.specs.Tariffs.{GroupTariff}
@@ -41,38 +41,24 @@ use Rattle.rating.proofs.Sums.{rated_none}
 use Rattle.tariffs.specs.Tariffs.{tiers_at}
 use Rattle.tariffs.specs.declared.tiers.Tier.{Tier}
 use Rattle.reserving.specs.Changes.{lapsed_in, advanced, used_in, reserved_in, count_in, price_in}
-use Rattle.reserving.specs.Changes.{ended_rows, settled_account, settled_by_rows}
-use Rattle.reserving.specs.Prepared.{with_group, with_rows, counter_or_new}
+use Rattle.reserving.specs.Changes.{ended_rows, settled_account, settled_by_rows, terms_in}
+use Rattle.reserving.specs.Changes.{missing_in}
+use Rattle.reserving.specs.Prepared.{with_rows, counter_or_new}
 use Rattle.reserving.specs.Rows.{AccountRows, IsAccount, IsRowsOf}
-use Rattle.reserving.specs.Results.{IsSettlementOf}
+use Rattle.reserving.specs.Results.{IsAnswered, IsSettlementOf}
 use Rattle.reserving.proofs.Lists.{find-put}
 use Rattle.reserving.proofs.Advancing.{is_live_in-is, IsRowsOf-advanced}
 use Rattle.reserving.proofs.Advanced.{IsAccount-advanced}
 use Rattle.reserving.proofs.rows.Complete.{reserved_in_is}
 use Rattle.reserving.proofs.PassedLimits.{passes_after-none}
 use Rattle.reserving.proofs.kept.Settled.{or_new_cycle}
-use Rattle.reserving.proofs.SettledRows.{used_in_is, count_in_is, price_in_is, IsRowsOf-settled_by}
+use Rattle.reserving.proofs.SettledRows.{used_in_is, count_in_is, price_in_is}
+use Rattle.reserving.proofs.calls.Debited.{buckets_later}
 use Rattle.reserving.proofs.calls.RowParts.{reserved_later, or_new_later, group_later, used_later}
 use Rattle.reserving.proofs.calls.RowParts.{periods_later}
-use Rattle.reserving.proofs.calls.RowParts.{count_later, held_by-with_group, settled_later}
+use Rattle.reserving.proofs.calls.RowParts.{count_later, settled_later}
 
 -- ---- a report without parts
-
-pub rows_ended : (ledger : Ledger) (a middle after : AccountRows) (s : List ℕ) (g t : ℕ)
-    (used_parts : List UsedPart) →
-    IsAccount middle → IsRowsOf ledger a → a.as_of ≤ t →
-    is_live_in (validity_of a.shelf) t a.sessions s ≡ true →
-    used_parts ≡ [] → middle ≡ advanced t a → IsRowsOf ledger middle →
-    after ≡ ended_rows s g middle →
-    IsRowsOf (settled_by a.shelf t s g used_parts ledger) after
-rows_ended ledger a middle after s g t used_parts account rows le live_in empty m rows_middle e =
-    let live : is_live (validity_of a.shelf) t ledger s ≡ true =
-    sym (is_live_in-is ledger a t s rows le) ∙ live_in in
-    let account' : IsAccount (advanced t a) = subst IsAccount m account in
-    let rows' : IsRowsOf ledger (advanced t a) = subst (IsRowsOf ledger) m rows_middle in
-    subst (λ ps. IsRowsOf (settled_by a.shelf t s g ps ledger) after) (sym empty)
-    (subst (IsRowsOf (settled_by a.shelf t s g [] ledger)) (sym (e ∙ ap (ended_rows s g) m))
-    (IsRowsOf-settled_by ledger (advanced t a) s g [] account' rows' live))
 
 -- a report without parts costs nothing
 no_blocks : (o : Option GroupTariff) (p : Periods) (before place c : ℕ) →
@@ -105,26 +91,24 @@ no_amount (Some x) p before place c =
     )
 
 -- the terms that price a report
-abbrev terms_of : AccountRows → ℕ → List ℕ → ℕ → Ledger → Terms
-terms_of a t s g ledger = unwrap_or (open_grant s g ledger) (terms_now a.shelf t)
+abbrev terms_of : AccountRows → ℕ → List ℕ → ℕ → Terms
+terms_of a t s g = unwrap_or (terms_in s g a.groups) (terms_now a.shelf t)
 
-pub nothing_settled : (ledger : Ledger) (a : AccountRows) (s : List ℕ) (g t : ℕ)
-    (used_parts : List UsedPart) (x : Settled) → used_parts ≡ [] → x.blocks.0 ≡ 0 →
-    x.covered.0 ≡ 0 → x.rated.0 ≡ 0 → x.uncollected.0 ≡ 0 →
-    IsSettlementOf a.shelf t s g used_parts ledger x
-nothing_settled ledger a s g t used_parts x empty none bare free whole =
-    let blocks : (report_price a.shelf t s g [] ledger).blocks ≡ 0 =
-    no_blocks (tariff_in a.shelf (terms_of a t s g ledger).book g) _ (used s g ledger) _ _ in
-    let covered : (report_price a.shelf t s g [] ledger).covered.0 ≡ 0 =
-    no_covered (tariff_in a.shelf (terms_of a t s g ledger).book g) _ (used s g ledger) _ _ in
-    let amount : (report_price a.shelf t s g [] ledger).amount.0 ≡ 0 =
-    no_amount (tariff_in a.shelf (terms_of a t s g ledger).book g) _ (used s g ledger) _ _ in
-    subst (λ ps. IsSettlementOf a.shelf t s g ps ledger x) (sym empty) (record {
+pub nothing_settled : (a : AccountRows) (s : List ℕ) (g t : ℕ) (used_parts : List UsedPart)
+    (x : Settled) → used_parts ≡ [] → x.blocks.0 ≡ 0 → x.covered.0 ≡ 0 → x.rated.0 ≡ 0 →
+    x.uncollected.0 ≡ 0 → IsAnswered (price_in s g t used_parts a) (missing_in s g t used_parts a) x
+nothing_settled a s g t used_parts x empty none bare free whole =
+    let blocks : (price_in s g t [] a).blocks ≡ 0 =
+    no_blocks (tariff_in a.shelf (terms_of a t s g).book g) _ (used_in s g a.groups) _ _ in
+    let covered : (price_in s g t [] a).covered.0 ≡ 0 =
+    no_covered (tariff_in a.shelf (terms_of a t s g).book g) _ (used_in s g a.groups) _ _ in
+    let amount : (price_in s g t [] a).amount.0 ≡ 0 =
+    no_amount (tariff_in a.shelf (terms_of a t s g).book g) _ (used_in s g a.groups) _ _ in
+    subst (λ ps. IsAnswered (price_in s g t ps a) (missing_in s g t ps a) x) (sym empty) (record {
       blocks = none ∙ sym blocks;
       covered = bare ∙ sym covered;
       rated = free ∙ sym amount;
       uncollected = omega (arith, amount, whole);
-      collected = x.sum;
     })
 
 -- ---- the limits
@@ -292,74 +276,64 @@ pub ended_is : (a middle after : AccountRows) (s : List ℕ) (g t : ℕ) (used_p
 ended_is a middle after s g t used_parts empty m e =
     e ∙ ap (ended_rows s g) m ∙ ap (λ ps. settled_by_rows s g ps (advanced t a)) (sym empty)
 
--- the rows of the ledger with the settlement
-pub rows_settled : (ledger : Ledger) (a middle after : AccountRows) (s : List ℕ)
-    (g c t units blocks : ℕ) (due : Due) (used_parts : List UsedPart) →
-    IsAccount a → IsRowsOf ledger a → a.as_of ≤ t →
+-- what the call answers, by the account's rows before it and as it finds them at the moment
+pub record IsTold (a middle : AccountRows) (s : List ℕ) (g c t : ℕ) (used_parts : List UsedPart)
+    (x : Settled) : Type 0 where
+  pub blocks_are : x.blocks.0 ≡ (price_in s g t used_parts a).blocks
+  pub covered_is : x.covered.0 ≡ (price_in s g t used_parts a).covered.0
+  pub rated_is : x.rated.0 ≡ (price_in s g t used_parts a).amount.0
+  pub brought : middle ≡ advanced t (with_rows s g c a)
+  pub missing : x.uncollected.0
+      ≡ uncollected (reserved_in s g middle.groups) g middle.as_of x.rated.0 middle.buckets
+
+-- rows without facts hold nothing
+held_later : (a : AccountRows) (s : List ℕ) (g c t : ℕ) →
+    reserved_in s g (advanced t (with_rows s g c a)).groups ≡ reserved_in s g (advanced t a).groups
+held_later a s g c t =
+    ap (λ (y : SessionGroup). holds_in y.reservation)
+    (or_new_later (is_live_in (validity_of a.shelf) t a.sessions) s g a.groups)
+
+pub answer_is : (a middle : AccountRows) (s : List ℕ) (g c t : ℕ) (used_parts : List UsedPart)
+    (x : Settled) → IsTold a middle s g c t used_parts x →
+    IsAnswered (price_in s g t used_parts a) (missing_in s g t used_parts a) x
+answer_is a middle s g c t used_parts x told = record {
+  blocks = told.blocks_are;
+  covered = told.covered_is;
+  rated = told.rated_is;
+  uncollected =
+      told.missing
+      ∙ (λ i. uncollected (reserved_in s g (told.brought i).groups) g (told.brought i).as_of
+      (told.rated_is i) (told.brought i).buckets)
+      ∙ (λ i. uncollected (held_later a s g c t i) g t (price_in s g t used_parts a).amount.0
+      (buckets_later a s g c t i));
+}
+
+-- ---- the answer by the ledger
+
+missing_is : (ledger : Ledger) (a : AccountRows) (s : List ℕ) (g t : ℕ)
+    (used_parts : List UsedPart) → IsAccount a → IsRowsOf ledger a → a.as_of ≤ t →
     is_live_in (validity_of a.shelf) t a.sessions s ≡ true →
-    (used_parts ≡ [] → ⊥) → c ≡ cycle_at a.shelf g t →
-    units ≡ reported used_parts → blocks ≡ (price_in s g t used_parts a).blocks →
-    due ≡ due_of (price_in s g t used_parts a) →
-    middle ≡ advanced t (with_rows s g c a) →
-    after ≡ settled_account s g units blocks due middle →
-    IsRowsOf (settled_by a.shelf t s g used_parts ledger) after
-rows_settled ledger a middle after s g c t units blocks due used_parts account rows le live_in
-    some k u b r m e =
+    missing_in s g t used_parts a ≡ missing a.shelf t s g used_parts ledger
+missing_is ledger a s g t used_parts account rows le live_in =
     let live : is_live (validity_of a.shelf) t ledger s ≡ true =
     sym (is_live_in-is ledger a t s rows le) ∙ live_in in
     let later : AccountRows = advanced t a in
     let account' : IsAccount later = IsAccount-advanced a t account in
     let rows' : IsRowsOf ledger later = IsRowsOf-advanced ledger a t account rows le in
-    let same : after ≡ settled_by_rows s g used_parts later =
-    settled_is a middle after s g c t units blocks due used_parts live_in some k u b r m e in
-    subst (IsRowsOf (settled_by a.shelf t s g used_parts ledger)) (sym same)
-    (IsRowsOf-settled_by ledger later s g used_parts account' rows' live)
+    let held : reserved_in s g later.groups ≡ holds_at (validity_of a.shelf) t s g ledger =
+    reserved_in_is ledger later s g account' rows' live in
+    let cost : price_in s g t used_parts a ≡ report_price a.shelf t s g used_parts ledger =
+    price_is ledger a s g t used_parts account rows le live_in in
+    λ i. uncollected (held i) g t (cost i).amount.0 (rows'.buckets i)
 
--- what the call answers, by the account's rows before it and as it finds them at the moment
-pub record IsTold (a middle : AccountRows) (s : List ℕ) (g c t : ℕ) (used_parts : List UsedPart)
-    (blocks covered rated without paid : ℕ) : Type 0 where
-  pub blocks_are : blocks ≡ (price_in s g t used_parts a).blocks
-  pub covered_is : covered ≡ (price_in s g t used_parts a).covered.0
-  pub rated_is : rated ≡ (price_in s g t used_parts a).amount.0
-  pub brought : middle ≡ advanced t (with_rows s g c a)
-  pub missing : without
-      ≡ uncollected (reserved_in s g middle.groups) g middle.as_of rated middle.buckets
-  pub all : paid + without ≡ rated
-
-pub settlement_is : (ledger : Ledger) (a middle : AccountRows) (s : List ℕ) (g c t : ℕ)
+pub settlement_is : (ledger : Ledger) (a : AccountRows) (s : List ℕ) (g t : ℕ)
     (used_parts : List UsedPart) (x : Settled) →
     IsAccount a → IsRowsOf ledger a → a.as_of ≤ t →
     is_live_in (validity_of a.shelf) t a.sessions s ≡ true →
-    IsTold a middle s g c t used_parts x.blocks.0 x.covered.0 x.rated.0 x.uncollected.0
-    x.collected.0 →
+    IsAnswered (price_in s g t used_parts a) (missing_in s g t used_parts a) x →
     IsSettlementOf a.shelf t s g used_parts ledger x
-settlement_is ledger a middle s g c t used_parts x account rows le live_in told =
-    let v : ℕ → ℕ = (validity_of a.shelf) in
-    let live : is_live v t ledger s ≡ true = sym (is_live_in-is ledger a t s rows le) ∙ live_in in
-    let keeps : List ℕ → Bool = is_live_in v t a.sessions in
-    let later : AccountRows = advanced t a in
-    let account' : IsAccount later = IsAccount-advanced a t account in
-    let rows' : IsRowsOf ledger later = IsRowsOf-advanced ledger a t account rows le in
-    let cost : price_in s g t used_parts a ≡ report_price a.shelf t s g used_parts ledger =
-    price_is ledger a s g t used_parts account rows le live_in in
-    let rated : x.rated.0 ≡ (report_price a.shelf t s g used_parts ledger).amount.0 =
-    told.rated_is ∙ ap (λ (y : Rated). y.amount.0) cost in
-    let given : (y : BucketRow) →
-    lapsed_in keeps (with_group s g a.groups) y ≡ lapsed_in keeps a.groups y =
-    λ y. held_by-with_group (λ z. not (keeps z)) s g a.groups y in
-    let buckets : (advanced t (with_rows s g c a)).buckets ≡ buckets_at v t ledger =
-    (λ i. map (λ y. with_end t (with_release t y (given y i))) a.buckets) ∙ rows'.buckets in
-    let held : reserved_in s g (advanced t (with_rows s g c a)).groups ≡ holds_at v t s g ledger =
-    ap (λ (y : SessionGroup). holds_in y.reservation) (or_new_later keeps s g a.groups)
-    ∙ reserved_in_is ledger later s g account' rows' live in
-    record {
-      blocks = told.blocks_are ∙ ap (λ (y : Rated). y.blocks) cost;
-      covered = told.covered_is ∙ ap (λ (y : Rated). y.covered.0) cost;
-      rated = rated;
-      uncollected =
-          told.missing
-          ∙ (λ i. uncollected (reserved_in s g (told.brought i).groups) g (told.brought i).as_of
-          x.rated.0 (told.brought i).buckets)
-          ∙ (λ i. uncollected (held i) g t (rated i) (buckets i));
-      collected = told.all;
-    }
+settlement_is ledger a s g t used_parts x account rows le live_in told =
+    subst (λ n. IsAnswered (report_price a.shelf t s g used_parts ledger) n x)
+    (missing_is ledger a s g t used_parts account rows le live_in)
+    (subst (λ y. IsAnswered y (missing_in s g t used_parts a) x)
+    (price_is ledger a s g t used_parts account rows le live_in) told)

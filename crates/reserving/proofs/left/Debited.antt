@@ -1,11 +1,10 @@
 -- A debit's call, from a ledger whose rows the account's are together with those left.
-use Rattle.std.proofs.Common.{◌≡◌, ℕ, ◌+◌, ◌≤◌, Bool, false, List, [], ◌++◌, refl, sym, ap, subst}
+use Rattle.std.proofs.Common.{◌≡◌, ℕ, ◌+◌, ◌≤◌, false, List, [], ◌++◌, refl, sym, ap, subst}
 use Rattle.std.proofs.Common.{◌∙◌, arith, None}
-use Rattle.std.specs.Prelude.{not}
-use Rattle.std.specs.Ordering.{is_lt, nat_cmp}
+use Rattle.std.specs.Prelude.{nat_le}
 use Rattle.buckets.specs.Row.{BucketRow}
-use Rattle.buckets.specs.Spend.{Each, funds}
-use Rattle.buckets.specs.Holding.{held_in, uncollected}
+use Rattle.buckets.specs.Spend.{Each}
+use Rattle.buckets.specs.Holding.{held_in}
 use Rattle.std.specs.List.Sorted.{IsPermutation}
 use Rattle.std.proofs.lemmas.List.Sorted.{IsPermutation-refl}
 use Rattle.shelves.specs.Shelves.{Shelf}
@@ -15,26 +14,22 @@ use Rattle.buckets.specs.declared.kind.Due.{Due}
 use Rattle.reserving.specs.declared.session.SessionGroup.{SessionGroup}
 use Rattle.reserving.specs.declared.settle.Settled.{Settled}
 use Rattle.ledger.specs.Ledger.{Ledger}
-use Rattle.ledger.specs.Balance.{buckets_at}
 use Rattle.reserving.specs.Keyed.{put}
 use Rattle.ledger.specs.Pricing.{cycle_at, validity_of}
 use Rattle.reserving.specs.Sessions.{is_of, group_in, is_live_in}
-use Rattle.ledger.specs.Settlement.{passes}
-use Rattle.ledger.specs.Debiting.{is_covered}
+use Rattle.ledger.specs.Settlement.{passes, due_of}
 use Rattle.reserving.specs.Changes.{advanced, group_or_new, used_in, count_in, with_event}
 use Rattle.reserving.specs.Changes.{with_count}
 use Rattle.reserving.specs.Changes.{rest_price_in, debited_account}
-use Rattle.reserving.specs.Prepared.{with_rows}
 use Rattle.ledger.specs.Lists.{EachIn}
 use Rattle.reserving.specs.Rows.{AccountRows, IsAccount}
-use Rattle.reserving.specs.Results.{IsDebitOf}
+use Rattle.reserving.specs.Results.{IsAnswered, IsDebitIn, IsDebitOf}
 use Rattle.ledger.specs.Laws.{IsDead}
-use Rattle.reserving.specs.Left.{LeftRows, merged, joined, IsLeft, AreOfOtherCycles}
+use Rattle.reserving.specs.Left.{LeftRows, joined, IsLeft, AreOfOtherCycles}
 use Rattle.reserving.specs.Left.{IsBeside, IsWith}
 use Rattle.reserving.specs.Sessions.{group_before}
 use Rattle.reserving.proofs.kept.Debited.{IsAccount-debited}
-use Rattle.reserving.proofs.calls.Debited.{IsDebitMade, covered_is, debit_is, debited_is}
-use Rattle.reserving.proofs.calls.Debited.{debited_later, buckets_later}
+use Rattle.reserving.proofs.calls.Debited.{debit_is}
 use Rattle.reserving.proofs.calls.Settled.{within_used, within_counted}
 use Rattle.reserving.proofs.calls.RowParts.{used_later}
 use Rattle.reserving.proofs.LeftMerged.{each_map, settled_merged}
@@ -45,7 +40,7 @@ use Rattle.reserving.proofs.LeftTests.{none_each}
 use Rattle.reserving.proofs.LeftFrames.{row_same, count_joined, count_beside, advanced_joined}
 use Rattle.reserving.proofs.LeftMore.{with_advanced}
 use Rattle.reserving.proofs.left.Settled.{most_charge}
-use Rattle.reserving.proofs.LeftReadings.{used_joined, rest_price_joined, uncollected_merged}
+use Rattle.reserving.proofs.LeftReadings.{used_joined, rest_price_joined, funds_joined}
 
 none_held : (left : List BucketRow) → Each IsDead left → Each (λ b. held_in [] b ≡ 0) left
 none_held left dead = each_map IsDead (λ b. held_in [] b ≡ 0) left (λ b d. refl) dead
@@ -90,106 +85,65 @@ debit_reordered : (b : Shelf) (t : ℕ) (s : List ℕ) (g units : ℕ) (ledger :
 debit_reordered b t s g units ledger y z x r keys h = record {
   covered = h.covered;
   within = h.within;
-  blocks = h.blocks;
-  covered_blocks = h.covered_blocks;
-  rated = h.rated;
-  collected = h.collected;
-  uncollected = h.uncollected;
+  answer = h.answer;
   rows = IsRowsOf-reordered _ y z r keys h.rows;
 }
 
-pub covered_beside : (b : Bool) (ledger : Ledger) (left : LeftRows) (t : ℕ) (a : AccountRows)
-    (g units paid price : ℕ) → a.as_of ≤ t → IsWith ledger left t a →
-    paid ≡ funds g t (buckets_at (validity_of a.shelf) t ledger) →
-    price ≡ (rest_price_in g units t a).amount.0 → is_lt (nat_cmp paid price) ≡ b →
-    is_covered a.shelf t g units ledger ≡ not b
-covered_beside b ledger left t a g units paid price le h p q k =
-    covered_is b ledger (joined left a) g units t paid price h.apart.whole h.rows le p
-    (q ∙ ap (λ (x : Rated). x.amount.0) (sym (rest_price_joined left a g units t h.apart h.cycles)))
-    k
-
-pub debit_beside : (ledger : Ledger) (left : LeftRows) (a middle after : AccountRows) (s : List ℕ)
-    (g c t units paid : ℕ) (x : Settled) →
-    IsWith ledger left t a → group_in s g left.groups ≡ None →
-    paid ≡ funds g t (buckets_at (validity_of a.shelf) t ledger) →
-    IsDebitMade a middle after s g c t units paid x →
+pub debit_beside : (ledger : Ledger) (left : LeftRows) (a after : AccountRows) (s : List ℕ)
+    (g t units : ℕ) (x : Settled) → a.as_of ≤ t →
+    IsWith ledger left t a → group_in s g left.groups ≡ None → IsDebitIn s g units t a after x →
     IsBeside left t after × IsDebitOf a.shelf t s g units ledger (joined left after) x
-debit_beside ledger left a middle after s g c t units paid x h gone f made =
+debit_beside ledger left a after s g t units x le h gone made =
     let whole : AccountRows = joined left a in
     let later : AccountRows = advanced t a in
-    let blocks : ℕ = x.blocks.0 in
-    let owed : Due = due x.rated.0 x.covered.0 in
+    let price : Rated = rest_price_in g units t a in
+    let blocks : ℕ = price.blocks in
+    let owed : Due = due_of price in
     let not_of : EachIn (λ y. is_of s g y ≡ false) left.groups =
     none_each (is_of s g) left.groups gone in
-    let with_later : IsWith ledger left t later = with_advanced ledger left t a made.later h in
+    let with_later : IsWith ledger left t later = with_advanced ledger left t a le h in
     let count : count_in g (cycle_at a.shelf g t) whole.counters
     ≡ count_in g (cycle_at a.shelf g t) a.counters =
     count_beside a.shelf t g left.counters a.counters h.cycles in
-    let cost : rest_price_in g units t whole ≡ rest_price_in g units t a =
+    let cost : rest_price_in g units t whole ≡ price =
     rest_price_joined left a g units t h.apart h.cycles in
-    let is : after ≡ debited_account s g units blocks owed later =
-    debited_is a middle after s g c t units blocks owed made.cycle made.brought made.debited in
-    let same : debited_account s g units blocks owed (advanced t (with_rows s g c whole))
+    let same : debited_account s g units blocks owed (advanced t whole)
     ≡ debited_account s g units blocks owed (joined left later) =
-    (λ i. debited_account s g units blocks owed (advanced t (with_rows s g (made.cycle i) whole)))
-    ∙ debited_later whole s g t units blocks owed
-    ∙ ap (debited_account s g units blocks owed) (advanced_joined t left a h.apart) in
+    ap (debited_account s g units blocks owed) (advanced_joined t left a h.apart) in
     let moved : IsReordered (debited_account s g units blocks owed (joined left later))
     (joined left after) =
     subst (λ y. IsReordered (debited_account s g units blocks owed (joined left later))
-    (joined left y)) (sym is)
+    (joined left y)) (sym made.rows)
     (debited_joined left later s g units blocks owed with_later.apart h.cycles not_of) in
-    let buckets : (advanced t (with_rows s g c whole)).buckets ≡ merged left.buckets later.buckets =
-    buckets_later whole s g c t
-    ∙ ap (λ (y : AccountRows). y.buckets) (advanced_joined t left a h.apart) in
-    let un' : x.uncollected.0
-    ≡ uncollected [] g t owed.money (advanced t (with_rows s g c whole)).buckets =
-    made.missing ∙ (λ i. uncollected [] g (made.brought i).as_of owed.money
-    (made.brought i).buckets)
-    ∙ ap (uncollected [] g t owed.money) (buckets_later a s g c t)
-    ∙ sym (ap (uncollected [] g t owed.money) buckets
-    ∙ uncollected_merged [] g t owed left.buckets later.buckets h.apart.dead
-    (none_held left.buckets h.apart.dead)) in
-    let fits' : passes (used_in s g whole.groups) units
-    (count_in g (cycle_at a.shelf g t) whole.counters) (rest_price_in g units t whole).blocks
-    a.next_charge ≡ false =
-    (λ i. passes (used_joined left a s g h.apart not_of i) units (count i) (cost i).blocks
-    a.next_charge) ∙ made.fits in
     let debited : IsDebitOf a.shelf t s g units ledger
-    (debited_account s g units blocks owed (advanced t (with_rows s g c whole))) x =
-    debit_is ledger whole (advanced t (with_rows s g c whole))
-    (debited_account s g units blocks owed (advanced t (with_rows s g c whole))) s g c t units
-    paid x
-    h.apart.whole h.rows f (record {
-      later = made.later;
-      cycle = made.cycle;
-      covers = made.covers;
-      fits = fits';
-      started = made.started ∙ ap (λ (y : Rated). y.blocks) (sym cost);
-      cover = made.cover ∙ ap (λ (y : Rated). y.covered.0) (sym cost);
-      price = made.price ∙ ap (λ (y : Rated). y.amount.0) (sym cost);
-      brought = refl;
-      debited = refl;
-      missing = un';
-      whole = made.whole;
+    (debited_account s g units blocks owed (advanced t whole)) x =
+    debit_is ledger whole (debited_account s g units blocks owed (advanced t whole)) s g t units x
+    h.apart.whole h.rows le (record {
+      covered =
+          (λ i. nat_le (cost i).amount.0 (funds_joined left a g t h.apart i)) ∙ made.covered;
+      within =
+          (λ i. passes (used_joined left a s g h.apart not_of i) units (count i) (cost i).blocks
+          a.next_charge) ∙ made.within;
+      answer = subst (λ (y : Rated). IsAnswered y 0 x) (sym cost) made.answer;
+      rows =
+          λ i. debited_account s g units (sym cost i).blocks (due_of (sym cost i))
+          (advanced t whole);
     }) in
     let used : used_in s g (joined left later).groups ≡ used_in s g a.groups =
     used_joined left later s g with_later.apart not_of
     ∙ used_later (is_live_in (validity_of a.shelf) t a.sessions) s g a.groups in
-    let blocks_are : blocks ≡ (rest_price_in g units t a).blocks = made.started in
     let within : used_in s g a.groups + units ≤ 1000000000000000000 =
     within_used (used_in s g a.groups) units (count_in g (cycle_at a.shelf g t) a.counters)
-    (rest_price_in g units t a).blocks a.next_charge made.fits in
-    let counted : count_in g (cycle_at a.shelf g t) a.counters + (rest_price_in g units t a).blocks
-    ≤ 4000000000000000000 =
+    blocks a.next_charge made.within in
+    let counted : count_in g (cycle_at a.shelf g t) a.counters + blocks ≤ 4000000000000000000 =
     within_counted (used_in s g a.groups) units (count_in g (cycle_at a.shelf g t) a.counters)
-    (rest_price_in g units t a).blocks a.next_charge made.fits in
+    blocks a.next_charge made.within in
     let account : IsAccount (debited_account s g units blocks owed (joined left later)) =
     IsAccount-debited (joined left later) s g units blocks owed
-    (omega (arith, used, within)) (omega (arith, count, counted, blocks_are))
+    (omega (arith, used, within)) (omega (arith, count, counted))
     (most_charge (used_in s g a.groups) units
-    (count_in g (cycle_at a.shelf g t) a.counters) (rest_price_in g units t a).blocks
-    a.next_charge made.fits) with_later.apart.whole in
+    (count_in g (cycle_at a.shelf g t) a.counters) blocks
+    a.next_charge made.within) with_later.apart.whole in
     let beside : IsBeside left t (debited_account s g units blocks owed later) = record {
       apart = record {
         dead = with_later.apart.dead;
@@ -205,7 +159,7 @@ debit_beside ledger left a middle after s g c t units paid x h gone f made =
       };
       cycles = h.cycles;
     } in (
-      subst (IsBeside left t) (sym is) beside,
+      subst (IsBeside left t) (sym made.rows) beside,
       debit_reordered a.shelf t s g units ledger
           (debited_account s g units blocks owed (joined left later)) (joined left after) x moved
           (keys_of (debited_account s g units blocks owed (joined left later)) account)

@@ -6,18 +6,18 @@ use Rattle.rating.specs.declared.grant.Grant.{Grant}
 use Rattle.buckets.specs.declared.kind.Due.{Due}
 use Rattle.reserving.specs.declared.session.SessionGroup.{SessionGroup}
 use Rattle.shelves.specs.Shelves.{Shelf}
-use Rattle.ledger.specs.Ledger.{Ledger, used}
-use Rattle.ledger.specs.Pricing.{switch_at, validity_at, validity_of}
-use Rattle.ledger.specs.Reservation.{grant_for, held_due}
+use Rattle.ledger.specs.Ledger.{Ledger}
+use Rattle.ledger.specs.Pricing.{switch_at, validity_at, validity_of, tariff_at, wanted_with}
+use Rattle.ledger.specs.Reservation.{held_due}
 use Rattle.reserving.specs.Sessions.{is_of, is_live_in}
-use Rattle.reserving.specs.Changes.{advanced, reserved_account}
+use Rattle.reserving.specs.Changes.{advanced, reserved_account, granted_in}
 use Rattle.reserving.specs.Prepared.{with_group_row, reservation_in}
 use Rattle.ledger.specs.Lists.{EachIn}
 use Rattle.reserving.specs.Rows.{AccountRows, IsAccount}
-use Rattle.reserving.specs.Results.{IsGrantOf}
+use Rattle.reserving.specs.Results.{IsGrantIn, IsGrantOf}
 use Rattle.reserving.specs.Left.{LeftRows, joined, IsLeft, IsBeside, IsWith}
 use Rattle.reserving.proofs.rows.Reserved.{IsAccount-reserved}
-use Rattle.reserving.proofs.ReservedCall.{QuotaOf, grant_told, grant_is, free_later, reserved_later}
+use Rattle.reserving.proofs.ReservedCall.{QuotaOf, grant_is, free_later, reserved_later}
 use Rattle.reserving.proofs.LeftFrames.{live, not_of_live, row_same, advanced_joined}
 use Rattle.reserving.proofs.LeftMore.{with_advanced}
 use Rattle.reserving.proofs.order.SameRows.{IsReordered, IsAccount-reordered, IsRowsOf-reordered}
@@ -48,17 +48,6 @@ left_reserved left a s g due h alive none = record {
       (free_joined left a s g h (not_of_live left a a.as_of s g h alive) none) h.whole);
 }
 
--- nothing is granted exactly where no unit is covered
-pub nothing_beside : (ledger : Ledger) (left : LeftRows) (t : ℕ) (a : AccountRows) (s : List ℕ)
-    (g : ℕ) (requested : Option ℕ) (wanted : ℕ) (grant : Grant) → IsWith ledger left t a →
-    a.as_of ≤ t → is_live_in (validity_of a.shelf) t a.sessions s ≡ true →
-    QuotaOf a s g t requested wanted grant →
-    grant ≡ grant_for a.shelf t g (used s g ledger) requested ledger
-nothing_beside ledger left t a s g requested wanted grant h le alive q =
-    grant_told ledger (joined left a) s g t requested wanted grant h.apart.whole h.rows le
-    (quota_of_joined left a s g t requested wanted grant h.apart h.cycles
-    (not_of_live left a t s g h.apart alive) q)
-
 grant_reordered : (b : Shelf) (t : ℕ) (s : List ℕ) (g : ℕ) (requested : Option ℕ) (ledger : Ledger)
     (y z : AccountRows) (given : ℕ) (at : Option ℕ) (seconds : ℕ) (fewer : Bool) →
     IsReordered y z → AreKeysApart y →
@@ -74,7 +63,7 @@ grant_reordered b t s g requested ledger y z given at seconds fewer r keys h = r
   rows = IsRowsOf-reordered _ y z r keys h.rows;
 }
 
-pub grant_beside : (ledger : Ledger) (left : LeftRows) (a middle after : AccountRows) (s : List ℕ)
+pub grant_beside : (ledger : Ledger) (left : LeftRows) (a after : AccountRows) (s : List ℕ)
     (g t : ℕ) (requested : Option ℕ) (wanted : ℕ) (grant : Grant) (at : Option ℕ) (validity : ℕ)
     (fewer : Bool) →
     IsWith ledger left t a → a.as_of ≤ t → is_live_in (validity_of a.shelf) t a.sessions s ≡ true →
@@ -82,12 +71,11 @@ pub grant_beside : (ledger : Ledger) (left : LeftRows) (a middle after : Account
     QuotaOf a s g t requested wanted grant →
     0 < grant.units.0 → at ≡ switch_at a.shelf t → validity ≡ validity_at a.shelf t →
     fewer ≡ nat_lt grant.units.0 wanted →
-    middle ≡ advanced t (with_group_row s g a) →
-    after ≡ reserved_account s g (held_due grant) middle →
+    after ≡ reserved_account s g (held_due grant) (advanced t a) →
     IsBeside left t after ×
     IsGrantOf a.shelf t s g requested ledger (joined left after) grant.units.0 at validity fewer
-grant_beside ledger left a middle after s g t requested wanted grant at validity fewer h le alive
-    none q some switch valid few m e =
+grant_beside ledger left a after s g t requested wanted grant at validity fewer h le alive
+    none q some switch valid few is =
     let whole : AccountRows = joined left a in
     let later : AccountRows = advanced t a in
     let due : Due = held_due grant in
@@ -98,8 +86,6 @@ grant_beside ledger left a middle after s g t requested wanted grant at validity
     live_later ledger left a s t le h with_later alive in
     let free : reservation_in s g later.groups ≡ None =
     free_later (is_live_in (validity_of a.shelf) t a.sessions) s g a.groups none in
-    let is : after ≡ reserved_account s g due later =
-    e ∙ ap (reserved_account s g due) m ∙ reserved_later a s g t due in
     let same : reserved_account s g due (advanced t (with_group_row s g whole))
     ≡ reserved_account s g due (joined left later) =
     reserved_later whole s g t due
@@ -133,4 +119,35 @@ grant_beside ledger left a middle after s g t requested wanted grant at validity
           (keys_of (reserved_account s g due (joined left later)) account)
           (subst (λ x. IsGrantOf a.shelf t s g requested ledger x grant.units.0 at validity fewer)
           same granted),
+    )
+
+-- the quota of a grant by the rows
+pub quota_in : (a after : AccountRows) (s : List ℕ) (g t : ℕ) (requested : Option ℕ) (given : ℕ)
+    (at : Option ℕ) (validity : ℕ) (fewer : Bool) →
+    IsGrantIn s g t requested a after given at validity fewer →
+    QuotaOf a s g t requested (wanted_with (tariff_at a.shelf t g) requested)
+    (granted_in s g t requested a)
+quota_in a after s g t requested given at validity fewer is =
+    record { wanted = refl; grant = refl; greatest = is.greatest }
+
+-- so a grant by the rows is one of the ledger
+pub granted_beside : (ledger : Ledger) (left : LeftRows) (a after : AccountRows) (s : List ℕ)
+    (g t : ℕ) (requested : Option ℕ) (given : ℕ) (at : Option ℕ) (validity : ℕ) (fewer : Bool) →
+    IsWith ledger left t a → a.as_of ≤ t → is_live_in (validity_of a.shelf) t a.sessions s ≡ true →
+    reservation_in s g a.groups ≡ None →
+    IsGrantIn s g t requested a after given at validity fewer →
+    IsBeside left t after ×
+    IsGrantOf a.shelf t s g requested ledger (joined left after) given at validity fewer
+granted_beside ledger left a after s g t requested given at validity fewer h le alive none is =
+    let grant : Grant = granted_in s g t requested a in
+    let wanted : ℕ = wanted_with (tariff_at a.shelf t g) requested in
+    let both : IsBeside left t after ×
+    IsGrantOf a.shelf t s g requested ledger (joined left after) grant.units.0 at validity fewer =
+    grant_beside ledger left a after s g t requested wanted grant at validity fewer h le alive none
+    (quota_in a after s g t requested given at validity fewer is)
+    (subst (λ n. 0 < n) is.units is.some) is.switch is.validity
+    (is.fewer ∙ ap (λ n. nat_lt n wanted) is.units) is.rows in (
+      both.0,
+      subst (λ n. IsGrantOf a.shelf t s g requested ledger (joined left after) n at validity fewer)
+          (sym is.units) both.1,
     )

@@ -4,15 +4,13 @@ use Rattle.std.proofs.Common.{subst, ◌∙◌, arith}
 use Rattle.std.proofs.lemmas.Bool.Decides.{nat_tests}
 use Rattle.units.specs.declared.blocks.UsedPart.{UsedPart}
 use Rattle.rating.specs.declared.report.Rated.{Rated}
-use Rattle.buckets.specs.declared.kind.Due.{Due}
 use Rattle.reserving.specs.declared.session.SessionGroup.{SessionGroup}
 use Rattle.ledger.specs.Ledger.{Ledger, is_live}
 use Rattle.ledger.specs.Pricing.{cycle_at, validity_of}
 use Rattle.reserving.specs.Sessions.{is_of, is_live_in}
 use Rattle.ledger.specs.Settlement.{reported, passes, settled_by, due_of}
-use Rattle.reserving.specs.Changes.{advanced, used_in, count_in, price_in, ended_rows}
-use Rattle.reserving.specs.Changes.{settled_account, settled_by_rows}
-use Rattle.reserving.specs.Prepared.{with_rows}
+use Rattle.reserving.specs.Changes.{advanced, used_in, count_in, price_in}
+use Rattle.reserving.specs.Changes.{settled_account, settled_by_rows, passes_in}
 use Rattle.ledger.specs.Lists.{EachIn}
 use Rattle.reserving.specs.Rows.{AccountRows, IsRowsOf}
 use Rattle.reserving.specs.Left.{LeftRows, joined, IsWith}
@@ -20,7 +18,7 @@ use Rattle.reserving.proofs.Advancing.{is_live_in-is}
 use Rattle.reserving.proofs.kept.Settled.{IsAccount-settled}
 use Rattle.reserving.proofs.order.SameRows.{IsAccount-reordered}
 use Rattle.reserving.proofs.calls.RowParts.{used_later}
-use Rattle.reserving.proofs.calls.Settled.{price_later, within_used, within_counted, settled_is}
+use Rattle.reserving.proofs.calls.Settled.{price_later, within_used, within_counted}
 use Rattle.reserving.proofs.LeftFrames.{live, not_of_live, row_same, count_same, settled_joined}
 use Rattle.reserving.proofs.LeftFrames.{settled_with_left}
 use Rattle.reserving.proofs.LeftMore.{with_advanced, with_ended, with_facts}
@@ -98,57 +96,42 @@ live_beside ledger left a middle s t m h k le alive =
     let later : IsWith ledger left t (advanced t a) = subst (IsWith ledger left t) m k in
     record { rows = later; live = live_later ledger left a s t le h later alive }
 
-pub left_ended : (ledger : Ledger) (left : LeftRows) (a middle after : AccountRows) (s : List ℕ)
-    (g t : ℕ) (used_parts : List UsedPart) →
-    IsWith ledger left t a → a.as_of ≤ t → is_live_in (validity_of a.shelf) t a.sessions s ≡ true →
-    used_parts ≡ [] → middle ≡ advanced t a → after ≡ ended_rows s g middle →
-    IsWith (settled_by a.shelf t s g used_parts ledger) left t after
-left_ended ledger left a middle after s g t used_parts h le alive empty m e =
-    let k : IsWith ledger left t (advanced t a) = with_advanced ledger left t a le h in
-    subst (λ ps. IsWith (settled_by a.shelf t s g ps ledger) left t after) (sym empty)
-    (subst (IsWith (settled_by a.shelf t s g [] ledger) left t) (sym (e ∙ ap (ended_rows s g) m))
-    (with_ended ledger left (advanced t a) s g k (live_later ledger left a s t le h k alive)))
-
 pub most_charge : (before units count blocks charge : ℕ) →
     passes before units count blocks charge ≡ false → charge < 4294967296
 most_charge before units count blocks charge h = grind (arith, nat_tests)
 
-pub left_settled : (ledger : Ledger) (left : LeftRows) (a middle after : AccountRows) (s : List ℕ)
-    (g c t units blocks : ℕ) (due : Due) (used_parts : List UsedPart) →
+-- the rows of the ledger with the settlement
+pub left_settled : (ledger : Ledger) (left : LeftRows) (a : AccountRows) (s : List ℕ) (g t : ℕ)
+    (used_parts : List UsedPart) →
     IsWith ledger left t a → a.as_of ≤ t → is_live_in (validity_of a.shelf) t a.sessions s ≡ true →
-    (used_parts ≡ [] → ⊥) → c ≡ cycle_at a.shelf g t →
-    units ≡ reported used_parts → blocks ≡ (price_in s g t used_parts a).blocks →
-    due ≡ due_of (price_in s g t used_parts a) →
-    passes (used_in s g a.groups) units (count_in g (cycle_at a.shelf g t) a.counters) blocks
-    a.next_charge ≡ false →
-    middle ≡ advanced t (with_rows s g c a) →
-    after ≡ settled_account s g units blocks due middle →
-    IsWith (settled_by a.shelf t s g used_parts ledger) left t after
-left_settled ledger left a middle after s g c t units blocks due used_parts h le alive some k u b
-    r fits m e =
+    passes_in s g t used_parts a ≡ false →
+    IsWith (settled_by a.shelf t s g used_parts ledger) left t
+    (settled_by_rows s g used_parts (advanced t a))
+left_settled ledger left a s g t [] h le alive fits =
+    let with_later : IsWith ledger left t (advanced t a) = with_advanced ledger left t a le h in
+    with_ended ledger left (advanced t a) s g with_later
+    (live_later ledger left a s t le h with_later alive)
+left_settled ledger left a s g t (p ∷ ps) h le alive fits =
     let later : AccountRows = advanced t a in
     let with_later : IsWith ledger left t later = with_advanced ledger left t a le h in
-    let cost : price_in s g t used_parts a ≡ price_in s g t used_parts later =
-    price_later a s g t used_parts alive in
-    let same : after ≡ settled_by_rows s g used_parts later =
-    settled_is a middle after s g c t units blocks due used_parts alive some k u b r m e in
-    let blocks_are : blocks ≡ (price_in s g t used_parts later).blocks =
-    b ∙ ap (λ (x : Rated). x.blocks) cost in
+    let x : Rated = price_in s g t (p ∷ ps) a in
+    let cost : x ≡ price_in s g t (p ∷ ps) later = price_later a s g t (p ∷ ps) alive in
+    let blocks : x.blocks ≡ (price_in s g t (p ∷ ps) later).blocks =
+    ap (λ (y : Rated). y.blocks) cost in
     let used : used_in s g later.groups ≡ used_in s g a.groups =
     used_later (is_live_in (validity_of a.shelf) t a.sessions) s g a.groups in
-    let within : used_in s g a.groups + units ≤ 1000000000000000000 =
-    within_used (used_in s g a.groups) units (count_in g (cycle_at a.shelf g t) a.counters)
-    blocks a.next_charge fits in
-    let counted : count_in g (cycle_at a.shelf g t) a.counters + blocks ≤ 4000000000000000000 =
-    within_counted (used_in s g a.groups) units (count_in g (cycle_at a.shelf g t) a.counters)
-    blocks a.next_charge fits in
-    subst (IsWith (settled_by a.shelf t s g used_parts ledger) left t) (sym same)
-    (with_settled ledger left later s g used_parts with_later
+    let within : used_in s g a.groups + reported (p ∷ ps) ≤ 1000000000000000000 =
+    within_used (used_in s g a.groups) (reported (p ∷ ps))
+    (count_in g (cycle_at a.shelf g t) a.counters) x.blocks a.next_charge fits in
+    let counted : count_in g (cycle_at a.shelf g t) a.counters + x.blocks ≤ 4000000000000000000 =
+    within_counted (used_in s g a.groups) (reported (p ∷ ps))
+    (count_in g (cycle_at a.shelf g t) a.counters) x.blocks a.next_charge fits in
+    with_settled ledger left later s g (p ∷ ps) with_later
     (live_later ledger left a s t le h with_later alive)
     (record {
-      used = omega (arith, used, within, u);
-      counted = omega (arith, counted, blocks_are);
+      used = omega (arith, used, within);
+      counted = omega (arith, counted, blocks);
       charges =
-          most_charge (used_in s g a.groups) units (count_in g (cycle_at a.shelf g t) a.counters)
-          blocks a.next_charge fits;
-    }))
+          most_charge (used_in s g a.groups) (reported (p ∷ ps))
+          (count_in g (cycle_at a.shelf g t) a.counters) x.blocks a.next_charge fits;
+    })

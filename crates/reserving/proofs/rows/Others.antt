@@ -2,7 +2,6 @@
 use Rattle.std.proofs.Common.{◌≡◌, ℕ, Bool, true, false, cond, List, [], ◌∷◌, map, refl, sym, ap}
 use Rattle.std.proofs.Common.{◌∙◌, subst, Option, Some, None}
 use Rattle.std.specs.Prelude.{not, ◌&&◌, ◌==◌, ◌+◌, ◌*◌, nat_lt, if◌then◌else◌, filter}
-use Rattle.std.specs.Prelude.{IfSome}
 use Rattle.std.specs.List.{find, list_any}
 use Rattle.std.proofs.lemmas.Bool.{and_parts}
 use Rattle.identifiers.proofs.Equality.{equal_names}
@@ -14,7 +13,6 @@ use Rattle.reserving.specs.declared.session.Session.{Session}
 use Rattle.reserving.specs.declared.session.SessionGroup.{SessionGroup}
 use Rattle.reserving.specs.declared.session.SessionState.{SessionState}
 use Rattle.reserving.specs.declared.session.SessionState.TheVariants.{Open, Ended}
-use Rattle.reserving.specs.declared.settle.Settled.{Settled}
 use Rattle.reserving.specs.declared.reserve.Granted.{Granted}
 use Rattle.reserving.specs.declared.reserve.Granted.TheVariants.{Nothing, Units}
 use Rattle.ledger.specs.Ledger.{is_same}
@@ -372,15 +370,6 @@ pub stays_recorded : (s : List ℕ) (n t : ℕ) (state : SessionState) (x y : Ac
     y ≡ advanced t (with_session s n t state x) → OthersStay s t x y
 stays_recorded s n t state x y is =
     stays_before s t x y (with_session s n t state) (own_session s n t state) is
-
--- a debit that is covered
-pub stays_charged : (s : List ℕ) (g units blocks t : ℕ) (due : Due) (x y : AccountRows)
-    (told : Option Settled) (settled : Settled) →
-    IfSome told (λ given. y ≡ debited_account s g units blocks due (advanced t x)) →
-    told ≡ Some settled → OthersStay s t x y
-stays_charged s g units blocks t due x y told settled h e =
-    stays_debited s g units blocks t due x y
-    (subst (λ o. IfSome o (λ given. y ≡ debited_account s g units blocks due (advanced t x))) e h)
 
 -- a credit touches no session
 pub stays_credited : (s : List ℕ) (kind : BucketKind) (from until : ℕ) (scope : Option ℕ)

@@ -7,23 +7,14 @@ use Rattle.rating.specs.declared.report.Rated.{Rated}
 use Rattle.buckets.specs.Kinds.{due}
 use Rattle.ledger.specs.Pricing.{cycle_at}
 use Rattle.ledger.specs.Settlement.{passes}
-use Rattle.reserving.specs.Sessions.{session_in}
 use Rattle.reserving.specs.Changes.{advanced, used_in, count_in, rest_price_in, debited_account}
 use Rattle.reserving.specs.Prepared.{with_rows}
 use Rattle.reserving.specs.declared.settle.Settled.{Settled}
 use Rattle.reserving.specs.Rows.{AccountRows}
-use Rattle.reserving.proofs.Advancing.{session_in-advanced}
 use Rattle.reserving.proofs.calls.Settled.{within_used, within_counted, there_later, counter_there}
 use Rattle.reserving.proofs.calls.Settled.{used_middle, count_middle}
-use Rattle.reserving.proofs.Lists.{no_some, no_fault}
-use Rattle.reserving.proofs.ChargeRows.{charge-numbered}
-use Rattle.reserving.proofs.calls.Debited.{IsDebitMade, debited_is, covered_is, debit_passes_is}
-use Rattle.reserving.proofs.calls.Debited.{debit_is}
-use Rattle.reserving.proofs.calls.Limits.{covered_in_is}
-use Rattle.reserving.specs.Sessions.{is_of}
-use Rattle.reserving.proofs.LeftTests.{none_each}
-use Rattle.reserving.proofs.LeftReadings.{debit_passes_told}
-use Rattle.reserving.proofs.left.Debited.{debit_beside, covered_beside}
+use Rattle.reserving.proofs.Lists.{no_fault}
+use Rattle.reserving.proofs.calls.Debited.{IsDebitMade, covered_in_is, debit_made}
 use Rattle.reserving.proofs.account.Account.debit.Goals as goal
 
 pub charge_use-charged-requires : goal.charge_use-charged-requires
@@ -114,17 +105,6 @@ debited c =
     c.in-Some.rated.blocks.0 (due c.in-Some.rated.amount.0 c.in-Some.rated.covered.0)
     c.advance.new.self)
 
-after : (c : goal.After-result-6-1) →
-    c.charge_use-charged.new.self
-    ≡ debited_account c.args.session.now c.args.group c.args.units.0 c.in-Some.rated.blocks.0
-    (due c.in-Some.rated.amount.0 c.in-Some.rated.covered.0)
-    (advanced c.args.moment
-    (with_rows c.args.session.now c.args.group c.cycle_at-cycle.result c.args.self.now))
-after c =
-    debited c
-    ∙ ap (debited_account c.args.session.now c.args.group c.args.units.0 c.in-Some.rated.blocks.0
-    (due c.in-Some.rated.amount.0 c.in-Some.rated.covered.0)) (brought c)
-
 abbrev Sums : (c : goal.After-result-6-1) → Type 0
 Sums c =
     c.charge_use-charged.result.collected.0 + c.charge_use-charged.result.uncollected.0
@@ -148,8 +128,8 @@ made : (c : goal.After-result-6-1) (sum : Sums c) →
 made c sum =
     let a : AccountRows = c.args.self.now in
     record {
-      later = c.requires;
       cycle = c.cycle_at-cycle.ensures;
+      funded = c.funds.ensures.rows;
       covers = ap (λ (x : Amount). is_lt (nat_cmp c.funds.result.0 x.0)) c.in-Some.ensures.amount
           ∙ sym c.lt.ensures ∙ c.if-lt.false;
       fits = ap
@@ -162,90 +142,25 @@ made c sum =
       brought = brought c;
       debited = debited c;
       missing = c.charge_use-charged.ensures.uncollected;
-      whole = c.charge_use-charged.ensures.collected;
     }
 
 pub returns-then-lt : goal.returns-then-lt
 returns-then-lt c = record {
-  debit =
-      λ ledger rows.
-      let price : c.rest_price-price.result.amount.0
-      ≡ (rest_price_in c.args.group c.args.units.0 c.args.moment c.args.self.now).amount.0 =
-      ap (λ (x : Rated). x.amount.0) c.rest_price-price.ensures.value in
-      covered_is true ledger c.args.self.now c.args.group c.args.units.0 c.args.moment
-      c.funds.result.0 c.rest_price-price.result.amount.0 c.rest_price-price.ensures.account rows
-      c.requires (c.funds.ensures.ledger ledger rows) price
-      (sym c.lt.ensures ∙ c.if-lt.true);
-  left =
-      λ ledger left gone h.
-      let price : c.rest_price-price.result.amount.0
-      ≡ (rest_price_in c.args.group c.args.units.0 c.args.moment c.args.self.now).amount.0 =
-      ap (λ (x : Rated). x.amount.0) c.rest_price-price.ensures.value in (
-        record { apart = h.apart; cycles = h.cycles },
-        covered_beside true ledger left c.args.moment c.args.self.now c.args.group c.args.units.0
-            c.funds.result.0 c.rest_price-price.result.amount.0 c.requires h
-            (c.funds.ensures.left ledger left h) price (sym c.lt.ensures ∙ c.if-lt.true),
-      );
+  debit = (
+    covered_in_is true c.args.self.now c.args.group c.args.units.0 c.args.moment
+        c.funds.result.0 c.rest_price-price.result.amount.0 c.funds.ensures.rows
+        (ap (λ (x : Rated). x.amount.0) c.rest_price-price.ensures.value)
+        (sym c.lt.ensures ∙ c.if-lt.true),
+    refl,
+  );
   limit = λ e. absurd (no_fault e);
-  limit_left = λ e. absurd (no_fault e);
-  covered_rows =
-      sym (covered_in_is true c.args.self.now c.args.group c.args.units.0 c.args.moment
-      c.funds.result.0 c.rest_price-price.result.amount.0 c.funds.ensures.rows
-      (ap (λ (x : Rated). x.amount.0) c.rest_price-price.ensures.value)
-      (sym c.lt.ensures ∙ c.if-lt.true));
-  within_rows = tt;
-  limit_rows = λ e. absurd (no_fault e);
-  by_rows = tt;
-  uncovered = λ e. refl;
-  number = tt;
-  as_of = tt;
-  new = λ x h. h;
-  tariff = refl;
   err = tt;
 }
 
 pub returns-in_default : goal.returns-in_default
 returns-in_default c = record {
   debit = tt;
-  left = tt;
   limit =
-      λ e ledger rows.
-      let a : AccountRows = c.args.self.now in
-      let price : c.rest_price-price.result.amount.0
-      ≡ (rest_price_in c.args.group c.args.units.0 c.args.moment c.args.self.now).amount.0 =
-      ap (λ (x : Rated). x.amount.0) c.rest_price-price.ensures.value in (
-        covered_is false ledger c.args.self.now c.args.group c.args.units.0 c.args.moment
-            c.funds.result.0 c.rest_price-price.result.amount.0 c.within_limits.ensures.account
-            rows c.requires
-            (c.funds.ensures.ledger ledger rows) price (sym c.lt.ensures ∙ c.if-lt.false),
-        debit_passes_is ledger c.args.self.now c.args.session.now c.args.group c.args.units.0
-            c.args.moment c.within_limits.ensures.account rows c.requires
-            ∙ (λ i. passes (used_in c.args.session.now c.args.group a.groups) c.args.units.0
-            (count_in c.args.group (cycle_at a.shelf c.args.group c.args.moment) a.counters)
-            (sym c.rest_price-price.ensures.value i).blocks a.next_charge)
-            ∙ c.within_limits.ensures.none c.in_default.is,
-      );
-  limit_left =
-      λ e ledger left gone h.
-      let a : AccountRows = c.args.self.now in
-      let price : c.rest_price-price.result.amount.0
-      ≡ (rest_price_in c.args.group c.args.units.0 c.args.moment c.args.self.now).amount.0 =
-      ap (λ (x : Rated). x.amount.0) c.rest_price-price.ensures.value in (
-        covered_beside false ledger left c.args.moment a c.args.group c.args.units.0
-            c.funds.result.0
-            c.rest_price-price.result.amount.0 c.requires h (c.funds.ensures.left ledger left h)
-            price
-            (sym c.lt.ensures ∙ c.if-lt.false),
-        debit_passes_told ledger left c.args.moment a c.args.session.now c.args.group c.args.units.0
-            (none_each (is_of c.args.session.now c.args.group) left.groups gone) c.requires h
-            ∙ (λ i. passes (used_in c.args.session.now c.args.group a.groups) c.args.units.0
-            (count_in c.args.group (cycle_at a.shelf c.args.group c.args.moment) a.counters)
-            (sym c.rest_price-price.ensures.value i).blocks a.next_charge)
-            ∙ c.within_limits.ensures.none c.in_default.is,
-      );
-  covered_rows = tt;
-  within_rows = tt;
-  limit_rows =
       λ e. (
         covered_in_is false c.args.self.now c.args.group c.args.units.0 c.args.moment
             c.funds.result.0
@@ -257,70 +172,15 @@ returns-in_default c = record {
             c.args.self.now.counters) (sym c.rest_price-price.ensures.value i).blocks
             c.args.self.now.next_charge) ∙ c.within_limits.ensures.none c.in_default.is,
       );
-  by_rows = tt;
-  uncovered = tt;
-  number = tt;
-  as_of = tt;
-  new = tt;
-  tariff = refl;
   err = refl;
 }
 
 pub returns : goal.returns
 returns c = record {
   debit =
-      λ ledger rows.
-      debit_is ledger c.args.self.now c.advance.new.self c.charge_use-charged.new.self
+      debit_made c.args.self.now c.advance.new.self c.charge_use-charged.new.self
       c.args.session.now c.args.group c.cycle_at-cycle.result c.args.moment c.args.units.0
-      c.funds.result.0 (answered c _)
-      c.in-Some.ensures.account rows (c.funds.ensures.ledger ledger rows) (made c _);
-  left =
-      λ ledger left gone h.
-      debit_beside ledger left c.args.self.now c.advance.new.self c.charge_use-charged.new.self
-      c.args.session.now c.args.group c.cycle_at-cycle.result c.args.moment c.args.units.0
-      c.funds.result.0 (answered c _)
-      h gone (c.funds.ensures.left ledger left h) (made c _);
+      c.funds.result.0 (answered c _) (made c _);
   limit = λ e. absurd (no_fault e);
-  limit_left = λ e. absurd (no_fault e);
-  covered_rows =
-      sym (covered_in_is false c.args.self.now c.args.group c.args.units.0 c.args.moment
-      c.funds.result.0 c.rest_price-price.result.amount.0 c.funds.ensures.rows
-      (ap (λ (x : Rated). x.amount.0) c.rest_price-price.ensures.value)
-      (sym c.lt.ensures ∙ c.if-lt.false));
-  within_rows =
-      ap (λ (x : Rated). passes (used_in c.args.session.now c.args.group c.args.self.now.groups)
-      c.args.units.0
-      (count_in c.args.group (cycle_at c.args.self.now.shelf c.args.group c.args.moment)
-      c.args.self.now.counters) x.blocks c.args.self.now.next_charge)
-      (sym c.rest_price-price.ensures.value) ∙ c.in-Some.ensures.some;
-  limit_rows = λ e. absurd (no_fault e);
-  by_rows =
-      let a : AccountRows = c.args.self.now in
-      debited_is a c.advance.new.self c.charge_use-charged.new.self c.args.session.now c.args.group
-      c.cycle_at-cycle.result c.args.moment c.args.units.0 c.in-Some.rated.blocks.0
-      (due c.in-Some.rated.amount.0 c.in-Some.rated.covered.0) c.cycle_at-cycle.ensures
-      (brought c) (debited c)
-      ∙ (λ i. debited_account c.args.session.now c.args.group c.args.units.0 (started c i)
-      (due (price c i) (cover c i))
-      (advanced c.args.moment a));
-  uncovered = λ e. absurd (no_some _ (sym e));
-  number =
-      charge-numbered (used_in c.args.session.now c.args.group c.args.self.now.groups)
-      c.args.units.0
-      (count_in c.args.group (cycle_at c.args.self.now.shelf c.args.group c.args.moment)
-      c.args.self.now.counters) c.rest_price-price.result.blocks c.args.self.now.next_charge
-      c.in-Some.ensures.some;
-  as_of = ap (λ (a : AccountRows). a.as_of) (after c);
-  new =
-      λ x h.
-      let middle : c.charge_use-charged.new.self.sessions
-      ≡ (advanced c.args.moment c.args.self.now).sessions =
-      ap (λ (a : AccountRows). a.sessions)
-      (c.charge_use-charged.ensures.rows
-      ∙ ap (debited_account c.args.session.now c.args.group c.in-Some.rated.units.0
-      c.in-Some.rated.blocks.0 (due c.in-Some.rated.amount.0 c.in-Some.rated.covered.0))
-      (c.advance.ensures.rows ∙ ap (advanced c.args.moment) c.in_ok-make_rows.ensures.ok)) in
-      ap (session_in x) middle ∙ session_in-advanced x c.args.moment c.args.self.now h;
-  tariff = ap (λ (a : AccountRows). a.shelf) (after c);
   err = tt;
 }

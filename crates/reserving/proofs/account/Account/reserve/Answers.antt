@@ -6,19 +6,15 @@ use Rattle.rating.specs.declared.grant.Grant.{Grant}
 use Rattle.shelves.specs.Shelves.{book_at}
 use Rattle.ledger.specs.Pricing.{periods_at, switch_at, validity_at, periods_by, switch_by}
 use Rattle.ledger.specs.Pricing.{validity_by}
-use Rattle.reserving.specs.Changes.{advanced, used_in, reserved_account}
+use Rattle.reserving.specs.Changes.{advanced, used_in}
 use Rattle.reserving.specs.Prepared.{with_group_row}
 use Rattle.reserving.specs.Rows.{AccountRows}
 use Rattle.reserving.proofs.ReservedCall.{group_there, free_middle, covered_middle, QuotaOf}
-use Rattle.reserving.proofs.ReservedCall.{quota_of, grant_told, quota_covered, grant_is}
+use Rattle.reserving.proofs.ReservedCall.{quota_of, quota_covered}
 use Rattle.reserving.proofs.ReservedCall.{within_grant, allowed_middle, quota_allowed}
 use Rattle.reserving.proofs.ReservedCall.{tariff_middle}
-use Rattle.reserving.proofs.calls.StillFree.{others_advanced, others_reserved}
 use Rattle.reserving.proofs.calls.Limits.{grant_in_is}
-use Rattle.reserving.specs.Left.{IsWith}
-use Rattle.reserving.proofs.left.Granted.{nothing_beside, grant_beside}
 use Rattle.reserving.proofs.rows.Calm.{live_middle}
-use Rattle.ledger.specs.Reservation.{held_due}
 use Rattle.reserving.proofs.account.Account.reserve.Goals as goal
 
 -- where nothing is granted, the quota was reckoned with the window's periods
@@ -124,97 +120,24 @@ brought : (c : goal.After-struct_known-2-1) →
     ≡ advanced c.args.moment (with_group_row c.args.session.now c.args.group c.args.self.now)
 brought c = c.advance-2.ensures.rows ∙ ap (advanced c.args.moment) c.in_ok-room.ensures.ok
 
-after : (c : goal.After-struct_known-2-1) →
-    c.hold_quota.new.self
-    ≡ reserved_account c.args.session.now c.args.group (held_due (granted c))
-    (advanced c.args.moment (with_group_row c.args.session.now c.args.group c.args.self.now))
-after c =
-    c.hold_quota.ensures
-    ∙ ap (reserved_account c.args.session.now c.args.group (held_due (granted c))) (brought c)
-
 pub returns-then-quota-eq0 : goal.returns-then-quota-eq0
 returns-then-quota-eq0 c = record {
-  rows =
-      λ ledger rows. (
-        sym (ap (λ (x : Grant). x.units.0)
-            (grant_told ledger c.args.self.now c.args.session.now c.args.group c.args.moment
-            (option_map (λ (u : Units). u.0) c.args.requested) _ _ c.quota-quota.ensures.account
-            rows c.requires.moment (nothing_told c))) ∙ c.if-quota-eq0.true,
-        c.advance.ensures.ledger ledger rows,
-      );
-  left =
-      λ ledger left h.
-      let later : IsWith ledger left c.args.moment c.advance.new.self =
-      c.advance.ensures.left ledger left h in (
-        record { apart = later.apart; cycles = later.cycles },
-        (
-          sym (ap (λ (x : Grant). x.units.0)
-              (nothing_beside ledger left c.args.moment c.args.self.now c.args.session.now
-              c.args.group (option_map (λ (u : Units). u.0) c.args.requested) _ _ h
-              c.requires.moment c.requires.live (nothing_told c))) ∙ c.if-quota-eq0.true,
-          later.rows,
-        ),
-      );
-  by_rows = (
+  granted = (
     sym (ap (λ (x : Grant). x.units.0) (nothing_told c).grant) ∙ c.if-quota-eq0.true,
     c.advance.ensures.rows,
   );
-  as_of = ap (λ (x : AccountRows). x.as_of) c.advance.ensures.rows;
-  tariff = ap (λ (x : AccountRows). x.shelf) c.advance.ensures.rows;
-  sessions = ap (λ (x : AccountRows). x.sessions) c.advance.ensures.rows;
-  within = tt;
-  others =
-      λ g n h. others_advanced c.args.self.now c.advance.new.self c.args.session.now g c.args.moment
-      c.advance.ensures.rows h;
   memory = tt;
   err = tt;
 }
 
 pub returns : goal.returns
 returns c = record {
-  rows =
-      λ ledger rows.
-      grant_is ledger c.args.self.now c.advance-2.new.self c.hold_quota.new.self c.args.session.now
-      c.args.group c.args.moment (requested_units c) c.quota-quota.result.wanted (granted c)
-      c.window_at-window.result.switch c.window_at-window.result.validity
-      (nat_lt (granted c).units.0 c.quota-quota.result.wanted)
-      c.quota-quota.ensures.account rows c.requires.moment c.requires.live c.requires.free
-      (quota_told c) (some_units c) (switch c) (validity c) refl (brought c) c.hold_quota.ensures;
-  left =
-      λ ledger left h.
-      grant_beside ledger left c.args.self.now c.advance-2.new.self c.hold_quota.new.self
-      c.args.session.now c.args.group c.args.moment (requested_units c)
-      c.quota-quota.result.wanted (granted c)
-      c.window_at-window.result.switch c.window_at-window.result.validity
-      (nat_lt (granted c).units.0 c.quota-quota.result.wanted)
-      h c.requires.moment c.requires.live c.requires.free (quota_told c) (some_units c) (switch c)
-      (validity c) refl (brought c) c.hold_quota.ensures;
-  by_rows =
+  granted =
       grant_in_is c.args.self.now c.advance-2.new.self c.hold_quota.new.self c.args.session.now
       c.args.group c.args.moment (requested_units c) c.quota-quota.result.wanted (granted c)
       c.window_at-window.result.switch c.window_at-window.result.validity
       (nat_lt (granted c).units.0 c.quota-quota.result.wanted)
       (quota_told c) (some_units c) (switch c) (validity c) refl (brought c) c.hold_quota.ensures;
-  as_of = ap (λ (x : AccountRows). x.as_of) (after c);
-  tariff = ap (λ (x : AccountRows). x.shelf) (after c);
-  sessions =
-      ap (λ (x : AccountRows). x.sessions)
-      (c.hold_quota.ensures
-      ∙ ap (reserved_account c.args.session.now c.args.group (held_due c.quota-quota.result.grant))
-      (c.advance-2.ensures.rows ∙ ap (advanced c.args.moment) c.in_ok-room.ensures.ok));
-  within =
-      let some : 0 < c.quota-quota.result.grant.units.0 = omega (arith, c.if-quota-eq0.false) in
-      within_grant (book_at c.args.self.now.shelf c.args.moment)
-      (used_in c.args.session.now c.args.group c.args.self.now.groups) c.args.group
-      (option_map (λ (u : Units). u.0) c.args.requested) c.window_at-window.result.periods _ _ _
-      c.quota-quota.result.wanted c.quota-quota.result.grant c.quota-quota.ensures.quota some;
-  others =
-      λ g n h.
-      others_reserved c.args.self.now c.advance-2.new.self c.hold_quota.new.self
-      c.args.session.now g
-      c.args.group c.args.moment (held_due c.quota-quota.result.grant)
-      (c.advance-2.ensures.rows ∙ ap (advanced c.args.moment) c.in_ok-room.ensures.ok)
-      c.hold_quota.ensures n h;
   memory = tt;
   err = tt;
 }
