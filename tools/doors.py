@@ -6,7 +6,7 @@ import sys
 LIB = os.path.join(os.path.dirname(os.path.abspath(__file__)), "lib")
 DOORS = {
     "repo": (
-        ("index", "index", "links, tags, rows of the index, heads of files", ""),
+        ("index", "index", "links, tags, rows of the index, heads of files, paths of lemmas", ""),
         ("words", "words", "man page, completions and examples of FORMATS beside the program", "curl, bash"),
         ("openapi", "openapi", "each route of docs/openapi.yaml, asked for", "Python's yaml and jsonschema"),
         ("statement", "statement", "the definitions that a promise reaches", ""),
