@@ -108,6 +108,8 @@ const DATABASE: &str = "The database's file";
 
 const ACCOUNT: &str = "The account's number, 1 to 15 digits";
 
+const AMOUNT: &str = "1 to 10^15 micro-units: 1.50 is 1500000";
+
 /// A command of this name, with what it is for and an example of it, which its help has.
 fn named_command<'a>(alloc: Global, name: &'a str, about: &'a str, example: &'a str) -> Command<'a>
     ensures app { app_of result ≡ new_app name.entry.now }
@@ -270,7 +272,7 @@ fn credit_operands<'a>(alloc: Global) -> Result<Command<'a>, AllocError>
     let command = named_command(alloc, "credit", about, example);
     let command = with_operand(alloc, command, "DB", DATABASE)?;
     let command = with_operand(alloc, command, "ACCOUNT", ACCOUNT)?;
-    let command = with_operand(alloc, command, "AMOUNT", "1 to 10^15 micro-units")?;
+    let command = with_operand(alloc, command, "AMOUNT", AMOUNT)?;
     let reference = "Names the credit, so that it isn't given twice, 1 to 64 bytes";
     with_operand(alloc, command, "REFERENCE", reference)
 }
