@@ -3,3 +3,4 @@ pub mod Faults
 pub mod Told
 pub mod Runs
 pub mod Replayed
+pub mod Terminal

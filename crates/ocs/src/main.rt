@@ -18,7 +18,7 @@ ghost use Rattle.ocs.specs.Runs.{PrintsSaid, Runs};
 
 use crate::doing::do_said;
 use crate::telling::{tell_fault, tell_start, tell_unread};
-use crate::terminal::tell_opening;
+use crate::terminal::tell_long_work;
 use operations::Status;
 use operator::{ProgramWords, program_words};
 use std::alloc::{AllocError, Global};
@@ -105,7 +105,7 @@ fn run_said<F: Files, I: Read, O: Write, E: Write>(
         (O.contents output.old) (O.contents output.new) result }
     ensures unread { IfOnce said (λ _. ⊥) → input.new ≡ input.old }
 {
-    tell_opening(rt, &said);
+    tell_long_work(rt, &said);
     match do_said(rt, files, said, input, output, errors) {
         Ok(status) => status,
         Err(fault) => tell_fault(errors, fault),
