@@ -4,6 +4,7 @@ from __future__ import annotations
 
 import collections
 import csv
+import dataclasses
 import json
 import pathlib
 import random
@@ -113,6 +114,29 @@ def made() -> Iterator[Stand]:
         yield office
 
 
+@dataclasses.dataclass
+class Past:
+    """An account of shard 02 that lived before each of two carries, as "one" and as "two"."""
+
+    account: str
+    archive: str  # the file of the first carry
+
+
+@pytest.fixture(scope="module", name="past")
+def carried_twice(office: Stand) -> Past:
+    account, archives = of_shard(office, "02")[0], []
+    for name in ("one", "two"):
+        assert all('"Result-Code":2001' in body for _, body in all_of(office, lived(account, name)))
+        archives.append(carried(office, "02"))
+    return Past(account, archives[0])
+
+
+def carried(office: Stand, shard: str) -> str:
+    """The archive of a shard that is carried."""
+    told = office.run(f"office carry {shard}")
+    return next(line for line in told.splitlines() if " archive " in line).split()[2]
+
+
 def of_shard(office: Stand, shard: str) -> list[str]:
     """The accounts of the file that live in a shard."""
     those = map(str, range(FIRST, FIRST + COUNT))
@@ -146,8 +170,8 @@ def all_of(office: Stand, those: list[tuple[str, str, Told]]) -> list[tuple[str,
 
 
 def test_what_was_answered_before_a_carry_is_answered_so_again(office: Stand) -> None:
-    own = of_shard(office, "02")[:2]
-    asked = [each for account in own for each in lived(account, "one")]
+    own = of_shard(office, "02")[1:3]
+    asked = [each for account in own for each in lived(account, "before")]
     code = {"Subscription-Id-Data": own[0], "Reference": "shop-1"}
     asked.append(("POST", "/vouchers/000000000001/redeem", code))
     first = all_of(office, asked)
@@ -158,7 +182,7 @@ def test_what_was_answered_before_a_carry_is_answered_so_again(office: Stand) ->
     assert [office.ask("GET", f"/accounts/{one}")["Buckets"] for one in own] == had
     assert office.table("02", "SELECT count(*) FROM charges") == ["0"]
     # Once more: an archive of before and one of since, each with answers of its own.
-    later = [each for account in own for each in lived(account, "two")]
+    later = [each for account in own for each in lived(account, "since")]
     since = all_of(office, later)
     assert all('"Result-Code":2001' in body for _, body in since)
     office.run("office carry 02")
@@ -168,12 +192,13 @@ def test_what_was_answered_before_a_carry_is_answered_so_again(office: Stand) ->
     office.run("office audit")
 
 
-def test_the_rest_is_as_the_old_database_says(office: Stand, tmp_path: pathlib.Path) -> None:
+def test_the_rest_is_as_the_old_database_says(
+    office: Stand, past: Past, tmp_path: pathlib.Path
+) -> None:
     """What has a key that was used, and isn't the same: the program says it over the whole archive."""
-    one = of_shard(office, "02")[0]
-    path = office.run("ls /var/lib/ocs/archive/02-*.db").split()[0]
-    old = tmp_path / "old.db"
-    old.write_bytes(pathlib.Path(f"/proc/{office.machine.first()}/root{path}").read_bytes())
+    one, old = past.account, tmp_path / "old.db"
+    root = pathlib.Path(f"/proc/{office.machine.first()}/root")
+    old.write_bytes((root / past.archive[1:]).read_bytes())
     changed = [
         request(one, "one-event", 4, 0, 10, 61),
         request(one, "one-event", 4, 5, 10, 60),
@@ -217,8 +242,8 @@ def test_the_rest_is_as_the_old_database_says(office: Stand, tmp_path: pathlib.P
     assert [head for head, _ in refused].count("HTTP/1.1 400 Bad Request") == 2
 
 
-def test_what_is_new_is_never_answered_by_an_archive(office: Stand) -> None:
-    one, other = of_shard(office, "02")[0], of_shard(office, "02")[4]
+def test_what_is_new_is_never_answered_by_an_archive(office: Stand, past: Past) -> None:
+    one, other = past.account, of_shard(office, "02")[4]
     had = office.available(other)
     told = office.asked("POST", "/ccr", request(other, "one-event", 4, 0, 10, 60))
     assert '"Result-Code":2001' in told and "office-archive" not in told
@@ -230,8 +255,8 @@ def test_what_is_new_is_never_answered_by_an_archive(office: Stand) -> None:
     assert office.ask("PUT", f"/accounts/{one}") == {"Refusal": "O1"}
 
 
-def test_a_name_in_disguise_is_found(office: Stand) -> None:
-    one = of_shard(office, "02")[0]
+def test_a_name_in_disguise_is_found(office: Stand, past: Past) -> None:
+    one = past.account
     body = json.dumps(request(one, "one-event", 4, 0, 10, 60))
     first, had = asked_as_it_is(office, body), office.available(one)
     twice = body.replace('"Session-Id"', '"Session-Id": "another", "Session-Id"', 1)
@@ -253,8 +278,10 @@ def asked_as_it_is(office: Stand, body: str) -> str:
     )
 
 
-def test_without_its_service_a_repeat_is_refused_and_the_new_goes_on(office: Stand) -> None:
-    one = of_shard(office, "02")[0]
+def test_without_its_service_a_repeat_is_refused_and_the_new_goes_on(
+    office: Stand, past: Past
+) -> None:
+    one = past.account
     repeat = ("POST", "/ccr", request(one, "one-event", 4, 0, 10, 60))
     first = all_of(office, [repeat])
     office.run("systemctl stop office-archive.socket office-archive.service")
@@ -279,12 +306,13 @@ def test_without_its_service_a_repeat_is_refused_and_the_new_goes_on(office: Sta
     wait_until(lambda: all_of(office, [repeat]) == first, "the doors")
 
 
-def test_statements_and_exports_have_what_archives_have(office: Stand) -> None:
-    one, month = of_shard(office, "02")[0], office.run("date -u +%Y%m").strip()
+def test_statements_and_exports_have_what_archives_have(office: Stand, past: Past) -> None:
+    one, month = past.account, office.run("date -u +%Y%m").strip()
+    assert office.debit(one, "behind-both")["Result-Code"] == 2001
     export = office.run(f"office statement {one} {month} --csv").splitlines()
     sessions = [line.split(",")[1] for line in export[1:]]
     assert sessions.count("one-event") == sessions.count("two-event") == 1
-    assert sessions.index("one-event") < sessions.index("two-event") < sessions.index("while-away")
+    assert sessions.index("one-event") < sessions.index("two-event") < sessions.index("behind-both")
     assert not any(each.startswith("carry-") for each in sessions)
     text = office.run(f"office statement {one} {month}").splitlines()
     by_http = office.asked("GET", f"/accounts/{one}/statement/{month}").partition("\n\n")[2]
