@@ -2,7 +2,9 @@
 database of the version before, purged; data stays."""
 from __future__ import annotations
 
+import os
 import pathlib
+import re
 import shutil
 import subprocess
 
@@ -14,7 +16,10 @@ from support import ports
 
 pytestmark = pytest.mark.slow
 DATABASE = "/var/lib/ocs/01.db"
-VERSIONS = ("0.1.0-1", "0.1.1-1")
+CHANGES = (DEPLOY / "debian/changelog").read_text(encoding="utf-8")
+# The version before and the newest; the program is the same in both.
+OLD, NEW = re.findall(r"^ocs-server \((.*)\) ", CHANGES, re.MULTILINE)[1::-1]
+PROGRAM = NEW.partition("-")[0]
 BACK = "DROP TABLE covered; DROP TABLE allowance_buckets; UPDATE meta SET version = 2"
 
 
@@ -32,11 +37,10 @@ def run(*words: object, status: int = 0) -> str:
     return told.stdout
 
 
-def built(folder: pathlib.Path, version: str) -> None:
+def built(folder: pathlib.Path, *version: str) -> None:
     """Makes the packages of a version, of which lintian says nothing."""
-    told = subprocess.run(
-        [DEPLOY / "debian/package", folder, version], capture_output=True, text=True, check=False
-    )
+    words = [str(DEPLOY / "debian/package"), str(folder), *version]
+    told = subprocess.run(words, capture_output=True, text=True, check=False)
     assert (told.returncode, told.stdout) == (0, "lintian: nothing\n"), told.stderr
 
 
@@ -44,8 +48,9 @@ def built(folder: pathlib.Path, version: str) -> None:
 def packages_of_both(tmp_path_factory: pytest.TempPathFactory) -> pathlib.Path:
     """A folder with the packages of two versions, `VERSION.deb` and `bridge-VERSION.deb`."""
     folder = tmp_path_factory.mktemp("packages")
-    for version in VERSIONS:
-        built(folder / version, version)
+    built(folder / OLD, OLD)
+    built(folder / NEW)
+    for version in (OLD, NEW):
         made = folder / version
         shutil.copy(made / f"ocs-server_{version}_amd64.deb", folder / f"{version}.deb")
         shutil.copy(made / f"ocs-diameter_{version}_all.deb", folder / f"bridge-{version}.deb")
@@ -58,7 +63,8 @@ class Fresh:
     def __init__(self, folder: pathlib.Path, packages: pathlib.Path) -> None:
         self.root = folder / "root"
         more = "adduser,haproxy,openssl,python3,python3-prometheus-client,sqlite3,systemd,"
-        more += "curl,erlang-base,erlang-diameter,erlang-inets,erlang-jiffy,erlang-ssl"
+        more += "curl,erlang-base,erlang-diameter,erlang-inets,erlang-jiffy,erlang-ssl,"
+        more += "bash-completion,fish,zsh"
         run("debootstrap", "--variant=minbase", f"--include={more}", "bookworm", self.root)
         for package in packages.glob("*.deb"):
             shutil.copy(package, self.root)
@@ -69,8 +75,9 @@ class Fresh:
         return run(*self.words(line), status=status)
 
     def words(self, line: str) -> list[str]:
-        """Words that run a line in there, with the processes of this machine to be seen."""
-        enter = 'mount -t proc proc "$0/proc" && exec chroot "$0" sh -c "$1"'
+        """Words that run a line in there, with the processes of this machine and terminals."""
+        enter = 'mount -t proc proc "$0/proc" && mount -t devpts devpts "$0/dev/pts" && '
+        enter += 'exec chroot "$0" sh -c "$1"'
         return ["unshare", "--mount", "sh", "-c", enter, str(self.root), line]
 
 
@@ -80,7 +87,7 @@ def made(tmp_path_factory: pytest.TempPathFactory, packages: pathlib.Path) -> Fr
 
 
 def test_it_is_installed_upgraded_and_purged(fresh: Fresh) -> None:
-    fresh.run("dpkg --install /0.1.0-1.deb")
+    fresh.run(f"dpkg --install /{OLD}.deb")
     assert fresh.run("stat -c '%U %a' /var/lib/ocs").split() == ["ocs", "750"]
     as_ocs = "setpriv --reuid ocs --regid ocs --clear-groups"
     fresh.run(f"{as_ocs} ocs-server init {DATABASE} /examples/book.toml")
@@ -93,15 +100,19 @@ def test_it_is_installed_upgraded_and_purged(fresh: Fresh) -> None:
     assert "/usr/bin/office agent" in fresh.run("cat /lib/systemd/system/office-agent.service")
     assert "/usr/bin/office archive" in fresh.run("cat /lib/systemd/system/office-archive.service")
     assert "/usr/bin/office backups" in fresh.run("cat /lib/systemd/system/office-backups.service")
-    # The version before: its database is told by its version, and migrated by the operator.
-    fresh.run(f'{as_ocs} sqlite3 {DATABASE} "{BACK}"')
     fresh.run(
         "printf '[office]\\nshards = 1\\nprogram = \"/usr/bin/ocs-server\"\\n' > "
         "/etc/ocs/office.toml"
     )
-    fresh.run("dpkg --install --force-confold /0.1.1-1.deb")
-    assert "shards = 1" in fresh.run("cat /etc/ocs/office.toml")
     statement = f"{as_ocs} ocs-server statement {DATABASE} 49151 $(date +%Y%m)"
+    before = fresh.run(statement).splitlines()[1:]
+    fresh.run(f"dpkg --install --force-confold /{NEW}.deb")
+    assert "shards = 1" in fresh.run("cat /etc/ocs/office.toml")
+    assert fresh.run("ocs-server --version").startswith(f"ocs {PROGRAM}, ")
+    # Where its tables are the same it goes on; where they are of a version before, the program says so, and
+    # the operator migrates them.
+    assert fresh.run(statement).splitlines()[1:] == before
+    fresh.run(f'{as_ocs} sqlite3 {DATABASE} "{BACK}"')
     assert "open fault 6" in fresh.run(statement, 1)
     assert fresh.run(f"{as_ocs} ocs-server migrate {DATABASE}") == "version 3\n"
     assert "COLLECTED TO DATE 0" in fresh.run(statement)
@@ -112,20 +123,79 @@ def test_it_is_installed_upgraded_and_purged(fresh: Fresh) -> None:
     assert left == ""
 
 
+def test_what_is_printed_and_written_has_the_version(fresh: Fresh) -> None:
+    fresh.run(f"dpkg --install /{NEW}.deb")
+    for page in ("office", "ocs-server"):
+        head = fresh.run(f"zgrep -m 1 '^.TH' /usr/share/man/man1/{page}.1.gz")
+        assert PROGRAM in head, head
+    lines = (DEPLOY / "MONTH.md").read_text(encoding="utf-8").splitlines()
+    named = [re.findall(r"_(.*)_", line)[0] for line in lines if re.match("apt-get.*deb$", line)]
+    assert named == [NEW, NEW]
+    links = fresh.run("ls /usr/share/doc/ocs-server /usr/share/doc/ocs-server/examples")
+    pages = {page.partition("#")[0] for page in re.findall(r"\]\(([A-Z]+\.md\b)", "".join(lines))}
+    assert pages and all(page in links for page in (*pages, "ocs.yml", "prometheus.yml"))
+
+
+def test_a_package_of_another_version_than_its_program_is_not_built(tmp_path: pathlib.Path) -> None:
+    other = tmp_path / "ocs"
+    other.write_text('#!/bin/sh\necho "ocs 9.9.9, tables 3, no kit"\n', encoding="utf-8")
+    other.chmod(0o755)
+    told = subprocess.run(
+        [DEPLOY / "debian/package", tmp_path / "made"],
+        capture_output=True,
+        text=True,
+        check=False,
+        env=os.environ | {"OCS": str(other)},
+    )
+    said = f"package: debian/changelog says {NEW}, and the program is ocs 9.9.9, tables 3, no kit\n"
+    assert (told.returncode, told.stderr) == (1, said) and not (tmp_path / "made").exists()
+
+
+# What each shell makes of `ocs-server mi` and a tab, where the package is installed; zsh in a terminal of
+# its own.
+BASH = """
+. /usr/share/bash-completion/bash_completion
+_completion_loader ocs-server
+COMP_WORDS=(ocs-server mi) COMP_CWORD=1
+$(complete -p ocs-server | sed 's/.*-F \\([^ ]*\\).*/\\1/')
+printf '%s\n' "${COMPREPLY[@]}"
+"""
+ZSH = """
+zmodload zsh/zpty && zpty z zsh -f -i
+until_seen() {
+    until [[ $seen == *$1* ]]; do zpty -r -t z line && seen+=$line || sleep 0.1; done
+}
+zpty -w z 'autoload -Uz compinit && compinit -u -D && print re""ady $_comps[ocs-server]'
+until_seen 'ready _ocs-server'
+zpty -w -n z $'ocs-server mi\\t'
+until_seen grate && print migrate
+"""
+FISH = "complete -C 'ocs-server mi'"
+SHELLS = {"bash": BASH, "zsh": ZSH, "fish": FISH}
+
+
+@pytest.mark.parametrize("shell", SHELLS)
+def test_a_shell_completes_the_installed_name(fresh: Fresh, shell: str) -> None:
+    fresh.run(f"dpkg --install /{NEW}.deb")
+    (fresh.root / "script").write_text(SHELLS[shell], encoding="utf-8")
+    told = fresh.run(f"HOME=/tmp TERM=dumb timeout 60 {shell} /script < /dev/null")
+    assert told.startswith("migrate")
+
+
 def test_it_does_not_take_the_place_of_cscope(fresh: Fresh) -> None:
-    listed = fresh.run("dpkg --contents /0.1.1-1.deb")
+    listed = fresh.run(f"dpkg --contents /{NEW}.deb")
     assert "./usr/bin/ocs\n" not in listed and "man1/ocs.1" not in listed
 
 
 def test_the_bridge_is_installed_upgraded_and_purged(fresh: Fresh) -> None:
-    fresh.run("dpkg --install /0.1.0-1.deb /bridge-0.1.0-1.deb")
+    fresh.run(f"dpkg --install /{OLD}.deb /bridge-{OLD}.deb")
     own = "/etc/ocs/diameter.config"
     assert fresh.run(f"ocs-diameter --check {own}") == f"ocs-diameter: {own} is read\n"
     unit = fresh.run("cat /lib/systemd/system/ocs-diameter.service")
     assert f"/usr/lib/ocs-diameter/ocs-diameter {own}" in unit
     assert "/usr/bin/office credited" in fresh.run("cat /lib/systemd/system/ocs-credited.service")
     fresh.run(f"sed -i 's/ocs.example/ocs1.example/' {own}")
-    fresh.run("dpkg --install --force-confold /0.1.1-1.deb /bridge-0.1.1-1.deb")
+    fresh.run(f"dpkg --install --force-confold /{NEW}.deb /bridge-{NEW}.deb")
     assert 'origin_host => "ocs1.example"' in fresh.run(f"cat {own}")
     assert listens(fresh, own)
     fresh.run("dpkg --purge ocs-diameter ocs-server")
@@ -148,10 +218,10 @@ def listens(fresh: Fresh, own: str) -> bool:
 
 # Four shards of the package, and the doors before them. The machine has no clock that is synchronised, and
 # a rule by which no package starts or stops a unit.
-SERVED = """
+SERVED = f"""
 set -e
 rm -f /usr/sbin/policy-rc.d /usr/local/bin/ocs
-dpkg --install /tmp/0.1.0-1.deb
+dpkg --install /tmp/{OLD}.deb
 sed -i 's/^.office.$/[office]\\nsynchronised = false/' /etc/ocs/office.toml
 install -d /run/haproxy
 for s in 01 02 03 04; do
@@ -192,14 +262,14 @@ class Packaged(Stand):
 def test_shards_are_served_upgraded_and_stopped_by_systemd(packages: pathlib.Path) -> None:
     with machine() as copy:
         office = Packaged(copy)
-        for version in VERSIONS:
+        for version in (OLD, NEW):
             brought(copy, packages / f"{version}.deb")
         told = office.run(SERVED)
         assert all(f"{shard} answers" in told for shard in SHARDS)
         office.open("49151", 1_000_000)
         assert office.debit("49151", "before")["Result-Code"] == 2001
         left, before = office.available("49151"), office.processes()
-        office.run("dpkg --install --force-confold /tmp/0.1.1-1.deb")
+        office.run(f"dpkg --install --force-confold /tmp/{NEW}.deb")
         # What is served goes on, by the processes of before.
         assert office.processes() == before and "0" not in before
         assert office.available("49151") == left
