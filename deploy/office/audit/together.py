@@ -135,6 +135,8 @@ KEPT = {
     "buckets": "account, number, starts, ends, scope, credited",
     "accounts": "account",
     "books": "number, starts, content",
+    "meta": "book",
+    "vouchers": "code, amount, days, scope",
 }
 BARS = """
     SELECT a.account, a.barred FROM main.accounts a JOIN earlier.accounts e USING (account)

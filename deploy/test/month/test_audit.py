@@ -92,6 +92,21 @@ CHANGES = {
 BESIDE = {
     "a bar lifted": "UPDATE accounts SET barred = 1 - barred WHERE " + ONE.format("accounts"),
     "a later book gone that priced nothing yet": "DELETE FROM books WHERE number = 3",
+    "another text of the first book that prices the same": "UPDATE meta SET book = book || char(10)",
+    "a voucher worth more that nobody redeemed yet": "UPDATE vouchers SET amount = amount + 1 "
+    "WHERE " + ONE.format("vouchers WHERE account IS NULL"),
+    "a voucher gone that nobody redeemed yet": "DELETE FROM vouchers WHERE "
+    + ONE.format("vouchers WHERE account IS NULL"),
+}
+# What isn't to be found: it says nothing of money that anybody had. AUDIT.md says where else to look.
+UNSEEN = {
+    "a voucher that nobody imported": "INSERT INTO vouchers VALUES "
+    "('999999999999', 1000000000, 30, NULL, NULL)",
+    "an account that nobody opened": "INSERT INTO accounts SELECT "
+    "'999999999999998', 0, last_moment, 1, 1 FROM meta",
+    "the last moment put ahead": "UPDATE meta SET last_moment = last_moment + 60",
+    "the moment to which an account is, put back": "UPDATE accounts SET as_of = as_of - 1 WHERE "
+    + ONE.format("accounts"),
 }
 SEEDS = [0, *(pytest.param(seed, marks=pytest.mark.slow) for seed in range(1, 10))]
 
@@ -151,6 +166,15 @@ def test_some_rows_show_beside_an_earlier_copy_alone(
     assert found(copy) == []
     with opened(copy) as database:
         assert len(list(together.since("01", database, earlier))) == 1
+
+
+@pytest.mark.parametrize("what", UNSEEN)
+def test_some_rows_are_not_to_be_found(tmp_path: pathlib.Path, played: World, what: str) -> None:
+    copy = tmp_path / "01.db"
+    assert changed(played.path, copy, UNSEEN[what]) == 1
+    assert found(copy) == []
+    with opened(copy) as database:
+        assert list(together.since("01", database, played.path)) == []
 
 
 @pytest.fixture(scope="module", name="office")

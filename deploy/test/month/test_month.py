@@ -5,6 +5,7 @@ statement and export in the end. Then rows are changed by hand.
 MONTH_SUBSCRIBERS says how many subscribers there are."""
 from __future__ import annotations
 
+import collections
 import csv
 import pathlib
 import time
@@ -15,7 +16,7 @@ import pytest
 from month import tasks
 from month.played import SUBSCRIBERS, Month, played
 from month.tasks import MONTH
-from month.test_audit import BESIDE, CHANGES, changed, found
+from month.test_audit import BESIDE, CHANGES, UNSEEN, changed, found
 from office.audit import together
 from office.tables import opened
 
@@ -111,19 +112,32 @@ def sums_are_right(month: Month) -> None:
 
 def test_rows_that_another_hand_changed(month: Month, tmp_path: pathlib.Path) -> None:
     month.office.run("office backup 04 /tmp/04.db")
-    source, seen = month.fetched("/tmp/04.db"), 0
+    source, seen = month.fetched("/tmp/04.db"), collections.Counter[str]()
     assert found(source) == []
-    for number, (what, change) in enumerate(CHANGES.items()):
-        copy = tmp_path / f"{number}.db"
-        rows = changed(source, copy, change)
-        assert rows == 0 or found(copy) != [], what
-        seen += rows > 0
-        print(f"{what}: {'found' if rows else 'no such row'}", flush=True)
-    assert seen >= 20
-    for number, (what, change) in enumerate(BESIDE.items()):
-        copy = tmp_path / f"beside-{number}.db"
-        assert changed(source, copy, change) > 0
-        with opened(copy) as database:
-            assert list(together.since("04", database, source)) != [], what
-        alone = "found" if found(copy) else "not to be found in one copy, found"
-        print(f"{what}: {alone} beside an earlier one", flush=True)
+    for what, change in (CHANGES | BESIDE | UNSEEN).items():
+        copy = tmp_path / "04.db"
+        copy.unlink(missing_ok=True)
+        told = where_found(copy, source) if changed(source, copy, change) else NO_ROW
+        assert told in EXPECTED[what], what
+        seen[told] += 1
+        print(f"{what}: {told}", flush=True)
+    print(f"rows changed by hand: {dict(seen)}", flush=True)
+    assert seen[ALONE] >= 20
+
+
+ALONE, EARLIER = "found in one copy", "found beside an earlier copy"
+NOWHERE, NO_ROW = "not to be found", "no such row"
+# What may come of each change. What shows beside an earlier copy may show in this office's alone too.
+EXPECTED: dict[str, tuple[str, ...]] = {
+    **dict.fromkeys(CHANGES, (ALONE, NO_ROW)),
+    **dict.fromkeys(BESIDE, (ALONE, EARLIER)),
+    **{what: (NOWHERE,) for what in UNSEEN},
+}
+
+
+def where_found(copy: pathlib.Path, source: pathlib.Path) -> str:
+    """Where a changed row shows."""
+    if found(copy):
+        return ALONE
+    with opened(copy) as database:
+        return EARLIER if list(together.since("04", database, source)) else NOWHERE
