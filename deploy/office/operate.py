@@ -76,9 +76,8 @@ def on_shard(settings: Settings, shard: Shard, word: str, those: list[str]) -> i
     failed = 0
     with alone(settings, shard):
         is_now(shard, last_moment(shard))
-        by = os.environ.get("SUDO_USER") or getpass.getuser()
         for account in shown(f"{word} {shard}", those):
-            told = carried_out(settings, shard, word, account, by)
+            told = carried_out(settings, shard, word, account, user())
             print(f"{shard} {account} {told}", flush=True)
             failed |= told != DONE
     return failed
@@ -88,8 +87,13 @@ def carried_out(settings: Settings, shard: Shard, word: str, account: str, by: s
     """What the program says to a word for an account of a shard that is stopped."""
     ended = program.run(settings, word, shard.database, account)
     told = (ended.stdout + ended.stderr).strip()
-    record(word, shard, account, told, by)
+    record(f"{word} {account}", shard, told, by)
     return told
+
+
+def user() -> str:
+    """Who runs this word."""
+    return os.environ.get("SUDO_USER") or getpass.getuser()
 
 
 def accounts(arguments: argparse.Namespace) -> list[str]:
@@ -146,7 +150,8 @@ def is_now(shard: Shard, moment: int) -> None:
         )
 
 
-def record(word: str, shard: Shard, account: str, told: str, by: str) -> None:
-    """A line in the journal: the tables keep nothing of who barred whom, and when."""
+def record(done: str, shard: Shard, told: str, by: str) -> None:
+    """A line in the journal: the tables keep nothing of who barred whom, imported a file or added a
+    book, and when."""
     syslog.openlog("office", facility=syslog.LOG_AUTH)
-    syslog.syslog(syslog.LOG_NOTICE, f"{word} {account} in shard {shard} by {by}: {told}")
+    syslog.syslog(syslog.LOG_NOTICE, f"{done} in shard {shard} by {by}: {told}")

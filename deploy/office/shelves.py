@@ -107,5 +107,7 @@ def added(settings: Settings, shard: Shard, book: Later) -> int:
     with alone(settings, shard):
         operate.is_now(shard, operate.last_moment(shard))
         told = "" if has(shard.database, book) else judged(settings, shard.database, book)
+        done = f"book {book.file.resolve()} {book.shown()}"
+        operate.record(done, shard, told or "has the book", operate.user())
     print(f"{shard} {told or 'has the book'}", flush=True)
     return 1 if told else 0

@@ -10,7 +10,7 @@ give it to those that are left. A book can't be taken back: `office trial` shows
 Groups that the bridges from Diameter don't know yet are named: `office diameter` and a reload have
 them known.
 
-Prints a line a shard."""
+Prints a line a shard. The journal keeps who added which file."""
 from __future__ import annotations
 
 import argparse

@@ -9,7 +9,7 @@ redeem`). Refused as a whole, before a shard is stopped, where another shard has
 where an archive has one as spent: each could then be spent twice. The same file again adds nothing.
 
 Prints the shard and the program's counts: new, present (there before with the same terms),
-conflicting (there with other terms, and left so: status 1)."""
+conflicting (there with other terms, and left so: status 1). The journal keeps who added which file."""
 from __future__ import annotations
 
 import argparse
@@ -51,6 +51,8 @@ def added(settings: Settings, shard: Shard, file: pathlib.Path) -> int:
     with program.readable(file) as readable, alone(settings, shard):
         operate.is_now(shard, operate.last_moment(shard))
         ended = program.run(settings, "import", shard.database, readable)
+        told = (ended.stdout + ended.stderr).strip()
+        operate.record(f"import {file.resolve()}", shard, told, operate.user())
     sys.stderr.write(ended.stderr)
     if ended.stdout:
         print(f"{shard} {ended.stdout.strip()}")

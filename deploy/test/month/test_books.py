@@ -84,6 +84,8 @@ def test_a_book_is_added_everywhere(office: Stand) -> None:
     told = office.machine.run(words)
     wanted = "".join(f"{at:02} has the book\n" for at in range(1, 5))
     assert told.stdout == wanted and told.stderr.count("requests waited") == 4
+    line = "(1801440000) in shard 04 by root: has the book"
+    wait_until(lambda: line in office.run("journalctl --no-pager -t office", None), "the journal")
     again = office.machine.run(words)
     assert again.stdout == wanted and "waited" not in again.stderr
 

@@ -5,6 +5,7 @@ from collections.abc import Iterator
 
 import pytest
 
+from month.machine import wait_until
 from month.stand import Stand, stand
 
 HEADER = "code,amount,days,scope\n"
@@ -24,6 +25,8 @@ def test_a_file_goes_where_the_fewest_are(office: Stand) -> None:
     told = office.machine.run("office import a.csv")
     assert told.stdout == "01 new 3 present 0 conflicting 0\n"
     assert "01: requests waited" in told.stderr
+    line = "import /srv/ocs/a.csv in shard 01 by root: new 3 present 0 conflicting 0"
+    wait_until(lambda: line in office.run("journalctl --no-pager -t office", None), "the journal")
     assert office.machine.run("office import --dry-run b.csv").stdout == "02 would get 3 codes\n"
 
 
