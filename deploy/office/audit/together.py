@@ -11,12 +11,14 @@ import time
 from collections.abc import Iterator, Sequence
 
 from office import books
+from office.archive.past import NAME
 from office.audit.findings import Finding
 from office.restoring import CLEARED, CREDITED
 from office.shards import Homes
 from office.tables import Database, opened
 
 Named = dict[str, Database]
+ACCOUNTS = "SELECT account FROM accounts"
 
 
 class Living:
@@ -53,17 +55,32 @@ def findings(living: Living) -> Iterator[Finding]:
 
 
 def homeless(living: Living) -> Iterator[Finding]:
-    """Accounts that aren't in the shard where they are asked for."""
-    places = collections.defaultdict[str, set[str]](set)
+    """Accounts that aren't in the shard where they are asked for, or in another one too that they
+    didn't leave."""
+    places, left = collections.defaultdict[str, set[str]](set), moved_from(living.archives)
     for shard, database in living.databases.items():
-        for row in database.rows("SELECT account FROM accounts"):
+        for row in database.rows(ACCOUNTS):
             places[row["account"]].add(shard)
     for account, shards in sorted(places.items()):
-        if not any(living.is_at(account, shard) for shard in shards):
-            home = living.homes.home(account)
-            if str(home) in living.databases:
-                what = f"is asked for in {home}, where it isn't"
-                yield Finding("+".join(sorted(shards)), "accounts", account, what)
+        home = str(living.homes.home(account))
+        if home not in shards and home in living.databases:
+            what = f"is asked for in {home}, where it isn't"
+            yield Finding("+".join(sorted(shards)), "accounts", account, what)
+        for shard in sorted(shards - {home}) if home in shards else ():
+            if account not in left[shard]:
+                what = f"lives in {home}, and no archive says that it moved there"
+                yield Finding(shard, "accounts", account, what)
+
+
+def moved_from(archives: Sequence[pathlib.Path]) -> dict[str, set[str]]:
+    """The accounts that moved from each shard, by the archives of their moves."""
+    found = collections.defaultdict[str, set[str]](set)
+    for path in archives:
+        told = NAME.fullmatch(path.stem)
+        if told and told[3]:
+            with opened(path) as database:
+                found[told[1]] |= {row["account"] for row in database.rows(ACCOUNTS)}
+    return found
 
 
 def codes(living: Living) -> Iterator[Finding]:

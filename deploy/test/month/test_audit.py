@@ -231,8 +231,12 @@ def test_what_no_shard_sees_alone_is_found(office: Stand) -> None:
         f'sqlite3 /tmp/night/{other}.db "INSERT INTO accounts VALUES '
         "('49200', 0, 1, 1, 1); INSERT INTO vouchers VALUES ('000000000005', 1, 1, NULL, NULL)\""
     )
+    twice = next(str(at) for at in range(49_201, 49_216) if office.home(str(at)) == home)
+    row = f"INSERT INTO accounts VALUES ('{twice}', 0, 1, 1, 1)"
+    office.run(f'sqlite3 /tmp/night/{other}.db "{row}"')
     told = office.machine.run(audit, 1).stdout
     assert f"{other} accounts 49200: is asked for in {home}, where it isn't" in told
+    assert f"{other} accounts {twice}: lives in {home}, and no archive says that it moved" in told
     assert "vouchers 000000000005: in more than one shard" in told
     assert "vouchers 000000000001: cleared for 49200, credited to None" in told or home == "02"
     beside = office.machine.run(f"office audit --before /tmp/night /tmp/night/{home}.db", 1)
