@@ -196,3 +196,24 @@ def test_the_doors_go_by_the_file_after_a_restart(office: Stand) -> None:
     moved = dict(row.split() for row in office.run("cat /etc/ocs/moved").splitlines())
     assert sorted(moved) == sorted(own) and set(moved.values()) == {"05"}
     assert json.dumps(office.debit(own[0], "after")).count("2001") == 2
+
+
+@pytest.mark.slow
+def test_a_shard_is_carried_without_a_pause(office: Stand) -> None:
+    """Its accounts move to another shard and, once it is carried, back; only those that move wait."""
+    everyone = list(map(str, range(FIRST, FIRST + COUNT)))
+    before = {account: office.available(account) for account in everyone}
+    own = of_shard(office, "03")
+    office.machine.write("/tmp/own", "".join(f"{account}\n" for account in own))
+    asks = office.asks(FIRST, COUNT, 6, "no-pause")
+    there = f"moved {len(own)} stay 0\n"
+    assert own and office.run("office move --from 03 --to 05 --all --batch 4").endswith(there)
+    office.run("office carry 03")
+    back = office.run("office move --from 05 --to 03 --list /tmp/own --batch 4")
+    assert back.endswith(there), back
+    assert int(asks.communicate(timeout=600)[0].split()[0]) == 6 * COUNT
+    assert of_shard(office, "03") == own
+    assert {account: office.available(account) for account in everyone} == {
+        account: amount - 6 * PRICE for account, amount in before.items()
+    }
+    office.run("office audit")
