@@ -84,3 +84,12 @@ def test_a_load_goes_on_over_a_shard_that_is_stopped(office: Stand) -> None:
     office.run("systemctl restart ocs@01 ocs@02 ocs@03 ocs@04")
     told = word.communicate(timeout=600)[0]
     assert told == f"opened {COUNT} there 0 credited {COUNT} refused 0\n"
+
+
+def test_a_terminal_sees_how_much_is_done(office: Stand) -> None:
+    office.machine.write("/tmp/bar.csv", lines(950_000))
+    word = office.machine.started("script -qec 'office load /tmp/bar.csv' /dev/null")
+    office.run("systemctl stop ocs@01; sleep 1.5; systemctl start ocs@01")
+    told = word.communicate(timeout=600)[0]
+    assert f"load         [{'#' * 32}] {COUNT}/{COUNT}\n" in told
+    assert told.endswith(f"opened {COUNT} there 0 credited {COUNT} refused 0\n")
