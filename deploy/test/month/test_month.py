@@ -23,6 +23,7 @@ from office.tables import opened
 pytestmark = pytest.mark.slow
 DAYS = 31
 Task = Callable[[Month], None]
+Recorded = Callable[[str, object], None]
 
 
 def nothing(_: Month) -> None:
@@ -75,7 +76,7 @@ def made() -> Iterator[Month]:
         yield month
 
 
-def test_a_month(month: Month) -> None:
+def test_a_month(month: Month, record_property: Recorded) -> None:
     begun = time.monotonic()
     tasks.first_day(month)
     for day in range(1, DAYS + 1):
@@ -93,7 +94,8 @@ def test_a_month(month: Month) -> None:
     told = month.word("office audit --sums /tmp/sums")
     assert told == "findings 0 in 5 databases\n"
     sums_are_right(month)
-    print(f"{SUBSCRIBERS} subscribers: {month.counts}, again {month.doors.again}", flush=True)
+    record_property(f"{SUBSCRIBERS} subscribers", f"{month.counts}, again {month.doors.again}")
+    record_property("seconds", month.times())
 
 
 def sums_are_right(month: Month) -> None:
@@ -110,7 +112,9 @@ def sums_are_right(month: Month) -> None:
         assert sum(int(row["charges"]) for row in own) == len(uses)
 
 
-def test_rows_that_another_hand_changed(month: Month, tmp_path: pathlib.Path) -> None:
+def test_rows_that_another_hand_changed(
+    month: Month, tmp_path: pathlib.Path, record_property: Recorded
+) -> None:
     month.office.run("office backup 04 /tmp/04.db")
     source, seen = month.fetched("/tmp/04.db"), collections.Counter[str]()
     assert found(source) == []
@@ -121,7 +125,7 @@ def test_rows_that_another_hand_changed(month: Month, tmp_path: pathlib.Path) ->
         assert told in EXPECTED[what], what
         seen[told] += 1
         print(f"{what}: {told}", flush=True)
-    print(f"rows changed by hand: {dict(seen)}", flush=True)
+    record_property("rows changed by hand", str(dict(seen)))
     assert seen[ALONE] >= 20
 
 
