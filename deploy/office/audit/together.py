@@ -5,13 +5,14 @@ lives where a request for it goes."""
 from __future__ import annotations
 
 import collections
+import contextlib
 import json
 import pathlib
 import time
 from collections.abc import Iterator, Sequence
 
 from office import books
-from office.archive.past import NAME
+from office.archive.past import NAME, moment_of
 from office.audit.findings import Finding
 from office.restoring import CLEARED, CREDITED
 from office.shards import Homes
@@ -160,19 +161,51 @@ BARS = """
     WHERE a.barred <> e.barred"""
 
 
-def since(shard: str, database: Database, earlier: pathlib.Path) -> Iterator[Finding]:
-    """What an earlier copy has and this one hasn't, and bars that changed."""
+def since(
+    shard: str, database: Database, earlier: pathlib.Path, archives: Sequence[pathlib.Path] = ()
+) -> Iterator[Finding]:
+    """What an earlier copy has and this one hasn't, and bars that changed. Where the shard was carried
+    since, its archive has to have it."""
+    with contextlib.ExitStack() as kept:
+        turned = archive_since(shard, earlier, archives)
+        whole = kept.enter_context(opened(turned)) if turned else database
+        with beside(whole, earlier):
+            yield from gone(shard, whole)
+        with beside(database, earlier):
+            for row in database.rows(BARS):
+                told = "barred" if row["barred"] else "no longer barred"
+                yield Finding(shard, "accounts", row["account"], f"{told} since the earlier copy")
+
+
+def archive_since(
+    shard: str, earlier: pathlib.Path, archives: Sequence[pathlib.Path]
+) -> pathlib.Path | None:
+    """The archive of a shard's first turn after an earlier copy. What a turn carries has its moment."""
+    with opened(earlier) as copy:
+        last = copy.last_moment
+    for path in sorted(archives):
+        told = NAME.fullmatch(path.stem)
+        if told and told[1] == shard and not told[3] and 0 < last < moment_of(path.stem):
+            return path
+    return None
+
+
+@contextlib.contextmanager
+def beside(database: Database, earlier: pathlib.Path) -> Iterator[None]:
+    """An earlier copy is `earlier` in the database's queries."""
     database.store.execute("ATTACH ? AS earlier", (f"file:{earlier}?mode=ro",))
     try:
-        for table, columns in KEPT.items():
-            gone = database.rows(
-                f"SELECT {columns} FROM earlier.{table} EXCEPT SELECT {columns} FROM main.{table}"
-            )
-            for row in gone:
-                key = " ".join(str(value)[:80] for value in list(row.values())[:4])
-                yield Finding(shard, table, key, "not as in the earlier copy")
-        for row in database.rows(BARS):
-            told = "barred" if row["barred"] else "no longer barred"
-            yield Finding(shard, "accounts", row["account"], f"{told} since the earlier copy")
+        yield
     finally:
         database.store.execute("DETACH earlier")
+
+
+def gone(shard: str, database: Database) -> Iterator[Finding]:
+    """What the earlier copy beside a database has, and it hasn't."""
+    for table, columns in KEPT.items():
+        rows = database.rows(
+            f"SELECT {columns} FROM earlier.{table} EXCEPT SELECT {columns} FROM main.{table}"
+        )
+        for row in rows:
+            key = " ".join(str(value)[:80] for value in list(row.values())[:4])
+            yield Finding(shard, table, key, "not as in the earlier copy")

@@ -10,7 +10,8 @@ Of each copy every account is reckoned anew from its kept contents and the tarif
 hand than the program's: each kept answer, charge, bucket, counter, session and hold has to be what
 comes out. Over all: each account in the shard where it is asked for, each code in one shard, codes
 that went from one shard to another credited once, the same books from now on. With --before: what
-was accepted by then is still there, and bars that changed are told, which leave no other trace.
+was accepted by then is still there, in the archive where the shard was carried since, and bars that
+changed are told, which leave no other trace.
 
 Nothing is changed. Prints a line a finding, and their number on standard error; the status is 1 where
 there is one. --sums writes charges.csv (by month, shard, book, rating group), buckets.csv (by month,
@@ -79,7 +80,7 @@ def found(living: Living, before: pathlib.Path | None) -> Iterator[Finding]:
         yield from reckoned.findings(shard, database)
         earlier = before / f"{shard}.db" if before else None
         if earlier and earlier.exists():
-            yield from together.since(shard, database, earlier)
+            yield from together.since(shard, database, earlier, living.archives)
     yield from together.findings(living)
 
 

@@ -220,9 +220,9 @@ def drill(month: Month) -> None:
     assert "could start from" in month.word("office restore 03 --drill")
 
 
-def audit(month: Month) -> None:
-    """An audit of all shards beside the night before."""
-    night = sorted((month.root / "var/lib/ocs/copies").iterdir())[-1].name
+def audit(month: Month, which: int = -1) -> None:
+    """An audit of all shards beside one of the nights that are kept, else the last."""
+    night = sorted((month.root / "var/lib/ocs/copies").iterdir())[which].name
     told = month.word(f"office audit --before /var/lib/ocs/copies/{night}")
     assert told == f"findings 0 in {len(month.shards())} databases\n"
 

@@ -421,6 +421,28 @@ def test_an_account_that_moved_is_answered_as_before(office: Stand) -> None:
     office.run("office audit")
 
 
+def test_an_audit_beside_a_night_of_before_a_carry(office: Stand) -> None:
+    one = of_shard(office, "04")[2]
+    all_of(office, lived(one, "night"))
+    office.run("office backups")
+    night = office.run("ls -d /var/lib/ocs/copies/2* | tail -n 1").strip()
+    office.debit(one, "behind-the-night")
+    archives = [pathlib.PurePath(carried(office, "04"))]
+    office.debit(one, "behind-the-carry")
+    time.sleep(1.1)
+    archives.append(pathlib.PurePath(carried(office, "04")))
+    audit = f"office audit --before {night}"
+    office.run(f"{audit} && office bar {one}")
+    told = office.machine.run(audit, 1).stdout
+    assert told == f"04 accounts {one}: barred since the earlier copy\n"
+    office.run(f"office unbar {one}")
+    # The first archive is the one that has to have it all.
+    gone = "DELETE FROM answers WHERE name = 'night-event'"
+    office.run(f'sqlite3 {archives[0]} "{gone}"')
+    told = office.machine.run(audit, 1).stdout
+    assert told == f"04 answers {one} 1 night-event 0: not as in the earlier copy\n"
+
+
 def test_the_sums_have_what_archives_have(office: Stand) -> None:
     all_of(office, lived(of_shard(office, "03")[0], "sums"))
     before = totals(office)

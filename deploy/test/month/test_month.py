@@ -65,7 +65,8 @@ PLAN: dict[int, tuple[Task, Task]] = {
     20: (nothing, lambda month: tasks.new_book(month, 3, 22)),
     23: (nothing, tasks.audit),
     24: (nothing, lambda month: tasks.carry(month, "03")),
-    25: (lambda month: tasks.repeats(month, "03"), nothing),
+    # The first night that is kept is of before the carry.
+    25: (lambda month: tasks.repeats(month, "03"), lambda month: tasks.audit(month, 0)),
     26: (lambda month: tasks.redeem(month, 8, 12), nothing),
 }
 
