@@ -54,19 +54,13 @@ def read_again(settings: Settings) -> str:
     """Has HAProxy read its files again, and waits until a process that has read them is at the
     doors; what was done, in a sentence."""
     try:
-        if (
-            units.systemctl("show", "--property", "ActiveState", "--value", UNIT).strip()
-            != "active"
-        ):
+        if state() != "active":
             return f"the unit {UNIT} isn't active: nothing was reloaded"
     except Refused as fault:
         return f"nothing was reloaded ({fault}): HAProxy reads its files when it is reloaded"
-    before, end = process(settings), time.monotonic() + SECONDS
+    before = process(settings)
     units.systemctl("reload", UNIT)
-    while process(settings) in (before, ""):
-        if time.monotonic() > end:
-            raise Refused(f"the unit {UNIT} is at the doors as before: journalctl --unit {UNIT}")
-        time.sleep(0.05)
+    replaced(settings, before)
     return f"the unit {UNIT} is reloaded"
 
 
@@ -91,6 +85,29 @@ def alone(settings: Settings) -> None:
         time.sleep(0.05)
 
 
+def is_left(settings: Settings, here: str) -> bool:
+    """Whether a process is the one at the doors, and none is on its way that has read the files
+    already: one that comes later reads them as they are now."""
+    end = time.monotonic() + SECONDS
+    while state() == "reloading" and time.monotonic() < end:
+        time.sleep(0.05)
+    return process(settings) == here and not others(settings)
+
+
+def state() -> str:
+    """What systemd says of the unit: while it is reloaded a new process reads the files."""
+    return units.systemctl("show", "--property", "ActiveState", "--value", UNIT).strip()
+
+
+def replaced(settings: Settings, here: str) -> None:
+    """Waits until another process than this one is at the doors."""
+    end = time.monotonic() + SECONDS
+    while process(settings) in (here, ""):
+        if time.monotonic() > end:
+            raise Refused(f"the unit {UNIT} is at the doors as before: journalctl --unit {UNIT}")
+        time.sleep(0.05)
+
+
 def others(settings: Settings) -> list[int]:
     """The processes of HAProxy's unit beside its master and the one at the doors."""
     here = process(settings)
@@ -110,7 +127,7 @@ def others(settings: Settings) -> list[int]:
 
 def up(settings: Settings, is_changed: bool) -> str:
     """Starts HAProxy, or has it read a configuration that was changed; what was done."""
-    if units.systemctl("show", "--property", "ActiveState", "--value", UNIT).strip() == "active":
+    if state() == "active":
         return read_again(settings) if is_changed else f"the unit {UNIT} is up"
     units.systemctl("enable", "--quiet", UNIT)
     units.systemctl("restart", UNIT)

@@ -30,10 +30,11 @@ from office.faults import Refused
 from office.progress import shown
 from office.scratch import scratch
 from office.settings import Settings
-from office.shards import Shard, named
+from office.shards import Homes, Shard, named
 from office.tables import Database, opened
 
 THERE, DONE = {"Refusal": "O1"}, 2001
+RELOADED = "HAProxy was reloaded meanwhile: the accounts stay where they were"
 PATIENCE = 60.0
 # Seconds: for another move's end, and between two looks at a queue.
 WAIT, EACH = 15.0, 0.005
@@ -217,12 +218,24 @@ def in_force(settings: Settings, note: Note) -> None:
             os.replace(path, made)
             copies.sync(made.parent)
         if note.process != proxy.process(settings):
-            raise Refused("HAProxy was reloaded meanwhile: the accounts stay where they were")
+            raise Refused(RELOADED)
         runtime.write(settings, note.accounts, note.target)
+        if not proxy.is_left(settings, note.process) and not is_read(settings, note):
+            runtime.write(settings, note.accounts, note.source)
+            raise Refused(RELOADED)
     except BaseException:
         made.unlink(missing_ok=True)
         known.drop(settings, note.archive)
         raise
+
+
+def is_read(settings: Settings, note: Note) -> bool:
+    """Whether the process of HAProxy that came meanwhile has read where the accounts live now. One that
+    read the file before asks the old shard."""
+    proxy.replaced(settings, note.process)
+    there, homes = runtime.entries(settings), Homes(settings)
+    found = {there.get(account, str(homes.hashed(account))) for account in note.accounts}
+    return found == {note.target}
 
 
 def noted(

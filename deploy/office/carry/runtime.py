@@ -14,7 +14,7 @@ from office.faults import Refused
 from office.settings import Settings
 from office.shards import Homes
 
-MOVING = "moving"
+MOVING, GONE = "moving", "Key not found."
 
 
 def entries(settings: Settings) -> dict[str, str]:
@@ -37,7 +37,8 @@ def put(settings: Settings, account: str, value: str, there: dict[str, str]) -> 
     else:
         command = f"add map {path} {account} {value}"
     told = proxy.told(settings, command).strip() if command else ""
-    if told:
+    # A reload since `there` was read has taken an entry away that the file doesn't have.
+    if told and (value or told != GONE):
         raise Refused(f"haproxy: {command}: {told}")
 
 

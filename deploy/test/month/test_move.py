@@ -163,6 +163,15 @@ def test_a_move_behind_a_reload_waits_for_the_process_of_before(office: Stand) -
     office.run("office audit")
 
 
+def test_what_a_reload_took_out_of_the_map_is_gone(office: Stand) -> None:
+    """HAProxy was reloaded between a look at its map and the word that takes an account out of it."""
+    imports = "from office import settings; from office.carry import runtime"
+    for value, status in (("", 0), ("05", 1)):
+        put = f'runtime.put(settings.read(), "1", "{value}", {{"1": "moving"}})'
+        told = office.run(f"cd deploy && python3 -c '{imports}; {put}'", status)
+        assert ("haproxy: set map" in told) == bool(status)
+
+
 @pytest.mark.slow
 def test_a_reload_in_a_move_loses_nothing(office: Stand) -> None:
     everyone = list(map(str, range(FIRST, FIRST + COUNT)))
