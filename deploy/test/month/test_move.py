@@ -56,6 +56,8 @@ def test_one_account_moves_with_what_it_has(office: Stand) -> None:
     office.run("office audit")
     again = office.machine.run(f"office move --from 02 --to 05 {one}")
     assert again.stdout == "moved 0 stay 0\n"
+    ends = request(own[1], "live", 3, 1, 10, -1, 0)
+    assert office.ask("POST", "/ccr", ends)["Result-Code"] == 2001
 
 
 def test_an_account_moves_back_only_where_it_has_no_rows(office: Stand) -> None:
