@@ -114,7 +114,7 @@ def finish(settings: Settings, client: Client) -> None:
     moving = [account for account, value in there.items() if value == runtime.MOVING]
     if path.exists():
         note = Note(**json.loads(path.read_text(encoding="utf-8")))
-        if set(note.accounts) <= set(moving):
+        if note.accounts and set(note.accounts) <= set(moving):
             carry_out(settings, client, note)
         else:
             # HAProxy was started anew meanwhile: its requests went where the file says.
@@ -166,7 +166,8 @@ def held(
             note = noted(plan, source, target, free, name, process)
             if free:
                 archive(settings, database, note)
-        write(settings, note)
+        if free:
+            write(settings, note)
     except BaseException:
         runtime.settle(settings, those)
         raise

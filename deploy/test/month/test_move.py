@@ -64,6 +64,7 @@ def test_an_account_moves_back_only_where_it_has_no_rows(office: Stand) -> None:
     one = of_shard(office, "05")[0]
     told = office.machine.run(f"office move --from 05 --to 02 {one}", 1)
     assert "it has rows in shard 02 already" in told.stderr and office.home(one) == "05"
+    assert "move.json" not in office.run("ls /var/lib/ocs")
     assert office.debit(one, "still")["Result-Code"] == 2001
 
 
