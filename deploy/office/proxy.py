@@ -126,10 +126,12 @@ def others(settings: Settings) -> list[int]:
 
 
 def up(settings: Settings, is_changed: bool) -> str:
-    """Starts HAProxy, or has it read a configuration that was changed; what was done."""
+    """Starts HAProxy, or has it read a configuration that was changed; what was done. At a boot it
+    starts by itself, but with two machines: there Pacemaker starts it."""
     if state() == "active":
         return read_again(settings) if is_changed else f"the unit {UNIT} is up"
-    units.systemctl("enable", "--quiet", UNIT)
+    if not settings.machines:
+        units.systemctl("enable", "--quiet", UNIT)
     units.systemctl("restart", UNIT)
     return f"the unit {UNIT} is started"
 

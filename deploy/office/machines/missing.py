@@ -117,7 +117,9 @@ def enabled(settings: Settings, machine: Machine) -> Iterator[str]:
     for unit in ("corosync", "pacemaker"):
         if state(unit) != "enabled":
             yield f"the unit {unit} isn't enabled: systemctl enable {unit}"
-    ours = [] if machine.only else ["drbd", *(shard.unit for shard in shards.of(settings))]
+    ours = (
+        [] if machine.only else ["drbd", "haproxy", *(shard.unit for shard in shards.of(settings))]
+    )
     for unit in ours:
         if state(unit) == "enabled":
             yield f"the unit {unit} is enabled, and Pacemaker starts it: systemctl disable {unit}"

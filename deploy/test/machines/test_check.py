@@ -22,7 +22,7 @@ head -c 256 /dev/zero > /etc/corosync/authkey; chmod 400 /etc/corosync/authkey
 cp /dev/null /mnt/fstab; mount --bind /mnt/fstab /etc/fstab
 cp {unit} /etc/systemd/system/
 systemctl --quiet enable corosync pacemaker 2> /dev/null
-systemctl --quiet disable drbd 2> /dev/null
+systemctl --quiet disable drbd haproxy 2> /dev/null
 """
 CHECK = "$office --file {file} machines check; echo status $?"
 LACKS = [
@@ -39,6 +39,7 @@ LACKS = [
     ("systemctl -q disable corosync", "the unit corosync isn't enabled: systemctl enable"),
     ("systemctl -q disable pacemaker", "the unit pacemaker isn't enabled: systemctl enable"),
     ("systemctl -q enable drbd", "the unit drbd is enabled, and Pacemaker starts it"),
+    ("systemctl -q enable haproxy", "the unit haproxy is enabled, and Pacemaker starts it"),
     ("systemctl -q enable ocs@02", "the unit ocs@02 is enabled, and Pacemaker starts it"),
     ("rm /dev/shm/01; touch /dev/shm/01", "/dev/shm/01 is no volume: shard 01 needs one"),
     ("rmdir /var/lib/ocs/02", "/var/lib/ocs/02 isn't there: install -d /var/lib/ocs/02"),

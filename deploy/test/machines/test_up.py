@@ -11,18 +11,21 @@ SYSTEMCTL = """\
 mkdir /mnt/bin
 cat > /mnt/bin/systemctl <<'END'
 #!/bin/sh
+echo "$@" >> /mnt/asked
 case "$*" in *ActiveState*pacemaker) echo {pacemaker} ;; *ActiveState*) echo inactive ;; esac
 END
 chmod 755 /mnt/bin/systemctl
 PATH=/mnt/bin:$PATH
 """
 UP = "timeout 10 $office --file {file} up; echo status $?"
+ASKED = "\ngrep haproxy /mnt/asked | grep -v ^show"
 
 
-def told(place: pathlib.Path, pacemaker: str) -> list[str]:
-    """What the word says while systemd says this of Pacemaker."""
+def told(place: pathlib.Path, pacemaker: str, more: str = "") -> list[str]:
+    """What the word says while systemd says this of Pacemaker, and then what more lines print."""
     path = file(place, TWO, "[cluster]", MORE)
-    return on("m1", SYSTEMCTL.format(pacemaker=pacemaker) + UP.format(file=path)).splitlines()
+    lines = SYSTEMCTL.format(pacemaker=pacemaker) + UP.format(file=path) + more
+    return on("m1", lines).splitlines()
 
 
 def test_no_shard_is_asked_before_pacemaker_is_up(tmp_path: pathlib.Path) -> None:
@@ -40,3 +43,8 @@ def test_shards_are_asked_once_it_is(tmp_path: pathlib.Path) -> None:
     found = told(tmp_path, "active")
     # Nobody answers here: the word is ended while it asks.
     assert "the unit haproxy is started" in found and "status 124" in found, found
+
+
+def test_haproxy_is_started_and_not_enabled(tmp_path: pathlib.Path) -> None:
+    found = told(tmp_path, "inactive", ASKED)
+    assert found[-2:] == ["status 0", "restart haproxy"], found
