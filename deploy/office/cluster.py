@@ -45,6 +45,8 @@ class Cluster:
     token: int = schema.whole(5000, 1000, 60000)
     # Seconds that a step of Pacemaker may take on a busy machine.
     patience: int = schema.whole(120, 20, 600)
+    # Seconds from one look at what it started to the next: a process that died is seen by then.
+    look: int = schema.whole(10, 2, 300)
 
 
 @dataclasses.dataclass(frozen=True, kw_only=True)

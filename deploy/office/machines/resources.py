@@ -31,7 +31,7 @@ DISK = {
 # How often a step is taken without being asked for, in seconds; a role has its own.
 DISK_LOOKS = {"Promoted": 29, "Unpromoted": 31}
 DISK_STEPS = ("start", "promote", "demote", "stop", "notify")
-LOOK, FENCE_LOOK = 10, 300
+FENCE_LOOK = 300
 HOME = "50"
 
 
@@ -79,7 +79,7 @@ def doors(settings: Settings, resources: Element, rules: Element) -> None:
     made = SubElement(resources, "clone", id="doors")
     haproxy = SubElement(made, "primitive", {"id": "haproxy", "class": "systemd"})
     haproxy.set("type", "haproxy")
-    steps(settings, haproxy, "haproxy", ("start", "stop"), {"": LOOK})
+    steps(settings, haproxy, "haproxy", ("start", "stop"), {"": settings.cluster.look})
     moving(settings, resources, "office", settings.cluster.address)
     SubElement(
         rules,
@@ -110,7 +110,7 @@ def a_shard(settings: Settings, resources: Element, rules: Element, shard: Shard
     )
     unit = SubElement(made, "primitive", {"id": f"ocs{shard}", "class": "systemd"})
     unit.set("type", shard.unit)
-    steps(settings, unit, f"ocs{shard}", ("start", "stop"), {"": LOOK})
+    steps(settings, unit, f"ocs{shard}", ("start", "stop"), {"": settings.cluster.look})
     only_with_disks(settings, rules, disk)
     only_with_disks(settings, rules, group)
     for machine in settings.machines:
@@ -165,7 +165,7 @@ def agent(settings: Settings, within: Element, name: str, kind: str, words: dict
     made = SubElement(within, "primitive", {"id": name, "class": "ocf", "provider": "heartbeat"})
     made.set("type", kind)
     pairs(SubElement(made, "instance_attributes", id=f"{name}-words"), name, words)
-    steps(settings, made, name, ("start", "stop"), {"": LOOK})
+    steps(settings, made, name, ("start", "stop"), {"": settings.cluster.look})
 
 
 def steps(

@@ -8,6 +8,7 @@ import pytest
 from machines.office import ONE, TWO, file, office
 from office import settings
 from office.faults import Unread
+from office.machines import resources
 
 FOURTH = """
 [[machine]]
@@ -49,6 +50,7 @@ FAULTS = [
     ('address = "10.50.0.100/24"', 'address = "10.51.0.200/24"', "are on one network, not on two"),
     ('shards-after = "10.51.0.100/24"', "", "cluster: shards-after is missing"),
     ("[cluster]", '[cluster]\nfiles = "btrfs"', "cluster: files: 'btrfs' isn't"),
+    ("[cluster]", "[cluster]\nlook = 1", "cluster: look: 1 isn't from 2 to 300"),
     ("[cluster]", "[cluster]\ntoken = 10", "cluster: token: 10 isn't from 1000 to 60000"),
     (
         "[office]",
@@ -76,3 +78,10 @@ def test_a_cluster_without_machines_is_a_fault(tmp_path: pathlib.Path) -> None:
 def test_dry_run_belongs_to_write(tmp_path: pathlib.Path) -> None:
     for words in (["--dry-run"], ["check", "--dry-run"], ["make"]):
         assert office(file(tmp_path), "machines", *words).returncode == 2
+
+
+def test_pacemaker_looks_as_often_as_the_file_says(tmp_path: pathlib.Path) -> None:
+    path = file(tmp_path, TWO, "[cluster]", "[cluster]\nlook = 40")
+    told = resources.text(settings.read(path))
+    # HAProxy, the office's address; of each shard its files, its address, its unit.
+    assert told.count('interval="40"') == 8 and 'interval="10"' not in told
