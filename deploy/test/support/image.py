@@ -61,7 +61,8 @@ def image() -> pathlib.Path:
 def identity() -> str:
     """A word for what the disk is made of."""
     kernel = done("dpkg-query", "--show", "--showformat", "${Version}", "user-mode-linux")
-    text = [kernel, FIRST, *PACKAGES, *OFF, *NEVER, *(file.read_text() for file in guest_files())]
+    files = [pathlib.Path(__file__), *guest_files()]
+    text = [kernel, *(file.read_text() for file in files)]
     return hashlib.sha256("\0".join(text).encode()).hexdigest()[:12]
 
 

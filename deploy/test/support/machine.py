@@ -165,12 +165,14 @@ class Machine:
         words = [*WITH_US, *self.network.words, *TOGETHER, "linux.uml"]
         first, memory = INITS[init]
         words += [f"mem={memory}", "root=/dev/ubda", "rw", f"init={first}", "con=null"]
-        words += ["con0=null,fd:1", f"uml_dir={self.place}", "umid=uml"]
+        # Without 512 terminals, for each of which a boot starts a process.
+        words += ["con0=null,fd:1", "pty.legacy_count=0", f"uml_dir={self.place}", "umid=uml"]
         words += [f"machine={self.number}", f"shared={self.shared}"]
         words += [f"ubda={self.place}/root.cow,{self.image}"]
         words += [f"disk={disk}"] if disk else []
         words += [
-            f"eth{at}=tuntap,{card}{self.number},{self.mac(at)}" for at, card in enumerate(CARDS)
+            f"vec{at}:transport=tap,ifname={card}{self.number},mac={self.mac(at)},gro=1"
+            for at, card in enumerate(CARDS)
         ]
         with (self.place / "console").open("ab") as console:
             self.process = subprocess.Popen(
