@@ -12,7 +12,7 @@ import time
 
 from support.image import image
 from support.machine import SHARED, Machine, Network
-from support.served import BOOKS, Served
+from support.served import BOOKS, WAITING, Served
 from support.turns import Turns
 from support.volatile import FATES, Disk
 from support.waiting import until
@@ -42,11 +42,11 @@ for try in 1 2 3 4 5; do drbdadm primary ocs-01 && drbdadm connect ocs-01 && exi
 cat /proc/drbd
 exit 1
 """
-WAIT = "for try in $(seq 600); do grep -q {state} /proc/drbd && exit 0; sleep 0.2; done; exit 1"
-IN_STEP, CONNECTED = WAIT.format(state="UpToDate/UpToDate"), WAIT.format(state="cs:Connected")
-VERIFY = """
+WAIT = "until [[ $(< /proc/drbd) == *%s* ]]; do (( SECONDS < 300 )) || exit 1; moment; done\n"
+IN_STEP, CONNECTED = WAITING + WAIT % "UpToDate/UpToDate", WAITING + WAIT % "cs:Connected"
+VERIFY = f"""
 drbdadm verify ocs-01
-until grep -q 'cs:Connected' /proc/drbd; do sleep 0.5; done
+{CONNECTED}
 grep -o 'oos:[0-9]*' /proc/drbd
 """
 

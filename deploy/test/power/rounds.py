@@ -116,7 +116,7 @@ class Drill:
         """The gateways ask for a while, and half of the time another process writes to the same
         file system, so that more is under way than the shard's log."""
         self.served.gateways.start()
-        time.sleep(self.chance.uniform(1, 6))
+        time.sleep(self.chance.uniform(0.5, 3))
         if self.chance.random() < 0.5:
             other = f"{self.powered.host.layout.place}/other"
             line = f"dd if=/dev/zero of={other} bs=64k count=400; rm -f {other}"

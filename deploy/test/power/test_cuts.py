@@ -16,6 +16,8 @@ from support.served import MAKE
 
 CUTS, QUICK = int(os.environ.get("OFFICE_CUTS", "20")), 3
 CHECKPOINTS = max(1, CUTS // 2)
+# A shard has so many cuts, then there is a new one: each third adds a book, and a shelf has room for 16.
+EACH = 20
 
 
 @pytest.mark.parametrize("count", [QUICK, pytest.param(CUTS, marks=pytest.mark.slow)])
@@ -23,11 +25,14 @@ CHECKPOINTS = max(1, CUTS // 2)
 def test_what_was_answered_outlives_the_power(
     tmp_path: pathlib.Path, kind: str, count: int
 ) -> None:
-    here = Here(tmp_path)
-    try:
-        rounds(tmp_path, here, kind, count)
-    finally:
-        here.end()
+    for first in range(0, count, EACH):
+        place = tmp_path / str(first)
+        place.mkdir()
+        here = Here(place)
+        try:
+            rounds(place, here, kind, min(EACH, count - first))
+        finally:
+            here.end()
 
 
 @pytest.mark.slow

@@ -23,15 +23,17 @@ BOOKS = [BOOK.format(validity=VALIDITY, price=price) for price in (90000, 80000)
 MAKE = {"ext4": "mkfs.ext4 -q -F -E nodiscard", "xfs": "mkfs.xfs -q -f -K"}
 # Another process may still have the file system of a disk that has gone, in mounts of its own.
 MOUNT = {"ext4": "mount", "xfs": "mount -o nouuid"}
+# Waits a moment and starts no process: that would take a busy machine of a test a second.
+WAITING = "exec {never}<> <(:); moment() { read -rt 0.2 -u $never || :; }\n"
 SERVE = """
 {program} serve {place}/01.db --port {port} --connections 1000000 --at {moment} \\
     > {folder}/shard.log 2>&1 < /dev/null & echo $! > {folder}/shard.pid
-until grep -q listening {folder}/shard.log; do
+until [[ $(< {folder}/shard.log) == *listening* ]]; do
     kill -0 $(< {folder}/shard.pid) || {{ cat {folder}/shard.log; exit 1; }}
-    sleep 0.2
+    moment
 done
 """
-STOP = "kill {id}; while kill -0 {id} 2> /dev/null; do sleep 0.2; done"
+STOP = "kill {id}; while kill -0 {id} 2> /dev/null; do moment; done"
 
 
 @dataclasses.dataclass(frozen=True)
@@ -97,7 +99,8 @@ class Served:
         self.moment += STEP
         self.uncut.end()
         self.uncut.start(self.moment)
-        host.sh(SERVE.format(**dataclasses.asdict(host.layout), moment=self.moment))
+        serve = SERVE.format(**dataclasses.asdict(host.layout), moment=self.moment)
+        host.sh(WAITING + serve)
         self.turns.start(where)
         if self.gateways.answered:
             self.gateways.settle()
@@ -107,7 +110,7 @@ class Served:
 
     def stop(self, host: Host) -> None:
         """The shard is stopped."""
-        host.sh(STOP.format(id=f"$(< {host.layout.folder}/shard.pid)"))
+        host.sh(WAITING + STOP.format(id=f"$(< {host.layout.folder}/shard.pid)"))
 
     def add(self, host: Host) -> None:
         """A book is being added."""
