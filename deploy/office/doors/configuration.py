@@ -26,6 +26,15 @@ OWN |= dict.fromkeys((500, 502, 503, 504), UNABLE)
 STRANGE = "'^(?!(?i:host|content-length|content-type)$)'"
 # A shard's connection: one, which goes where nothing was asked for a second or two.
 ONE = "maxconn 1 pool-max-conn 1 pool-purge-delay 1s"
+# A machine that died ends no connection. A request that was under way there would have the shard's one
+# turn until its time is over, while the shard is served elsewhere; so the other side's kernel is asked
+# whether it is there. Whoever has the address by then ends the connection.
+ALIVE = (
+    "    option srvtcpka",
+    "    srvtcpka-idle 3s",
+    "    srvtcpka-intvl 1s",
+    "    srvtcpka-cnt 5",
+)
 
 
 def text(settings: Settings) -> str:
@@ -291,6 +300,7 @@ def backend(settings: Settings) -> list[str]:
         # A relay waits for the other machine's request, for the shard's start and for its answer.
         waits = settings.waits
         made.append(f"    timeout server {waits.start + 2 * waits.answer + 5}s")
+        made += ALIVE
     for shard in shards.of(settings):
         weight = "" if shard.is_hashed else " weight 0"
         made.append(

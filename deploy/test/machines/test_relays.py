@@ -81,3 +81,30 @@ def test_with_the_link_pulled_the_other_machines_shards_are_away(tmp_path: pathl
         f"for a in {ACCOUNT} {OTHER}; do ask -X PUT -d '' http://127.0.0.1:8081/accounts/$a; done",
     )
     assert told == ['{"Result-Code":2001} 200', '{"Result-Code":5012} 503']
+
+
+# The other machine, with the shard's address and a relay that takes a request and then says nothing.
+PEER = """\
+mkdir -p /run/netns; mount -t tmpfs tmpfs /run/netns
+ip netns add m2; ip link add away type veth peer name eth1 netns m2
+ip link set away master eth1 up; ip -n m2 link set eth1 up
+for a in 10.51.0.12 10.51.0.101; do ip -n m2 addr add $a/24 dev eth1; done
+ip netns exec m2 socat -u TCP-LISTEN:8201,fork,reuseaddr OPEN:/dev/null > /mnt/told 2>&1 & relay=$!
+"""
+# It is dead, and three seconds later its shard is here.
+DEAD = "ip link set away down; sleep 3; ip addr add 10.51.0.101/24 dev eth1"
+
+
+def test_a_request_that_was_under_way_at_a_dead_machine_lets_the_next_go(
+    tmp_path: pathlib.Path,
+) -> None:
+    told = answers(
+        tmp_path,
+        f"{PEER}"
+        f"ask -X PUT -d '' http://127.0.0.1:8081/accounts/{ACCOUNT} & first=$!\n"
+        f"sleep 2; ask -X PUT -d '' http://127.0.0.1:8081/accounts/{ACCOUNT} & second=$!\n"
+        f"sleep 1; {DEAD}; began=$(date +%s)\n"
+        "wait $first; wait $second; [ $(($(date +%s) - began)) -lt 15 ] && echo soon\n"
+        "kill $relay",
+    )
+    assert told == ['{"Result-Code":5012} 502', '{"Result-Code":2001} 200', "soon"]
