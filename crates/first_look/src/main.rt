@@ -1,6 +1,6 @@
 //! A first look at `ocs`: lines of requests on standard input, answered as `ocs once --credit
 //! 6045550 --price 100000 --block 600` answers them. Who wants to see an answer runs it: it parses
-//! no words and opens no database, so it is compiled in a third of the time.
+//! no words and opens no database, so it is compiled before `ocs` is.
 #![tactic(auto)]
 
 use request_lines::{LinesFault, once_lines};
