@@ -1,3 +1,4 @@
+pub mod Bounds
 pub mod Loop
 pub mod Steps
 pub mod LineLemmas

@@ -207,7 +207,8 @@ pub fn next_line<R: Read>(alloc: Global, reader: &mut R) -> Result<Option<Vec<u8
         }
         line.push(byte)?;
     }
-    Err(StreamFault::Memory)
+    // So many bytes fit into no vector.
+    unreachable!()
 }
 
 /// Writes some of a text that isn't empty, and answers how much.
