@@ -37,10 +37,13 @@ def ready(settings: Settings, shard: Shard, made: pathlib.Path) -> None:
     """Makes one whole file of a database and its log, as the next one of a shard."""
     path = next_of(shard)
     part = path.with_name(path.name + ".part")
-    part.unlink(missing_ok=True)
-    copies.make_whole(made, part)
-    program.give(settings, part)
-    os.replace(part, path)
+    discard(part)
+    try:
+        copies.make_whole(made, part)
+        program.give(settings, part)
+        os.replace(part, path)
+    finally:
+        discard(part)
     copies.sync(path.parent)
 
 

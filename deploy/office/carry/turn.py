@@ -21,6 +21,7 @@ from office.carry.plan import Plan, rows
 from office.client import compact
 from office.faults import Refused
 from office.progress import shown
+from office.scratch import scratch
 from office.settings import Settings
 from office.shards import Shard
 from office.tables import opened
@@ -114,6 +115,9 @@ def turned(settings: Settings, one: Shard, may_wait: bool, keys: known.Filter, s
             known.put(settings, name, keys)
         places.swap(one, None)
         print("\n".join(f"{one} {line}" for line in found.sums()))
+    except BaseException:
+        settle(settings, one)
+        raise
     finally:
         places.discard(new)
 
@@ -140,15 +144,18 @@ def make(settings: Settings, plan: Plan, new: pathlib.Path) -> None:
 
 
 def archive(settings: Settings, one: Shard, at: int) -> str:
-    """Makes one whole file of the old database, under a name that isn't an archive's yet; its name then."""
+    """Makes one whole file of the old database, under a name that isn't an archive's yet; its name then.
+    The archive's service reads it from there on, so it has that name once it is whole."""
     folder = pathlib.Path(settings.keeping.archive)
     folder.mkdir(mode=0o750, parents=True, exist_ok=True)
     program.give(settings, folder)
     name = f"{one}-{time.strftime(places.FORM, time.gmtime(at))}"
     path = folder / f"{name}.db{places.TURNING}"
-    path.unlink(missing_ok=True)
-    copies.make_whole(one.database, path)
-    os.chmod(path, 0o440)
-    program.give(settings, path)
+    with scratch(folder, ".carry-") as place:
+        made = place / path.name
+        copies.make_whole(one.database, made)
+        os.chmod(made, 0o440)
+        program.give(settings, made)
+        os.replace(made, path)
     copies.sync(folder)
     return name
