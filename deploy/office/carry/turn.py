@@ -12,7 +12,7 @@ import tempfile
 import time
 from collections.abc import Iterator
 
-from office import copies, places, program, shards, spare
+from office import copies, operate, places, program, shards, spare
 from office.alone import alone, held, settle
 from office.archive import known
 from office.audit import reckoned, strays
@@ -28,8 +28,9 @@ from office.tables import opened
 
 THERE = {"Refusal": "O1"}
 DONE = 2001
-# Findings and hindrances that are told of a database; seconds that a request of the plan takes.
-MOST, EACH = 20, 0.004
+# Findings and hindrances that are told of a database; seconds that a request of the plan takes, and
+# that a turn waits at most for the clock.
+MOST, EACH, PATIENCE = 20, 0.004, 1.5
 
 
 def shard(settings: Settings, one: Shard, is_audited: bool, may_wait: bool) -> None:
@@ -55,6 +56,16 @@ def shard(settings: Settings, one: Shard, is_audited: bool, may_wait: bool) -> N
     with moving.under_way(settings), alone(settings, one, is_held=True):
         turned(settings, one, may_wait, keys, since)
         places.finish(settings, one)
+
+
+def moment_behind(one: Shard) -> int:
+    """The moment of a turn: the clock's, once it is behind the last command's, so that the last moment
+    of a copy says on which side of the turn it was made. A shard that is ahead of the clock isn't
+    waited for."""
+    last, end = operate.last_moment(one), time.monotonic() + PATIENCE
+    while int(time.time()) == last and time.monotonic() < end:
+        time.sleep(0.02)
+    return int(time.time())
 
 
 def planned(settings: Settings, one: Shard, database: pathlib.Path, at: int) -> Plan:
@@ -98,7 +109,7 @@ def turned(settings: Settings, one: Shard, may_wait: bool, keys: known.Filter, s
     new = places.new_of(one)
     places.discard(new)
     try:
-        plan = planned(settings, one, one.database, int(time.time()))
+        plan = planned(settings, one, one.database, moment_behind(one))
         make(settings, plan, new)
         with opened(new) as read:
             found = Plan(read, plan.at, lambda _: True)

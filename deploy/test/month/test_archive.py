@@ -20,7 +20,7 @@ from month.worlds import BEGIN, BOOK, ocs, world
 from office import copies
 from office.archive import answers, known
 from office.archive.answers import Asked, Key
-from office.archive.past import File
+from office.archive.past import File, moment_of
 from office.archive.open_files import OpenFiles
 from office.audit import sums
 from office.faults import Refused
@@ -132,9 +132,12 @@ def carried_twice(office: Stand) -> Past:
 
 
 def carried(office: Stand, shard: str) -> str:
-    """The archive of a shard that is carried."""
+    """The archive of a shard that is carried, whose commands are all of before its turn."""
     told = office.run(f"office carry {shard}")
-    return next(line for line in told.splitlines() if " archive " in line).split()[2]
+    archive = next(line for line in told.splitlines() if " archive " in line).split()[2]
+    last = office.run(f"sqlite3 'file:{archive}?immutable=1' 'SELECT last_moment FROM meta'")
+    assert int(last) < moment_of(pathlib.PurePath(archive).stem)
+    return archive
 
 
 def of_shard(office: Stand, shard: str) -> list[str]:

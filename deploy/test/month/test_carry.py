@@ -13,8 +13,8 @@ import pytest
 
 from month.machine import program, wait_until
 from month.stand import Stand, now, request, stand
-from month.worlds import BERLIN, World, ocs, world
-from office import settings
+from month.worlds import BERLIN, BOOK, World, ocs, world
+from office import settings, shards
 from office.audit import reckoned
 from office.carry import turn
 from office.carry.plan import Plan
@@ -110,6 +110,16 @@ def rich(database: pathlib.Path, account: str) -> bool:
     asked = "SELECT sum(available) FROM buckets WHERE account = ? AND scope IS NULL"
     with opened(database) as read:
         return int(read.one(asked, account) or 0) > 1_000_000
+
+
+def test_a_turn_is_behind_the_last_command(tmp_path: pathlib.Path) -> None:
+    """A copy that was made before it has an earlier last moment, one of behind it the same or a later."""
+    one = shards.of(here(tmp_path))[0]
+    ocs("init", one.database, BOOK)
+    for account, ahead in (("49151", 0), ("49152", 900_000)):
+        at = now() + ahead
+        ocs("open", one.database, account, "--at", at)
+        assert (turn.moment_behind(one) > at) == (ahead == 0)
 
 
 @pytest.fixture(scope="module", name="office")
