@@ -99,28 +99,28 @@ ROWS = [
     # accounts and the last moment
     (
         of("accounts", 49151, "as_of = 2030000000"),
-        OPENED,
+        RULES,
         "accounts: as_of is at most the last moment",
     ),
     (
         of("accounts", 49151, "as_of = as_of + 268435456"),
-        OPENED,
+        RULES,
         "accounts: as_of is at most the last moment",
     ),
     (
         of("accounts", 49151, "as_of = 4102444799"),
-        OPENED,
+        RULES,
         "accounts: as_of is at most the last moment",
     ),
     ("UPDATE meta SET last_moment = 2030000000", OPENED, None),
     (
         "UPDATE sessions SET touched = 2030000000 WHERE session = 'live'",
-        OPENED,
+        RULES,
         "sessions: touched is at most the last moment",
     ),
     (
         "UPDATE sessions SET touched = 2030000000 WHERE session = 'ended'",
-        OPENED,
+        RULES,
         "sessions: touched is at most the last moment",
     ),
     (
@@ -130,7 +130,7 @@ ROWS = [
     ),
     (
         of("charges", 49152, "moment = 2030000000"),
-        OPENED,
+        RULES,
         "charges: the moment is at most the last moment",
     ),
     (of("charges", 49152, "moment = moment + 15"), OPENED, "charges: the moment is at most as_of"),

@@ -14,7 +14,7 @@ use Rattle.sql_tables.specs.Statements.{AreStored}
 use Rattle.sql_rows.specs.Content.{TablesContent, tables_content, with_meta, with_voucher_row}
 use Rattle.sql_rows.specs.Plain.{ArePlain}
 use Rattle.sql_rules.specs.Ruled.{IsInRules}
-use Rattle.sql_keeper.specs.Content.{tables_of, Names}
+use Rattle.sql_keeper.specs.Content.{last_in, tables_of, Names}
 use Rattle.sql_keeper.specs.Tidy.{IsTidy}
 use Rattle.sql_keeper.specs.Writes.{meta_at, voucher_row, with_moment_put}
 
@@ -46,6 +46,8 @@ pub record BecomesAdded (text : BookText) (code : VoucherCode) (terms : VoucherT
   pub plain : ArePlain old → ArePlain new
   pub meta : (tables_content new).meta ≡ Some (meta_at text t)
   pub last : t ≤ latest_moment
+  -- it isn't before the last one
+  pub later : last_in (tables_content old).meta ≤ t
   pub books : (tables_content new).books ≡ (tables_content old).books
   pub catalog : new catalog_tree ≡ old catalog_tree
   pub stored : AreStored new

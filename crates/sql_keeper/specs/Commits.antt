@@ -14,7 +14,7 @@ use Rattle.sql_rows.specs.Content.{TablesContent, tables_content}
 use Rattle.sql_rows.specs.Makes.{Commits, Turns}
 use Rattle.sql_rows.specs.Plain.{ArePlain}
 use Rattle.sql_rules.specs.Ruled.{IsInRules}
-use Rattle.sql_keeper.specs.Content.{shelf_names, tables_of, Names}
+use Rattle.sql_keeper.specs.Content.{last_in, shelf_names, tables_of, Names}
 use Rattle.sql_keeper.specs.Tidy.{IsTidy}
 use Rattle.sql_keeper.specs.Writes.{meta_with}
 
@@ -46,6 +46,8 @@ pub record Becomes (names : Names) (text : BookText) (change : Change) (old new 
   pub plain : ArePlain old → ArePlain new
   pub meta : (tables_content new).meta ≡ Some (meta_with text change)
   pub last : change.moment ≤ latest_moment
+  -- it isn't before the last one
+  pub later : last_in (tables_content old).meta ≤ change.moment
   pub books : (tables_content new).books ≡ (tables_content old).books
   pub catalog : new catalog_tree ≡ old catalog_tree
   pub stored : AreStored new

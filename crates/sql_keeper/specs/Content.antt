@@ -3,7 +3,7 @@
 use Rattle.std.specs.Prelude.{ℕ, zero, suc, ◌&&◌, Bool, false, List, [], map, slice_get, Option}
 use Rattle.std.specs.Prelude.{Some, None, Result, Ok, Err, unwrap_or, option_map}
 use Rattle.std.specs.Prelude.{option_and_then, is_some, nat_lt, if◌then◌else◌}
-use Rattle.units.specs.Words.{Moment, BlockCount, BookNumber}
+use Rattle.units.specs.Words.{BlockCount, BookNumber}
 use Rattle.identifiers.specs.Words.{AccountName}
 use Rattle.buckets.specs.Words.{BucketNumber, BucketAmount}
 use Rattle.ledger.specs.Words.{ChargeNumber}
@@ -29,7 +29,8 @@ use Rattle.keepers.specs.declared.kept_answer.KeptAnswer.{KeptAnswer}
 use Rattle.keepers.specs.Tables.{Head, GroupRow, Rows, Tables}
 use Rattle.sql_rows.specs.declared.head.HeadColumns.{HeadColumns}
 use Rattle.sql_rows.specs.declared.voucher_rows.VoucherColumns.{VoucherColumns}
-use Rattle.sql_rows.specs.Values.{Meta, Group, PeriodNames, Kept}
+pub use Rattle.sql_rules.specs.Ruled.{last_in}
+use Rattle.sql_rows.specs.Values.{Group, PeriodNames, Kept}
 use Rattle.sql_rows.specs.Values.{request_kind, reference_kind}
 use Rattle.sql_rows.specs.Content.{TableRows, TablesContent}
 
@@ -162,11 +163,6 @@ voucher_in v = record {
 }
 
 -- ---- all of it
-
--- the moment of the last accepted command; the first where nothing was written yet
-abbrev pub last_in : Option Meta → Moment
-last_in None = 0
-last_in (Some m) = m.last
 
 -- rule: database-writes.tables-of: what a commit writes into a database reads as the change
 -- rule: database-reads.tables-of: a keeper over a database finds what its tables hold, and asking

@@ -152,6 +152,7 @@ pub record IsShelfAt (v : TablesVersion) (trees : Trees) (r : ReadBooks) : Type 
   pub row : Meta
   pub is : (tables_content trees).meta ≡ Some row
   pub version : row.version ≡ v
+  pub last : r.last ≡ row.last
   pub shelf : IsShelfOf row.book (content_at v trees).books r.own
 
 -- inside a transaction that isn't committed: the shelf of what is kept is read, or a fault says why

@@ -8,6 +8,7 @@ use Rattle.buckets.specs.declared.holds.HeldAmount.{HeldAmount}
 use Rattle.ledger.specs.declared.charge.ChargeRow.{ChargeRow}
 use Rattle.reserving.specs.Stored.{StoredRows}
 use Rattle.reserving.specs.declared.session.Reservation.{Reservation}
+use Rattle.reserving.specs.declared.session.Session.{Session}
 use Rattle.reserving.specs.declared.session.SessionGroup.{SessionGroup}
 use Rattle.commands.specs.Keys.{key_of}
 use Rattle.commands.specs.declared.key.Key.{Key}
@@ -75,6 +76,26 @@ are_ruled_texts a (Some k) (Some t) = are_texts_under (key_of k.content) a t
 abbrev pub is_ruled_charge : ChargeRow → Bool
 is_ruled_charge x = is_charge x && nat_le x.covered.0 most_blocks
 
+-- no session was touched after this moment
+abbrev pub are_timely_sessions : Moment → List Session → Bool
+are_timely_sessions t xs = list_all (λ (x : Session). nat_le x.touched t) xs
+
+-- no row of an account is of a moment after this one
+-- rule: rows-ruled.timely
+abbrev pub are_timely_rows : Moment → StoredRows → Bool
+are_timely_rows t w = nat_le w.as_of t && are_timely_sessions t w.sessions
+
+-- nor is a charge
+abbrev pub are_timely_charges : Moment → List ChargeRow → Bool
+are_timely_charges t xs = list_all (λ (x : ChargeRow). nat_le x.moment t) xs
+
+-- no row of a change is of a moment after its own
+-- rule: rows-ruled.timely
+abbrev pub is_timely_change : Change → Bool
+is_timely_change change =
+    are_timely_rows change.moment change.rows
+    && are_timely_charges change.moment change.charges.items
+
 -- all of a change but its texts
 -- rule: rows-ruled.ruled-change: if each row was in its rules, each still is after a change, a
 --   voucher, a sweep or a book more; what would be out of them isn't written
@@ -82,18 +103,18 @@ abbrev pub is_ruled_change : Names → Change → Bool
 is_ruled_change names change =
     is_moment change.moment && are_ruled_rows names change.number change.rows
     && list_all is_ruled_charge change.charges.items && is_ruled_redeemed change.redeemed
-    && is_ruled_kept change.kept
+    && is_ruled_kept change.kept && is_timely_change change
 
 -- a voucher that is added, at a moment
 -- rule: rows-ruled.ruled-change
 abbrev pub is_ruled_addition : VoucherCode → VoucherTerms → Moment → Bool
 is_ruled_addition code terms t = is_moment t && is_voucher code (voucher_row (unspent terms))
 
--- an account as a sweep leaves it
+-- an account as a sweep leaves it, at a moment
 -- rule: rows-ruled.ruled-change
-abbrev pub is_ruled_swept : Names → SweptAccount → Bool
-is_ruled_swept names x = are_ruled_rows names x.number x.rows
+abbrev pub is_ruled_swept : Names → Moment → SweptAccount → Bool
+is_ruled_swept names t x = are_ruled_rows names x.number x.rows && are_timely_rows t x.rows
 
 -- all accounts, at a moment
 abbrev pub is_ruled_sweep : Names → Moment → List SweptAccount → Bool
-is_ruled_sweep names t xs = is_moment t && list_all (is_ruled_swept names) xs
+is_ruled_sweep names t xs = is_moment t && list_all (is_ruled_swept names t) xs

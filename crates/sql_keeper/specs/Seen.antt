@@ -1,6 +1,6 @@
 -- What a keeper has seen of an account since its tables were last written.
 -- Source: profile.
-use Rattle.std.specs.Prelude.{◌≡◌, true, false, Bool, Option, Some, None, IsTrue, is_some}
+use Rattle.std.specs.Prelude.{◌≡◌, ◌≤◌, true, false, Bool, Option, Some, None, IsTrue, is_some}
 use Rattle.std.specs.Prelude.{if◌then◌else◌}
 use Rattle.units.specs.Words.{Moment}
 use Rattle.identifiers.specs.Words.{AccountName, SessionName}
@@ -16,6 +16,7 @@ use Rattle.sql_rows.specs.Content.{TableRows, rows_in, tables_content}
 use Rattle.sql_rows.specs.Lists.{HasNoGroups}
 use Rattle.sql_rows.specs.Values.{Meta}
 use Rattle.sql_rows.specs.declared.head.HeadColumns.{HeadColumns}
+use Rattle.sql_keeper.specs.Content.{last_in}
 use Rattle.sql_keeper.specs.Grants.{IsGrantIn, IsGrantSeen, is_name}
 use Rattle.sql_keeper.specs.Inside.{IsKeeper, KeeperState, names_in}
 use Rattle.sql_keeper.specs.KeptRows.{AreKept}
@@ -117,9 +118,11 @@ Sees (Some x) trees = IsSeen (rows_in trees x.account) x
 abbrev pub AreSeen : Option SeenAccount → State → Type 0
 AreSeen o s = HasCleanDisk s → IsTrue s.is_open → Sees o s.now.trees
 
--- what is kept once is there with this version and this text, and where it is said, at this moment
+-- what is kept once is there with this version and this text, of a moment that isn't after this one,
+-- and where it is said, of this one
 pub record IsKeptOnce (told : Bool) (m : Meta) (o : Option Meta) : Type 0 where
   pub last : Moment
+  pub later : last ≤ m.last
   pub row : o ≡ Some (record m { last = last })
   pub moment : told ≡ true → last ≡ m.last
 
@@ -127,6 +130,10 @@ pub record IsKeptOnce (told : Bool) (m : Meta) (o : Option Meta) : Type 0 where
 abbrev pub Stands : Bool → Meta → State → Type 0
 Stands told m s = HasCleanDisk s → IsTrue s.is_open →
     IsKeptOnce told m (tables_content s.now.trees).meta
+
+-- the last moment isn't after this one
+abbrev pub IsUpTo : Moment → State → Type 0
+IsUpTo t s = HasCleanDisk s → IsTrue s.is_open → last_in (tables_content s.now.trees).meta ≤ t
 
 -- what a keeper keeps between calls, with what it has seen, and the rows that it keeps
 -- rule: database-writes.seen

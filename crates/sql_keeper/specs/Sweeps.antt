@@ -25,7 +25,7 @@ use Rattle.sql_rows.specs.Lists.{AreAccounts}
 use Rattle.sql_rows.specs.Makes.{Makes, Turns}
 use Rattle.sql_rows.specs.Plain.{ArePlain}
 use Rattle.sql_rules.specs.Ruled.{IsInRules}
-use Rattle.sql_keeper.specs.Content.{shelf_names, tables_of, Names}
+use Rattle.sql_keeper.specs.Content.{last_in, shelf_names, tables_of, Names}
 use Rattle.sql_keeper.specs.LiveRows.{IsToldUncounted}
 use Rattle.sql_keeper.specs.RuledRows.{is_ruled_swept}
 use Rattle.sql_keeper.specs.Tests.{AreWritable}
@@ -121,7 +121,7 @@ pub record SweepsOne (names : Names) (shelf : Shelf) (t : Moment) (number : Acco
     (old new : State) : Type 0 where
   pub account : SweptAccount
   pub swept : IsSweptAs names shelf t (tables_content old.now.trees) number account
-  pub ruled : IsTrue (is_ruled_swept names account)
+  pub ruled : IsTrue (is_ruled_swept names t account)
   pub makes : Makes (with_swept names account) old new
 
 -- each of these numbers is, if no two are the same
@@ -130,7 +130,7 @@ pub record SweepsEach (names : Names) (text : BookText) (shelf : Shelf) (t : Mom
   pub accounts : List SweptAccount
   pub swept : AreApart (λ x y. same_name y x) numbers →
       AreSweptOf names shelf t (tables_content old) numbers accounts
-  pub ruled : IsTrue (list_all (is_ruled_swept names) accounts)
+  pub ruled : IsTrue (list_all (is_ruled_swept names t) accounts)
   pub turns : Turns (with_sweep names text t accounts) old new
 
 -- each account is, and no other
@@ -183,6 +183,8 @@ pub record BecomesSwept (names : Names) (text : BookText) (shelf : Shelf) (t : M
   pub plain : ArePlain old → ArePlain new
   pub meta : (tables_content new).meta ≡ Some (meta_at text t)
   pub last : t ≤ latest_moment
+  -- it isn't before the last one
+  pub later : last_in (tables_content old).meta ≤ t
   pub books : (tables_content new).books ≡ (tables_content old).books
   pub catalog : new catalog_tree ≡ old catalog_tree
   pub stored : AreStored new

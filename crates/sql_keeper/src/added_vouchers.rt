@@ -1,6 +1,6 @@
 //! A voucher that is added, in one transaction: all of it or nothing, also over a stop.
 
-ghost use Rattle.std.specs.Prelude.{◌≡◌, false};
+ghost use Rattle.std.specs.Prelude.{◌≡◌, false, true};
 ghost use Rattle.keepers.specs.Change.{with_voucher};
 ghost use Rattle.sql_rows.specs.Makes.{Makes};
 ghost use Rattle.sql_tables.specs.Statements.{Attempts, HasBook, HasIdleBook, HasRules, IsInside};
@@ -14,7 +14,7 @@ ghost use Rattle.sql_keeper.specs.Calls.{StoresChange};
 
 use crate::faults::counted;
 use crate::keeper::SqlKeeper;
-use crate::last_moment::{is_last, last_after};
+use crate::last_moment::{is_last, is_not_before, last_after};
 use crate::putting::put_moment;
 use crate::ruling::is_ruled_addition;
 use crate::still_open::still_open;
@@ -74,19 +74,24 @@ fn make_addition<S: Alter>(
     conn: &mut Connection<S>,
     text: &str,
     is_there: bool,
+    is_later: bool,
     code: &VoucherCode,
     terms: VoucherTerms,
     moment: Moment,
 ) -> Result<(), ReadFault>
     requires plain { conn.old.in_transaction ≡ false }
     requires idle { HasIdleBook (state S.Store conn.old) }
-    requires is_there { Stands is_there (meta_at text.now moment) (state S.Store conn.old) }
+    requires is_there { is_later ≡ true →
+        Stands is_there (meta_at text.now moment) (state S.Store conn.old) }
     ensures plain { conn.new.in_transaction ≡ false }
     ensures commits { CommitsWhole (BecomesAdded text.now code.now terms moment)
         (state S.Store conn.old) (state S.Store conn.new) result }
 {
     // For the prover alone: looking at the value makes known here what its type keeps.
     let _moment = moment.seconds();
+    if !is_later {
+        return Err(ReadFault::Rules);
+    }
     if !is_ruled_addition(code, terms, moment) {
         return Err(ReadFault::Rules);
     }
@@ -99,19 +104,21 @@ fn ask_to_add<S: Alter>(
     conn: &mut Connection<S>,
     text: &str,
     is_there: bool,
+    is_later: bool,
     code: &VoucherCode,
     terms: VoucherTerms,
     moment: Moment,
 ) -> Result<(), ReadFault>
     requires plain { conn.old.in_transaction ≡ false }
     requires idle { HasIdleBook (state S.Store conn.old) }
-    requires is_there { Stands is_there (meta_at text.now moment) (state S.Store conn.old) }
+    requires is_there { is_later ≡ true →
+        Stands is_there (meta_at text.now moment) (state S.Store conn.old) }
     ensures plain { conn.new.in_transaction ≡ false }
     ensures commits { CommitsStanding (BecomesAdded text.now code.now terms moment)
         (state S.Store conn.old) (state S.Store conn.new) result }
 {
     still_open(conn)?;
-    make_addition(conn, text, is_there, code, terms, moment)
+    make_addition(conn, text, is_there, is_later, code, terms, moment)
 }
 
 impl<S: Alter> SqlKeeper<S> {
@@ -120,7 +127,8 @@ impl<S: Alter> SqlKeeper<S> {
     /// nothing has changed, and whatever a stop leaves is the tables before or with the voucher.
     ///
     /// # Errors
-    /// Lack of memory; a fault of the store, which is counted, as is a moment that no command has.
+    /// Lack of memory; a fault of the store, which is counted, as is a moment that no command has, or
+    /// one before the last.
     // rule: database-voucher
     pub fn add_voucher(
         &mut self,
@@ -134,7 +142,16 @@ impl<S: Alter> SqlKeeper<S> {
     {
         let text = self.text.as_str();
         let is_there = is_last(self.last, moment);
-        let made = ask_to_add(&mut self.connection, text, is_there, &code, terms, moment);
+        let is_later = is_not_before(self.last, moment);
+        let made = ask_to_add(
+            &mut self.connection,
+            text,
+            is_there,
+            is_later,
+            &code,
+            terms,
+            moment,
+        );
         self.seen = None;
         self.kept = None;
         self.last = last_after(&made, self.last, moment);

@@ -1,6 +1,6 @@
 //! A change in one transaction: all of it or nothing, also over a stop.
 
-ghost use Rattle.std.specs.Prelude.{◌≡◌, false, option_map};
+ghost use Rattle.std.specs.Prelude.{◌≡◌, false, true, option_map};
 ghost use Rattle.sql_rows.specs.Content.{rows_in, tables_content};
 ghost use Rattle.sql_rows.specs.Texts.{kept_of};
 ghost use Rattle.sql_tables.specs.Statements.{HasIdleBook};
@@ -18,7 +18,7 @@ ghost use Rattle.sql_keeper.specs.Calls.{StoresCommit};
 use crate::faults::counted;
 use crate::keeper::SqlKeeper;
 use crate::kept_rows::{KeptRows, kept_over};
-use crate::last_moment::{is_last, last_after};
+use crate::last_moment::{is_last, is_not_before, last_after};
 use crate::putting::{Known, put_change};
 use crate::seen::SeenAccount;
 use crate::settling::test_change;
@@ -69,13 +69,15 @@ fn make_change<S: Alter>(
     kept: &Option<KeptRows>,
     text: &str,
     is_there: bool,
+    is_later: bool,
     change: &Change,
 ) -> Result<(), ReadFault>
     requires plain { conn.old.in_transaction ≡ false }
     requires idle { HasIdleBook (state S.Store conn.old) }
     requires seen { AreSeen seen.now (state S.Store conn.old) }
     requires kept { AreKept (shelf_names books.now) kept.now (state S.Store conn.old) }
-    requires is_there { Stands is_there (meta_with text.now change.now) (state S.Store conn.old) }
+    requires is_there { is_later ≡ true →
+        Stands is_there (meta_with text.now change.now) (state S.Store conn.old) }
     ensures plain { conn.new.in_transaction ≡ false }
     ensures commits { CommitsWhole (BecomesOver (shelf_names books.now) text.now change.now)
         (state S.Store conn.old) (state S.Store conn.new) result }
@@ -85,6 +87,9 @@ fn make_change<S: Alter>(
     // For the prover alone: looking at the value makes known here what its type keeps.
     let _named = change.rows.as_of();
     let _moment = change.moment.seconds();
+    if !is_later {
+        return Err(ReadFault::Rules);
+    }
     let are_new = test_change(conn, alloc, books, seen, change)?;
     let texts = kept_texts(alloc, &change.number, &change.kept)?;
     let known = Known {
@@ -106,13 +111,15 @@ fn ask_to_change<S: Alter>(
     kept: &Option<KeptRows>,
     text: &str,
     is_there: bool,
+    is_later: bool,
     change: &Change,
 ) -> Result<(), ReadFault>
     requires plain { conn.old.in_transaction ≡ false }
     requires idle { HasIdleBook (state S.Store conn.old) }
     requires seen { AreSeen seen.now (state S.Store conn.old) }
     requires kept { AreKept (shelf_names books.now) kept.now (state S.Store conn.old) }
-    requires is_there { Stands is_there (meta_with text.now change.now) (state S.Store conn.old) }
+    requires is_there { is_later ≡ true →
+        Stands is_there (meta_with text.now change.now) (state S.Store conn.old) }
     ensures plain { conn.new.in_transaction ≡ false }
     ensures commits { CommitsStanding (BecomesOver (shelf_names books.now) text.now change.now)
         (state S.Store conn.old) (state S.Store conn.new) result }
@@ -120,7 +127,9 @@ fn ask_to_change<S: Alter>(
         (state S.Store conn.old) (state S.Store conn.new) result }
 {
     still_open(conn)?;
-    make_change(conn, alloc, books, seen, kept, text, is_there, change)
+    make_change(
+        conn, alloc, books, seen, kept, text, is_there, is_later, change,
+    )
 }
 
 impl<S: Alter> SqlKeeper<S> {
@@ -132,8 +141,9 @@ impl<S: Alter> SqlKeeper<S> {
     ///
     /// # Errors
     /// Lack of memory; a fault of the store, which is counted, as is a change that may not be
-    /// written, or has a number that is taken.
-    // rule: tidy-rows, database-writes.numbers-free, database-writes.commits-change, stop-commit
+    /// written, has a number that is taken, or is of a moment before the last one.
+    // rule: tidy-rows, database-writes.numbers-free, database-writes.commits-change, stop-commit,
+    //   rows-ruled.timely
     pub fn commit(&mut self, change: Change) -> Result<(), StoreFault>
         ensures { StoresCommit S.Store change
             (Becomes (names_in self.old) self.old.text change (trees_in S.Store self.old))
@@ -141,6 +151,7 @@ impl<S: Alter> SqlKeeper<S> {
     {
         let text = self.text.as_str();
         let is_there = is_last(self.last, change.moment);
+        let is_later = is_not_before(self.last, change.moment);
         let made = ask_to_change(
             &mut self.connection,
             self.alloc,
@@ -149,6 +160,7 @@ impl<S: Alter> SqlKeeper<S> {
             &self.kept,
             text,
             is_there,
+            is_later,
             &change,
         );
         let seen = self.seen.take();

@@ -1,6 +1,6 @@
 //! The last moment that a keeper knows, after a call that writes one.
 
-ghost use Rattle.std.specs.Prelude.{◌≡◌, ◌==◌, OnErr, OnOk};
+ghost use Rattle.std.specs.Prelude.{◌≡◌, ◌==◌, nat_le, OnErr, OnOk};
 
 use sql_tables::ReadFault;
 use units::Moment;
@@ -21,4 +21,11 @@ pub(crate) fn is_last(last: Moment, moment: Moment) -> bool
     ensures { result ≡ (last == moment) }
 {
     last == moment
+}
+
+/// Whether a moment isn't before the last one that a keeper knows.
+pub(crate) fn is_not_before(last: Moment, moment: Moment) -> bool
+    ensures { result ≡ nat_le last moment }
+{
+    last.seconds() <= moment.seconds()
 }

@@ -238,7 +238,7 @@ fn migrate_ruled<S: Alter>(
 {
     let read = older_shelf(conn, alloc, version)?;
     ask_open(conn)?;
-    test_rows(alloc, conn, version, &read.own)?;
+    test_rows(alloc, conn, version, &read.own, read.last)?;
     migrate_tables(conn, alloc, version)
 }
 
@@ -252,7 +252,7 @@ fn books_of_any<S: Alter>(alloc: Global, conn: &mut Connection<S>) -> Result<Rea
         return migrate_ruled(conn, alloc, version);
     }
     let read = latest_books(alloc, conn)?;
-    test_rows(alloc, conn, LATEST, &read.own)?;
+    test_rows(alloc, conn, LATEST, &read.own, read.last)?;
     Ok(read)
 }
 

@@ -6,6 +6,8 @@ ghost use Rattle.identifiers.specs.Texts.{is_account_number, is_reference, is_se
 ghost use Rattle.sql_keeper.specs.Content.{shelf_names};
 ghost use Rattle.voucher_rules.specs.Standing.{unspent};
 ghost use Rattle.sql_keeper.specs.RuledRows.{are_ruled_rows, is_ruled_addition, is_ruled_change};
+ghost use Rattle.sql_keeper.specs.RuledRows.{are_timely_charges, are_timely_rows};
+ghost use Rattle.sql_keeper.specs.RuledRows.{are_timely_sessions, is_timely_change};
 ghost use Rattle.sql_keeper.specs.RuledRows.{is_ruled_charge, is_ruled_group, is_ruled_swept};
 ghost use Rattle.commands.specs.Keys.{key_of};
 ghost use Rattle.sql_keeper.specs.RuledRows.{is_ruled_hold, is_ruled_kept, is_ruled_key};
@@ -244,6 +246,28 @@ fn are_charges(charges: &[ChargeRow]) -> bool
     charges.iter().all(|charge| is_ruled_charge(charge))
 }
 
+// ---- moments
+
+fn is_by(earlier: Moment, moment: Moment) -> bool
+    ensures { result ≡ nat_le earlier moment }
+{
+    earlier.seconds() <= moment.seconds()
+}
+
+fn are_timely_sessions(moment: Moment, sessions: &[Session]) -> bool
+    ensures { result ≡ are_timely_sessions moment sessions.now }
+{
+    sessions
+        .iter()
+        .all(|session| is_by(session.touched, moment))
+}
+
+fn are_timely_charges(moment: Moment, charges: &[ChargeRow]) -> bool
+    ensures { result ≡ are_timely_charges moment charges.now }
+{
+    charges.iter().all(|charge| is_by(charge.moment, moment))
+}
+
 fn are_terms(code: &VoucherCode, terms: VoucherTerms) -> bool
     ensures { result ≡ is_voucher code.now (voucher_row (unspent terms)) }
 {
@@ -283,6 +307,22 @@ fn is_kept(kept: &Option<KeptAnswer>) -> bool
     }
 }
 
+/// Whether no row of an account is of a moment after this one.
+fn are_timely_rows(moment: Moment, rows: &NamedRows) -> bool
+    ensures { result ≡ are_timely_rows moment rows.now }
+{
+    is_by(rows.as_of(), moment) && are_timely_sessions(moment, rows.sessions())
+}
+
+/// Whether no row that a change writes is of a moment after its own.
+// rule: rows-ruled.timely
+fn is_timely_change(change: &Change) -> bool
+    ensures { result ≡ is_timely_change change.now }
+{
+    are_timely_rows(change.moment, &change.rows)
+        && are_timely_charges(change.moment, &change.charges)
+}
+
 /// Whether the rows that a change writes, but for its texts, are in the rules of their tables,
 /// where the tariff books are those of the shelf.
 // rule: rows-ruled.ruled-change
@@ -294,6 +334,7 @@ pub(crate) fn is_ruled_change(books: &TariffShelf, change: &Change) -> bool
         && are_charges(&change.charges)
         && is_redeemed(&change.redeemed)
         && is_kept(&change.kept)
+        && is_timely_change(change)
 }
 
 /// Whether a voucher that is added at a moment is in the rules of its table, and the moment too.
@@ -306,10 +347,11 @@ pub(crate) fn is_ruled_addition(code: &VoucherCode, terms: VoucherTerms, moment:
 
 // ---- a sweep
 
-/// Whether the rows of an account as a sweep leaves them are in the rules of their tables.
+/// Whether the rows of an account as a sweep leaves them are in the rules of their tables, and none
+/// is of a moment after the sweep's.
 // rule: rows-ruled.ruled-change
-pub(crate) fn is_ruled_swept(books: &TariffShelf, account: &SweptAccount) -> bool
-    ensures { result ≡ is_ruled_swept (shelf_names books.now) account.now }
+pub(crate) fn is_ruled_swept(books: &TariffShelf, moment: Moment, account: &SweptAccount) -> bool
+    ensures { result ≡ is_ruled_swept (shelf_names books.now) moment account.now }
 {
-    are_rows(books, &account.number, &account.rows)
+    are_rows(books, &account.number, &account.rows) && are_timely_rows(moment, &account.rows)
 }

@@ -1,6 +1,6 @@
 //! A sweep in one transaction: each account at the moment, or nothing is changed, also over a stop.
 
-ghost use Rattle.std.specs.Prelude.{◌≡◌, false, IfOk, OnOk};
+ghost use Rattle.std.specs.Prelude.{◌≡◌, false, true, IfOk, OnOk};
 ghost use Rattle.sql_rows.specs.Content.{tables_content};
 ghost use Rattle.sql_rows.specs.Makes.{Makes};
 ghost use Rattle.sql_rules.specs.Columns.{is_moment};
@@ -8,6 +8,7 @@ ghost use Rattle.sql_tables.specs.Statements.{Attempts, HasBook, HasIdleBook, Ha
 ghost use Rattle.sql_keeper.specs.Content.{shelf_names};
 ghost use Rattle.sql_keeper.specs.Commits.{CommitsStanding, CommitsWhole};
 ghost use Rattle.sql_keeper.specs.Sweeps.{BecomesSwept, MakesSweep, SweepsOne, TransactsSweep};
+ghost use Rattle.sql_keeper.specs.Seen.{IsUpTo};
 ghost use Rattle.sql_keeper.specs.Sweeps.{with_swept};
 ghost use Rattle.sqlite.specs.Held.{state};
 ghost use Rattle.sqlite.specs.State.{HasCleanDisk};
@@ -17,7 +18,7 @@ use crate::counted_buckets::put_counted;
 use crate::faults::counted;
 use crate::held_groups::put_groups;
 use crate::keeper::SqlKeeper;
-use crate::last_moment::last_after;
+use crate::last_moment::{is_not_before, last_after};
 use crate::live_within::read_uncounted_within;
 use crate::putting::head_named;
 use crate::ruling::{is_moment, is_ruled_swept};
@@ -75,7 +76,7 @@ fn sweep_account<S: Alter>(
 {
     let rows = read_uncounted_within(tx, alloc, account, names)?;
     let swept = swept_of(alloc, account, rows, names, shelf, moment)?;
-    if !is_ruled_swept(names, &swept) {
+    if !is_ruled_swept(names, moment, &swept) {
         return Err(ReadFault::Rules);
     }
     put_swept(tx, names, &swept)?;
@@ -145,10 +146,12 @@ fn make_sweep<S: Alter>(
     names: &TariffShelf,
     text: &str,
     shelf: &TariffShelf,
+    is_later: bool,
     moment: Moment,
 ) -> Result<u64, ReadFault>
     requires plain { conn.old.in_transaction ≡ false }
     requires idle { HasIdleBook (state S.Store conn.old) }
+    requires later { is_later ≡ true → IsUpTo moment (state S.Store conn.old) }
     ensures plain { conn.new.in_transaction ≡ false }
     ensures commits { CommitsWhole (BecomesSwept (shelf_names names.now) text.now shelf.now moment)
         (state S.Store conn.old) (state S.Store conn.new) result }
@@ -158,6 +161,9 @@ fn make_sweep<S: Alter>(
     // For the prover alone: looking at the value makes known here what its type keeps.
     let _ranges = shelf.first();
     let _moment = moment.seconds();
+    if !is_later {
+        return Err(ReadFault::Rules);
+    }
     if !is_moment(moment) {
         return Err(ReadFault::Rules);
     }
@@ -171,10 +177,12 @@ fn ask_to_sweep<S: Alter>(
     names: &TariffShelf,
     text: &str,
     shelf: &TariffShelf,
+    is_later: bool,
     moment: Moment,
 ) -> Result<u64, ReadFault>
     requires plain { conn.old.in_transaction ≡ false }
     requires idle { HasIdleBook (state S.Store conn.old) }
+    requires later { is_later ≡ true → IsUpTo moment (state S.Store conn.old) }
     ensures plain { conn.new.in_transaction ≡ false }
     ensures commits { CommitsStanding
         (BecomesSwept (shelf_names names.now) text.now shelf.now moment)
@@ -183,7 +191,7 @@ fn ask_to_sweep<S: Alter>(
         IfOk result (λ n. n ≡ (tables_content (state S.Store conn.old).now.trees).count) }
 {
     still_open(conn)?;
-    make_sweep(conn, alloc, names, text, shelf, moment)
+    make_sweep(conn, alloc, names, text, shelf, is_later, moment)
 }
 
 impl<S: Alter> SqlKeeper<S> {
@@ -199,14 +207,23 @@ impl<S: Alter> SqlKeeper<S> {
     ///
     /// # Errors
     /// Lack of memory; a fault of the store, which is counted, as are rows that are no account's or
-    /// that may not be written.
+    /// that may not be written, and a moment before the last one.
     // rule: database-sweep.sweeps-accounts
     pub fn sweep(&mut self, shelf: &TariffShelf, moment: Moment) -> Result<u64, StoreFault>
         ensures { SweepsAll S.Store shelf.now moment self.old self.new result }
     {
         let text = self.text.as_str();
         let (alloc, names) = (self.alloc, &self.shelf);
-        let made = ask_to_sweep(&mut self.connection, alloc, names, text, shelf, moment);
+        let is_later = is_not_before(self.last, moment);
+        let made = ask_to_sweep(
+            &mut self.connection,
+            alloc,
+            names,
+            text,
+            shelf,
+            is_later,
+            moment,
+        );
         self.seen = None;
         self.kept = None;
         self.last = last_after(&made, self.last, moment);

@@ -35,14 +35,21 @@ use Rattle.sql_rows.specs.Values.{voucher_in_row, charge_in_row}
 use Rattle.sql_rows.specs.Values.{book_in_row, grant_book_in, allowance_in, covered_in_row}
 use Rattle.sql_rules.specs.Columns.{is_moment, is_numbering, is_some_money, is_in_bounds}
 use Rattle.sql_rules.specs.Columns.{are_some_blocks}
-use Rattle.sql_rules.specs.Rules.{is_ruled_account, is_ruled_allowance}
+use Rattle.std.specs.List.{AllByRecursion}
+use Rattle.sqlite_trees.proofs.ListLemmas.{all_weaker}
+use Rattle.sql_tables.specs.Keyed.{IsStored}
+use Rattle.sql_rows.specs.declared.head.HeadColumns.{HeadColumns}
+use Rattle.reserving.specs.declared.session.Session.{Session}
+use Rattle.ledger.specs.declared.charge.ChargeRow.{ChargeRow}
+use Rattle.sql_rules.specs.Rules.{is_by, is_ruled_account, is_ruled_allowance, is_timely_at}
+use Rattle.sql_rules.specs.Rules.{passes_at, rule_at}
 use Rattle.sql_rules.specs.Rules.{is_ruled_answer, is_ruled_book, is_ruled_bucket, is_ruled_charge}
 use Rattle.sql_rules.specs.Rules.{is_ruled_counter, is_ruled_covered, is_ruled_grant_book}
 use Rattle.sql_rules.specs.Rules.{is_ruled_group, is_ruled_hold, is_ruled_meta, is_ruled_session}
 use Rattle.sql_rules.specs.Rules.{is_ruled_voucher}
-use Rattle.sql_rules.specs.Ruled.{AreInRules, IsInRules, is_account, is_answer, is_book, is_bucket}
+use Rattle.sql_rules.specs.Ruled.{AreInRules, AreTimely, IsInRules, is_account, is_answer, is_book, is_bucket}
 use Rattle.sql_rules.specs.Ruled.{is_charge, is_counter, is_group, is_session, is_voucher}
-use Rattle.sql_rules.specs.Tables.{AreRuled, IsRuledAt}
+use Rattle.sql_rules.specs.Tables.{AreRuled, last_kept, table_at}
 use Rattle.sql_rules.proofs.Decoded.{account_told, answer_told, book_told, bucket_told, charge_told}
 use Rattle.sql_rules.proofs.Decoded.{counter_told, covered_told, grant_book_told, group_told}
 use Rattle.sql_rules.proofs.Decoded.{hold_told, meta_told, number_key, session_told}
@@ -92,14 +99,54 @@ alone (r ∷ s ∷ more) same up =
     ∙ ap is_eq (tied_itself value_cmp_total (rowid r)) in
     absurd (let clash : true ≡ false = sym tie ∙ up.0.0 in cc)
 
+-- the moments of a row, as it is decoded
+second_told : (r : Row) → nat_in (column (drop 1 r) 2) ≡ nat_in (column r 3)
+second_told [] = refl
+second_told (v ∷ cells) = refl
+
+third_told : (r : Row) → nat_in (column (drop 1 r) 3) ≡ nat_in (column r 4)
+third_told [] = refl
+third_told (v ∷ cells) = refl
+
+by_from : (n last : ℕ) → nat_le n last ≡ true → n ≤ last
+by_from n last e = grind (arith, nat_tests, e)
+
+-- each row is in its rules
+pub rows_in_rules : (shelf : Shelf) (trees : Trees) → AreRuled shelf latest trees → (at : ℕ)
+    → at < 14 → AllByRecursion (λ r. IsTrue (rule_at shelf at r)) (trees (table_at at).tree)
+rows_in_rules shelf trees all at low =
+    all_weaker (λ r. IsTrue (passes_at shelf (last_kept trees) at r))
+    (λ r. IsTrue (rule_at shelf at r))
+    (λ r e. (and_parts (rule_at shelf at r) (is_timely_at (last_kept trees) at r) e).0)
+    (trees (table_at at).tree) (all at low).rows
+
+record HasRows (shelf : Shelf) (trees : Trees) (at : ℕ) : Type 0 where
+  pub stored : IsStored (trees (table_at at).tree)
+  pub rows : AllByRecursion (λ r. IsTrue (rule_at shelf at r)) (trees (table_at at).tree)
+
 module _ (shelf : Shelf) (trees : Trees) (fits : Fits book_schema trees)
     (all : AreRuled shelf latest trees) where
-  ruled : (at : ℕ) → at < 14 → IsRuledAt shelf at trees
-  ruled at low = all at low
+  abbrev last : ℕ
+  last = last_kept trees
+
+  -- in its rules
+  ruled : (at : ℕ) → at < 14 → HasRows shelf trees at
+  ruled at low = record {
+    stored = (all at low).stored;
+    rows = rows_in_rules shelf trees all at low;
+  }
+
+  -- and not of a moment after the last
+  timely : (at : ℕ) → at < 14
+      → AllByRecursion (λ r. IsTrue (is_timely_at last at r)) (trees (table_at at).tree)
+  timely at low =
+      all_weaker (λ r. IsTrue (passes_at shelf last at r)) (λ r. IsTrue (is_timely_at last at r))
+      (λ r e. (and_parts (rule_at shelf at r) (is_timely_at last at r) e).1)
+      (trees (table_at at).tree) (all at low).rows
 
   one_meta : length (trees meta.tree) ≤ 1
   one_meta =
-      let so : IsRuledAt shelf 0 trees = ruled 0 (omega arith) in
+      let so : HasRows shelf trees 0 = ruled 0 (omega arith) in
       alone (trees meta.tree) (λ r s h k.
       one_row meta.primary book_schema meta (inl refl) (key_index meta) (inl refl) refl refl refl
       trees fits so.stored meta_key
@@ -157,8 +204,28 @@ module _ (shelf : Shelf) (trees : Trees) (fits : Fits book_schema trees)
       (subst (λ x. is_answer b k t x (answer_in_row (drop 1 r)) ≡ true)
       (eqb-true n number (sym (number_last n number) ∙ last)) in')))
 
-  account_rows : (a : List ℕ) → AreInRules shelf a (rows_in trees a)
+  account_times : (a : List ℕ) → AreTimely last (rows_in trees a)
+  account_times a = record {
+    head = λ h e.
+        let it = found_in accounts trees (is_by 3 last) (timely 1 (omega arith)) head_in
+        (head_key a) h e in
+        subst (λ (x : HeadColumns). x.as_of ≤ last) it.3
+        (subst (λ n. n ≤ last) (sym (second_told it.0)) (by_from _ last it.2));
+    sessions = λ s x e.
+        let it = found_in sessions trees (is_by 4 last) (timely 4 (omega arith)) session_in_row
+        (session_key a s) x e in
+        subst (λ (y : Session). y.touched ≤ last) it.3
+        (subst (λ n. n ≤ last) (sym (third_told it.0)) (by_from _ last it.2));
+    charges = λ n x e.
+        let it = found_in charges trees (is_by 3 last) (timely 9 (omega arith)) charge_in_row
+        (charge_key a n) x e in
+        subst (λ (y : ChargeRow). y.moment ≤ last) it.3
+        (subst (λ m. m ≤ last) (sym (second_told it.0)) (by_from _ last it.2));
+  }
+
+  account_rows : (a : List ℕ) → AreInRules shelf last a (rows_in trees a)
   account_rows a = record {
+    timely = account_times a;
     head = λ h e.
         let it = found_in accounts trees is_ruled_account (ruled 1 (omega arith)).rows head_in
         (head_key a) h e in

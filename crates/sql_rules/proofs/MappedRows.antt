@@ -1,6 +1,6 @@
 -- Rows in their rules, and the same under their keys.
-use Rattle.std.proofs.Common.{◌≡◌, ◌<◌, ◌≤◌, ℕ, zero, suc, ◌+◌, List, [], ◌∷◌, map, drop, take}
-use Rattle.std.proofs.Common.{length, Bool, true, false, not, ◌||◌, Some, None, is_eq, IsTrue}
+use Rattle.std.proofs.Common.{◌≡◌, ◌<◌, ◌≤◌, ℕ, zero, suc, ◌+◌, List, [], ◌∷◌, drop, take}
+use Rattle.std.proofs.Common.{length, Bool, true, false, not, ◌||◌, ◌&&◌, Some, None, is_eq, IsTrue}
 use Rattle.std.proofs.Common.{refl, sym, ap, subst, ◌∙◌, arith, inl, inr}
 use Rattle.std.specs.FinMap.{get-from_entries}
 use Rattle.std.specs.FinMap.Entries.{find as look_in}
@@ -24,9 +24,10 @@ use Rattle.sql_tables.specs.Keyed.{entries_of, key_of, look, IsStored}
 use Rattle.sql_tables.specs.Schema.{book_schema, key_index, latest}
 use Rattle.sql_tables.specs.Statements.{AreStored}
 use Rattle.sql_tables.proofs.Selections.{full_key, meets, met_has, met_some, one_row}
+use Rattle.sql_rules.proofs.Lookups.{untimed}
 use Rattle.sql_rules.specs.Mapped.{AreMapped, IsMapped}
-use Rattle.sql_rules.specs.Rules.{rule_at}
-use Rattle.sql_rules.specs.Tables.{AreRuled, places_from, table_at}
+use Rattle.sql_rules.specs.Rules.{passes_at}
+use Rattle.sql_rules.specs.Tables.{AreRuled, last_kept, places_from, table_at}
 
 -- ---- a key has no NULL
 
@@ -277,44 +278,47 @@ keyed (suc (suc (suc (suc (suc (suc (suc (suc (suc (suc (suc (suc (suc zero)))))
 keyed (suc (suc (suc (suc (suc (suc (suc (suc (suc (suc (suc (suc (suc (suc n)))))))))))))) low =
     absurd (omega (arith, low))
 
-free_rule : (shelf : Shelf) (at : ℕ) (r : Row) →
-    rule_at shelf at (Null ∷ drop 1 r) ≡ rule_at shelf at r
-free_rule shelf zero [] = refl
-free_rule shelf zero (v ∷ cells) = refl
-free_rule shelf (suc zero) [] = refl
-free_rule shelf (suc zero) (v ∷ cells) = refl
-free_rule shelf (suc (suc zero)) [] = refl
-free_rule shelf (suc (suc zero)) (v ∷ cells) = refl
-free_rule shelf (suc (suc (suc zero))) [] = refl
-free_rule shelf (suc (suc (suc zero))) (v ∷ cells) = refl
-free_rule shelf (suc (suc (suc (suc zero)))) [] = refl
-free_rule shelf (suc (suc (suc (suc zero)))) (v ∷ cells) = refl
-free_rule shelf (suc (suc (suc (suc (suc zero))))) [] = refl
-free_rule shelf (suc (suc (suc (suc (suc zero))))) (v ∷ cells) = refl
-free_rule shelf (suc (suc (suc (suc (suc (suc zero)))))) [] = refl
-free_rule shelf (suc (suc (suc (suc (suc (suc zero)))))) (v ∷ cells) = refl
-free_rule shelf (suc (suc (suc (suc (suc (suc (suc zero))))))) [] = refl
-free_rule shelf (suc (suc (suc (suc (suc (suc (suc zero))))))) (v ∷ cells) = refl
-free_rule shelf (suc (suc (suc (suc (suc (suc (suc (suc zero)))))))) [] = refl
-free_rule shelf (suc (suc (suc (suc (suc (suc (suc (suc zero)))))))) (v ∷ cells) = refl
-free_rule shelf (suc (suc (suc (suc (suc (suc (suc (suc (suc zero))))))))) [] = refl
-free_rule shelf (suc (suc (suc (suc (suc (suc (suc (suc (suc zero))))))))) (v ∷ cells) = refl
-free_rule shelf (suc (suc (suc (suc (suc (suc (suc (suc (suc (suc zero)))))))))) [] = refl
-free_rule shelf (suc (suc (suc (suc (suc (suc (suc (suc (suc (suc zero)))))))))) (v ∷ cells) = refl
-free_rule shelf (suc (suc (suc (suc (suc (suc (suc (suc (suc (suc (suc zero))))))))))) [] = refl
-free_rule shelf (suc (suc (suc (suc (suc (suc (suc (suc (suc (suc (suc zero))))))))))) (v ∷ cells) =
+free_rule : (shelf : Shelf) (last at : ℕ) (r : Row) →
+    passes_at shelf last at (Null ∷ drop 1 r) ≡ passes_at shelf last at r
+free_rule shelf last zero [] = refl
+free_rule shelf last zero (v ∷ cells) = refl
+free_rule shelf last (suc zero) [] = refl
+free_rule shelf last (suc zero) (v ∷ cells) = refl
+free_rule shelf last (suc (suc zero)) [] = refl
+free_rule shelf last (suc (suc zero)) (v ∷ cells) = refl
+free_rule shelf last (suc (suc (suc zero))) [] = refl
+free_rule shelf last (suc (suc (suc zero))) (v ∷ cells) = refl
+free_rule shelf last (suc (suc (suc (suc zero)))) [] = refl
+free_rule shelf last (suc (suc (suc (suc zero)))) (v ∷ cells) = refl
+free_rule shelf last (suc (suc (suc (suc (suc zero))))) [] = refl
+free_rule shelf last (suc (suc (suc (suc (suc zero))))) (v ∷ cells) = refl
+free_rule shelf last (suc (suc (suc (suc (suc (suc zero)))))) [] = refl
+free_rule shelf last (suc (suc (suc (suc (suc (suc zero)))))) (v ∷ cells) = refl
+free_rule shelf last (suc (suc (suc (suc (suc (suc (suc zero))))))) [] = refl
+free_rule shelf last (suc (suc (suc (suc (suc (suc (suc zero))))))) (v ∷ cells) = refl
+free_rule shelf last (suc (suc (suc (suc (suc (suc (suc (suc zero)))))))) [] = refl
+free_rule shelf last (suc (suc (suc (suc (suc (suc (suc (suc zero)))))))) (v ∷ cells) = refl
+free_rule shelf last (suc (suc (suc (suc (suc (suc (suc (suc (suc zero))))))))) [] = refl
+free_rule shelf last (suc (suc (suc (suc (suc (suc (suc (suc (suc zero))))))))) (v ∷ cells) = refl
+free_rule shelf last (suc (suc (suc (suc (suc (suc (suc (suc (suc (suc zero)))))))))) [] = refl
+free_rule shelf last (suc (suc (suc (suc (suc (suc (suc (suc (suc (suc zero)))))))))) (v ∷ cells) = refl
+free_rule shelf last (suc (suc (suc (suc (suc (suc (suc (suc (suc (suc (suc zero))))))))))) [] = refl
+free_rule shelf last (suc (suc (suc (suc (suc (suc (suc (suc (suc (suc (suc zero))))))))))) (v ∷ cells) =
     refl
-free_rule shelf (suc (suc (suc (suc (suc (suc (suc (suc (suc (suc (suc (suc zero)))))))))))) [] =
+free_rule shelf last (suc (suc (suc (suc (suc (suc (suc (suc (suc (suc (suc (suc zero)))))))))))) [] =
     refl
-free_rule shelf (suc (suc (suc (suc (suc (suc (suc (suc (suc (suc (suc (suc zero))))))))))))
+free_rule shelf last (suc (suc (suc (suc (suc (suc (suc (suc (suc (suc (suc (suc zero))))))))))))
     (v ∷ cells) = refl
-free_rule shelf (suc (suc (suc (suc (suc (suc (suc (suc (suc (suc (suc (suc (suc zero)))))))))))))
+free_rule shelf last (suc (suc (suc (suc (suc (suc (suc (suc (suc (suc (suc (suc (suc zero)))))))))))))
     [] = refl
-free_rule shelf (suc (suc (suc (suc (suc (suc (suc (suc (suc (suc (suc (suc (suc zero)))))))))))))
+free_rule shelf last (suc (suc (suc (suc (suc (suc (suc (suc (suc (suc (suc (suc (suc zero)))))))))))))
     (v ∷ cells) = refl
-free_rule shelf
+free_rule shelf last
     (suc (suc (suc (suc (suc (suc (suc (suc (suc (suc (suc (suc (suc (suc n))))))))))))))
-    r = refl
+    r =
+    let high : 9 < (suc (suc (suc (suc (suc (suc (suc (suc (suc (suc (suc (suc (suc (suc n)))))))))))))) =
+    omega arith in
+    ap (λ b. true && b) (untimed last _ (Null ∷ drop 1 r) high ∙ sym (untimed last _ r high))
 
 module _ (shelf : Shelf) (trees : Trees) (fits : Fits book_schema trees) where
   pub full_rows : (table : Table) → IsKeyed table → (r : Row) → Has (trees table.tree) r
@@ -334,7 +338,7 @@ module _ (shelf : Shelf) (trees : Trees) (fits : Fits book_schema trees) where
   ruled_mapped all at low =
       let is = keyed at low in
       rows_mapped (table_at at) is.tabled is.listed is.guarding trees fits (all at low).stored
-      (rule_at shelf at) (free_rule shelf at) (all at low).rows
+      (passes_at shelf (last_kept trees) at) (free_rule shelf (last_kept trees) at) (all at low).rows
 
   -- and what is so under its key is a row in its rules
   pub mapped_ruled : AreStored trees → AreMapped shelf trees → AreRuled shelf latest trees
@@ -346,5 +350,5 @@ module _ (shelf : Shelf) (trees : Trees) (fits : Fits book_schema trees) where
       record {
         stored = here;
         rows = mapped_rows (table_at at) is.tabled is.listed is.guarding trees fits here
-            (rule_at shelf at) (free_rule shelf at) (so at low) (full_rows (table_at at) is);
+            (passes_at shelf (last_kept trees) at) (free_rule shelf (last_kept trees) at) (so at low) (full_rows (table_at at) is);
       }

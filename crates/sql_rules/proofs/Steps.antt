@@ -1,6 +1,6 @@
 -- One more table whose rows are in their rules.
 use Rattle.std.proofs.Common.{◌≡◌, ◌<◌, ℕ, zero, suc, ◌+◌, List, [], map, length, sym, ap, subst}
-use Rattle.std.proofs.Common.{◌∙◌, refl, arith, Ok, Err, Result, inl}
+use Rattle.std.proofs.Common.{◌∙◌, ◌&&◌, true, refl, arith, Ok, Err, Result, inl}
 use Rattle.shelves.specs.Shelves.{Shelf}
 use Rattle.sqlite_value.specs.Order.{Row, column}
 use Rattle.sqlite_trees.specs.declared.store.Store.{Ghosts}
@@ -12,37 +12,43 @@ use Rattle.sqlite.proofs.StateLemmas.{survives_then}
 use Rattle.sql_tables.specs.Schema.{schema_at}
 use Rattle.sql_tables.proofs.Keeps.{spares_then}
 use Rattle.sql_tables.specs.declared.fault.OpenFault.{OpenFault}
-use Rattle.sql_rules.specs.Rules.{rule_at}
+use Rattle.sql_rules.specs.Rules.{passes_at}
 use Rattle.sql_rules.specs.Tables.{table_at, places_at, places_from, IsTable, IsRuledAt}
-use Rattle.sql_rules.specs.Tables.{AreRuled, AreRuledTo, Tells}
+use Rattle.sql_rules.specs.Tables.{AreRuled, AreRuledBy, AreRuledTo, Tells, last_kept}
 use Rattle.sql_rules.specs.Walks.{Pass}
+use Rattle.sql_rules.proofs.Lookups.{untimed}
 use Rattle.sql_rules.proofs.Standing.{rows_pass, rows_stand}
 
 -- a test sees in a row as it is selected what it sees in the row that is stored
-same_rule : (shelf : Shelf) (at : ℕ) (r : Row)
-    → rule_at shelf at (map (column r) (places_at at)) ≡ rule_at shelf at r
-same_rule shelf zero r = refl
-same_rule shelf (suc zero) r = refl
-same_rule shelf (suc (suc zero)) r = refl
-same_rule shelf (suc (suc (suc zero))) r = refl
-same_rule shelf (suc (suc (suc (suc zero)))) r = refl
-same_rule shelf (suc (suc (suc (suc (suc zero))))) r = refl
-same_rule shelf (suc (suc (suc (suc (suc (suc zero)))))) r = refl
-same_rule shelf (suc (suc (suc (suc (suc (suc (suc zero))))))) r = refl
-same_rule shelf (suc (suc (suc (suc (suc (suc (suc (suc zero)))))))) r = refl
-same_rule shelf (suc (suc (suc (suc (suc (suc (suc (suc (suc zero))))))))) r = refl
-same_rule shelf (suc (suc (suc (suc (suc (suc (suc (suc (suc (suc zero)))))))))) r = refl
-same_rule shelf (suc (suc (suc (suc (suc (suc (suc (suc (suc (suc (suc zero))))))))))) r = refl
-same_rule shelf (suc (suc (suc (suc (suc (suc (suc (suc (suc (suc (suc (suc zero)))))))))))) r =
+same_rule : (shelf : Shelf) (last : ℕ) (at : ℕ) (r : Row)
+    → passes_at shelf last at (map (column r) (places_at at)) ≡ passes_at shelf last at r
+same_rule shelf last zero r = refl
+same_rule shelf last (suc zero) r = refl
+same_rule shelf last (suc (suc zero)) r = refl
+same_rule shelf last (suc (suc (suc zero))) r = refl
+same_rule shelf last (suc (suc (suc (suc zero)))) r = refl
+same_rule shelf last (suc (suc (suc (suc (suc zero))))) r = refl
+same_rule shelf last (suc (suc (suc (suc (suc (suc zero)))))) r = refl
+same_rule shelf last (suc (suc (suc (suc (suc (suc (suc zero))))))) r = refl
+same_rule shelf last (suc (suc (suc (suc (suc (suc (suc (suc zero)))))))) r = refl
+same_rule shelf last (suc (suc (suc (suc (suc (suc (suc (suc (suc zero))))))))) r = refl
+same_rule shelf last (suc (suc (suc (suc (suc (suc (suc (suc (suc (suc zero)))))))))) r = refl
+same_rule shelf last (suc (suc (suc (suc (suc (suc (suc (suc (suc (suc (suc zero))))))))))) r = refl
+same_rule shelf last (suc (suc (suc (suc (suc (suc (suc (suc (suc (suc (suc (suc zero)))))))))))) r =
     refl
-same_rule shelf (suc (suc (suc (suc (suc (suc (suc (suc (suc (suc (suc (suc (suc zero))))))))))))) r
+same_rule shelf last (suc (suc (suc (suc (suc (suc (suc (suc (suc (suc (suc (suc (suc zero))))))))))))) r
     = refl
-same_rule shelf
-    (suc (suc (suc (suc (suc (suc (suc (suc (suc (suc (suc (suc (suc (suc n)))))))))))))) r = refl
+same_rule shelf last
+    (suc (suc (suc (suc (suc (suc (suc (suc (suc (suc (suc (suc (suc (suc n)))))))))))))) r =
+    let high : 9 < (suc (suc (suc (suc (suc (suc (suc (suc (suc (suc (suc (suc (suc (suc n)))))))))))))) = omega arith in
+    ap (λ b. true && b)
+    (untimed last (suc (suc (suc (suc (suc (suc (suc (suc (suc (suc (suc (suc (suc (suc n))))))))))))))
+    (map (column r) (places_at (suc (suc (suc (suc (suc (suc (suc (suc (suc (suc (suc (suc (suc (suc n)))))))))))))))) high
+    ∙ sym (untimed last _ r high))
 
 -- ---- one table
 
-module _ {S : Type 0} (g : Ghosts S) (shelf : Shelf) (v at : ℕ) (text : List ℕ)
+module _ {S : Type 0} (g : Ghosts S) (shelf : Shelf) (last : ℕ) (v at : ℕ) (text : List ℕ)
     (is : IsTable v text at) (old was : Held S) (new : State) (rows : List Row)
     (then' : IsUnchanged (state g old) (state g was))
     (shown : Shown text [] (state g was) new rows)
@@ -53,18 +59,18 @@ module _ {S : Type 0} (g : Ghosts S) (shelf : Shelf) (v at : ℕ) (text : List �
   has : (state g was).now.schema ≡ schema_at v
   has = ap (λ (d : Database). d.schema) stays ∙ so
 
-  pub table_stands : Pass (rule_at shelf at) rows → IsRuledAt shelf at (state g old).now.trees
+  pub table_stands : Pass (passes_at shelf last at) rows → IsRuledAt shelf last at (state g old).now.trees
   table_stands pass =
       let all = rows_stand (table_at at).tree (places_from 1 (length (table_at at).columns)) v text
-      is (rule_at shelf at) (same_rule shelf at) (state g was) new rows has shown pass in
-      subst (λ (d : Database). IsRuledAt shelf at d.trees) stays
+      is (passes_at shelf last at) (same_rule shelf last at) (state g was) new rows has shown pass in
+      subst (λ (d : Database). IsRuledAt shelf last at d.trees) stays
       (record { stored = all.0; rows = all.1 })
 
-  pub table_passes : IsRuledAt shelf at (state g old).now.trees → Pass (rule_at shelf at) rows
+  pub table_passes : IsRuledAt shelf last at (state g old).now.trees → Pass (passes_at shelf last at) rows
   table_passes so' =
-      let here = subst (λ (d : Database). IsRuledAt shelf at d.trees) (sym stays) so' in
+      let here = subst (λ (d : Database). IsRuledAt shelf last at d.trees) (sym stays) so' in
       rows_pass (table_at at).tree (places_from 1 (length (table_at at).columns)) v text is
-      (rule_at shelf at) (same_rule shelf at) (state g was) new rows has shown here.stored here.rows
+      (passes_at shelf last at) (same_rule shelf last at) (state g was) new rows has shown here.stored here.rows
 
 -- ---- several tables in turn
 
@@ -76,48 +82,48 @@ to_next P (suc k) so one (suc i) low =
     to_next (λ j. P (suc j)) k (λ j l. so (suc j) (omega (arith, l))) one i (omega (arith, low))
 
 -- so far
-abbrev pub FoundTo : Shelf → ℕ → State → State → Type 0
-FoundTo shelf k old now = Survives old now (λ _. ⊥)
-    × (HasCleanDisk now → IsUnchanged old now × AreRuledTo shelf k now.now.trees)
+abbrev pub FoundTo : Shelf → ℕ → ℕ → State → State → Type 0
+FoundTo shelf last k old now = Survives old now (λ _. ⊥)
+    × (HasCleanDisk now → IsUnchanged old now × AreRuledTo shelf last k now.now.trees)
 
-pub found_first : {A : Type 0} (shelf : Shelf) (a b : State) (u : A)
-    → Tells (IsRuledAt shelf 0) a b (Ok u) → FoundTo shelf 1 a b
-found_first shelf a b u f = (
+pub found_first : {A : Type 0} (shelf : Shelf) (last : ℕ) (a b : State) (u : A)
+    → Tells (IsRuledAt shelf last 0) a b (Ok u) → FoundTo shelf last 1 a b
+found_first shelf last a b u f = (
   f.survives,
   λ clean.
       let here = f.found clean in (
         here.0,
-        to_next (λ i. IsRuledAt shelf i b.now.trees) 0 (λ i low. absurd (omega (arith, low)))
+        to_next (λ i. IsRuledAt shelf last i b.now.trees) 0 (λ i low. absurd (omega (arith, low)))
             here.1,
       ),
 )
 
-pub found_next : {A : Type 0} (shelf : Shelf) (k : ℕ) (a b c : State) (u : A)
-    → FoundTo shelf k a b → Tells (IsRuledAt shelf k) b c (Ok u) → FoundTo shelf (k + 1) a c
-found_next shelf k a b c u so f = (
+pub found_next : {A : Type 0} (shelf : Shelf) (last : ℕ) (k : ℕ) (a b c : State) (u : A)
+    → FoundTo shelf last k a b → Tells (IsRuledAt shelf last k) b c (Ok u) → FoundTo shelf last (k + 1) a c
+found_next shelf last k a b c u so f = (
   survives_then a b c (λ _. ⊥) (λ _. ⊥) (λ _. ⊥) (λ clean db none. none) (λ clean db none. none)
       so.0 f.survives,
   λ clean.
       let here = so.1 (omega (arith, f.survives.clean, clean)) in
       let more = f.found clean in
-      let before : AreRuledTo shelf k c.now.trees =
-      subst (λ (d : Database). AreRuledTo shelf k d.trees) (sym more.0.0.now_is) here.1 in (
+      let before : AreRuledTo shelf last k c.now.trees =
+      subst (λ (d : Database). AreRuledTo shelf last k d.trees) (sym more.0.0.now_is) here.1 in (
         unchanged_then a b c here.0 more.0,
-        to_next (λ i. IsRuledAt shelf i c.now.trees) k before more.1,
+        to_next (λ i. IsRuledAt shelf last i c.now.trees) k before more.1,
       ),
 )
 
-pub found_not : {A B : Type 0} (shelf : Shelf) (v k : ℕ) (a b c : State) (e : OpenFault)
+pub found_not : {A B : Type 0} (shelf : Shelf) (last : ℕ) (v k : ℕ) (a b c : State) (e : OpenFault)
     (r : Result B OpenFault) → r ≡ Err e → (HasCleanDisk a → k < length (schema_at v).tables)
-    → FoundTo shelf k a b → Tells {A = A} (IsRuledAt shelf k) b c (Err e)
-    → Tells (AreRuled shelf v) a c r
-found_not shelf v k a b c e r is low so f = subst (Tells (AreRuled shelf v) a c) (sym is) (record {
+    → FoundTo shelf last k a b → Tells {A = A} (IsRuledAt shelf last k) b c (Err e)
+    → Tells (AreRuledBy shelf last v) a c r
+found_not shelf last v k a b c e r is low so f = subst (Tells (AreRuledBy shelf last v) a c) (sym is) (record {
   found = λ clean. tt;
   means = λ clean rules all.
       let here = so.1 (omega (arith, f.survives.clean, clean)) in
       let under = low (omega (arith, so.0.clean, f.survives.clean, clean)) in
       f.means clean rules
-      (subst (λ (d : Database). IsRuledAt shelf k d.trees) (sym here.0.0.now_is) (all k under));
+      (subst (λ (d : Database). IsRuledAt shelf last k d.trees) (sym here.0.0.now_is) (all k under));
   told = f.told;
   spares = λ clean. spares_then a b c (so.1 (omega (arith, f.survives.clean, clean))).0
       (f.spares clean);
@@ -125,10 +131,10 @@ found_not shelf v k a b c e r is low so f = subst (Tells (AreRuled shelf v) a c)
       (λ clean db none. none) so.0 f.survives;
 })
 
-pub none_found_not : {A B : Type 0} (shelf : Shelf) (v : ℕ) (a c : State) (e : OpenFault)
+pub none_found_not : {A B : Type 0} (shelf : Shelf) (last : ℕ) (v : ℕ) (a c : State) (e : OpenFault)
     (r : Result B OpenFault) → r ≡ Err e → 0 < length (schema_at v).tables
-    → Tells {A = A} (IsRuledAt shelf 0) a c (Err e) → Tells (AreRuled shelf v) a c r
-none_found_not shelf v a c e r is low f = subst (Tells (AreRuled shelf v) a c) (sym is) (record {
+    → Tells {A = A} (IsRuledAt shelf last 0) a c (Err e) → Tells (AreRuledBy shelf last v) a c r
+none_found_not shelf last v a c e r is low f = subst (Tells (AreRuledBy shelf last v) a c) (sym is) (record {
   found = λ clean. tt;
   means = λ clean rules all. f.means clean rules (all 0 low);
   told = f.told;
@@ -136,14 +142,14 @@ none_found_not shelf v a c e r is low f = subst (Tells (AreRuled shelf v) a c) (
   survives = f.survives;
 })
 
-pub found_all : {A : Type 0} (shelf : Shelf) (v k : ℕ) (a b : State) (u : A)
-    → (HasCleanDisk a → k ≡ length (schema_at v).tables) → FoundTo shelf k a b
-    → Tells (AreRuled shelf v) a b (Ok u)
-found_all shelf v k a b u end so = record {
+pub found_all : {A : Type 0} (shelf : Shelf) (last : ℕ) (v k : ℕ) (a b : State) (u : A)
+    → (HasCleanDisk a → k ≡ length (schema_at v).tables) → FoundTo shelf last k a b
+    → Tells (AreRuledBy shelf last v) a b (Ok u)
+found_all shelf last v k a b u end so = record {
   found = λ clean.
       let here = so.1 clean in
       let all = end (omega (arith, so.0.clean, clean)) in
-      (here.0, subst (λ n. AreRuledTo shelf n b.now.trees) all here.1);
+      (here.0, subst (λ n. AreRuledTo shelf last n b.now.trees) all here.1);
   means = λ clean. tt;
   told = tt;
   spares = λ clean. inl (so.1 clean).0;
@@ -151,8 +157,35 @@ found_all shelf v k a b u end so = record {
 }
 
 -- the schema stays that of the version
-pub still_ours : (shelf : Shelf) (v k : ℕ) (a b : State) → FoundTo shelf k a b
+pub still_ours : (shelf : Shelf) (last : ℕ) (v k : ℕ) (a b : State) → FoundTo shelf last k a b
     → (HasCleanDisk a → a.now.schema ≡ schema_at v) → HasCleanDisk b → b.now.schema ≡ schema_at v
-still_ours shelf v k a b so ours clean =
+still_ours shelf last v k a b so ours clean =
     ap (λ (d : Database). d.schema) (so.1 clean).0.0.now_is
     ∙ ours (omega (arith, so.0.clean, clean))
+
+-- where that is the last moment that is kept
+-- rule: rows-ruled.timely
+pub by_kept : {A : Type 0} (shelf : Shelf) (last v : ℕ) (a b : State) (r : Result A OpenFault)
+    → (HasCleanDisk a → last ≡ last_kept a.now.trees) → Tells (AreRuledBy shelf last v) a b r
+    → Tells (AreRuled shelf v) a b r
+by_kept shelf last v a b (Ok u) is t = record {
+  found = λ clean.
+      let it = t.found clean in
+      let was : HasCleanDisk a = omega (arith, t.survives.clean, clean) in
+      let at : last ≡ last_kept b.now.trees =
+      is was ∙ ap (λ (d : Database). last_kept d.trees) (sym it.0.0.now_is) in
+      (it.0, subst (λ n. AreRuledBy shelf n v b.now.trees) at it.1);
+  means = λ clean. tt;
+  told = tt;
+  spares = t.spares;
+  survives = t.survives;
+}
+by_kept shelf last v a b (Err e) is t = record {
+  found = λ clean. tt;
+  means = λ clean rules all.
+      let was : HasCleanDisk a = omega (arith, t.survives.clean, clean) in
+      t.means clean rules (subst (λ n. AreRuledBy shelf n v a.now.trees) (sym (is was)) all);
+  told = t.told;
+  spares = t.spares;
+  survives = t.survives;
+}

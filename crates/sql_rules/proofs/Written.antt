@@ -1,7 +1,7 @@
 -- Rows of tables whose content is in its rules, as the statements write them, are in their rules.
 use Rattle.std.proofs.Common.{◌≡◌, ◌≤◌, ◌<◌, ℕ, zero, suc, List, [], ◌∷◌, drop, length, Bool, true}
 use Rattle.std.proofs.Common.{false, not, Some, None, Option, refl, sym, ap, subst, ◌∙◌, arith}
-use Rattle.std.proofs.Common.{inl, inr, get_or, nat_eq, IsTrue}
+use Rattle.std.proofs.Common.{inl, inr, get_or, nat_eq, nat_le, IsTrue}
 use Rattle.std.specs.Prelude.{option_map, is_some}
 use Rattle.std.specs.FinMap.{get-from_entries}
 use Rattle.std.specs.Ordering.{eq_by_cmp}
@@ -41,13 +41,13 @@ use Rattle.sql_rows.specs.Values.{charge_in_row, book_in_row, grant_book_in, all
 use Rattle.sql_rows.specs.Values.{covered_in_row}
 use Rattle.sql_rows.proofs.rules.MetaRules.{right_at}
 use Rattle.sql_rules.specs.Columns.{is_moment}
-use Rattle.sql_rules.specs.Rules.{is_ruled_meta, rule_at}
+use Rattle.sql_rules.specs.Rules.{is_ruled_meta, is_timely_at, passes_at, rule_at}
 use Rattle.sql_rules.specs.Ruled.{IsInRules}
-use Rattle.sql_rules.specs.Tables.{AreRuled, table_at}
+use Rattle.sql_rules.specs.Tables.{AreRuled, last_kept, table_at}
 use Rattle.sql_rules.proofs.Encoded.{account_back, answer_back, book_back, bucket_back}
 use Rattle.sql_rules.proofs.Encoded.{charge_back, counter_back, covered_back, grant_book_back}
 use Rattle.sql_rules.proofs.Encoded.{group_back, hold_back, session_back, voucher_back}
-use Rattle.sql_rules.proofs.Lookups.{mapped}
+use Rattle.sql_rules.proofs.Lookups.{mapped, untimed}
 use Rattle.sql_rules.proofs.MappedRows.{full_rows, keyed, under_key}
 use Rattle.sql_rules.proofs.Typed.{check_at, number_column, text_column, typed_column}
 
@@ -88,6 +88,13 @@ typed_or v to = at (is_null v) refl
 some_of : {A : Type 0} (o : Option A) → is_some o ≡ true → (x : A) × (o ≡ Some x)
 some_of None e = absurd (cc e)
 some_of (Some x) e = (x, refl)
+
+third_of : (r : Row) → nat_in (column (drop 1 r) 2) ≡ nat_in (column r 3)
+third_of [] = refl
+third_of (v ∷ cells) = refl
+
+from_by : (n last : ℕ) → n ≤ last → nat_le n last ≡ true
+from_by n last by = grind (arith, nat_tests, by)
 
 fourth_at : (r : Row) → nat_in (column (drop 1 r) 3) ≡ nat_in (column r 4)
 fourth_at [] = refl
@@ -374,11 +381,41 @@ module _ (shelf : Shelf) (trees : Trees) (fits : Fits book_schema trees) where
           r has =
           absurd (omega (arith, low))
 
+      -- its moment isn't after the last
+      row_timely : (at : ℕ) → at < 14 → (r : Row) → Stands at r
+          → is_timely_at (last_kept trees) at r ≡ true
+      row_timely zero low r has = refl
+      row_timely (suc zero) low r has =
+          from_by _ (last_kept trees) (subst (λ n. n ≤ last_kept trees) (third_of r)
+          ((in'.rows (text_in (column r 1))).timely.head (head_in (drop 1 r))
+          (told 1 low head_in r _ has (account_of r has))))
+      row_timely (suc (suc zero)) low r has = refl
+      row_timely (suc (suc (suc zero))) low r has = refl
+      row_timely (suc (suc (suc (suc zero)))) low r has =
+          from_by _ (last_kept trees) (subst (λ n. n ≤ last_kept trees) (fourth_at r)
+          ((in'.rows (text_in (column r 1))).timely.sessions (text_in (column r 2))
+          (session_in_row (drop 1 r)) (told 4 low session_in_row r _ has (session_of r has))))
+      row_timely (suc (suc (suc (suc (suc zero))))) low r has = refl
+      row_timely (suc (suc (suc (suc (suc (suc zero)))))) low r has = refl
+      row_timely (suc (suc (suc (suc (suc (suc (suc zero))))))) low r has = refl
+      row_timely (suc (suc (suc (suc (suc (suc (suc (suc zero)))))))) low r has = refl
+      row_timely (suc (suc (suc (suc (suc (suc (suc (suc (suc zero))))))))) low r has =
+          from_by _ (last_kept trees) (subst (λ n. n ≤ last_kept trees) (third_of r)
+          ((in'.rows (text_in (column r 1))).timely.charges (nat_in (column r 2))
+          (charge_in_row (drop 1 r)) (told 9 low charge_in_row r _ has (charge_of r has))))
+      row_timely (suc (suc (suc (suc (suc (suc (suc (suc (suc (suc n)))))))))) low r has =
+          let high : 9 < (suc (suc (suc (suc (suc (suc (suc (suc (suc (suc n)))))))))) =
+          omega arith in
+          untimed (last_kept trees) (suc (suc (suc (suc (suc (suc (suc (suc (suc (suc n)))))))))) r
+          high
+
       -- rule: rows-ruled.in-rules
       pub rows_ruled : AreRuled shelf latest trees
       rows_ruled at low = record {
         stored = all_has (λ (t : Table). IsStored (trees t.tree)) book_schema.tables (table_at at)
             stored (keyed at low).tabled;
-        rows = all_from (λ r. IsTrue (rule_at shelf at r)) (trees (table_at at).tree)
-            (row_ruled at low);
+        rows = all_from (λ r. IsTrue (passes_at shelf (last_kept trees) at r))
+            (trees (table_at at).tree)
+            (λ r has. and_from (rule_at shelf at r) (is_timely_at (last_kept trees) at r)
+            (row_ruled at low r has) (row_timely at low r has));
       }

@@ -9,8 +9,8 @@ use Rattle.sqlite_trees.specs.Tree.{Trees}
 use Rattle.sqlite_schema.specs.declared.schema.Table.{Table}
 use Rattle.sql_tables.specs.Keyed.{look}
 use Rattle.sql_tables.specs.Schema.{book_schema}
-use Rattle.sql_rules.specs.Rules.{rule_at}
-use Rattle.sql_rules.specs.Tables.{table_at}
+use Rattle.sql_rules.specs.Rules.{passes_at}
+use Rattle.sql_rules.specs.Tables.{last_kept, table_at}
 
 -- the columns under each key pass the test; no test sees a rowid
 -- rule: rows-ruled.mapped: rows are in their rules exactly if what is under each key is; a put in
@@ -23,4 +23,4 @@ IsMapped rule table trees =
 -- rule: rows-ruled.mapped
 abbrev pub AreMapped : Shelf → Trees → Type 0
 AreMapped shelf trees = (at : ℕ) → at < length book_schema.tables
-    → IsMapped (rule_at shelf at) (table_at at) trees
+    → IsMapped (passes_at shelf (last_kept trees) at) (table_at at) trees

@@ -1,7 +1,8 @@
 -- Content that is in its rules: each row of it, as the statements write it, is in those of its
 -- table.
 -- Source: profile.
-use Rattle.std.specs.Prelude.{◌≡◌, ◌≤◌, ℕ, [], ◌∷◌, Bool, true, List, Some, None, IsTrue}
+use Rattle.std.specs.Prelude.{◌≡◌, ◌≤◌, ℕ, [], ◌∷◌, Bool, true, List, Option, Some, None, IsTrue}
+use Rattle.units.specs.Words.{Moment}
 use Rattle.identifiers.specs.Words.{AccountName, VoucherCode}
 use Rattle.buckets.specs.Words.{BucketAmount, BucketNumber}
 use Rattle.ledger.specs.Words.{ChargeNumber}
@@ -87,9 +88,22 @@ is_covered n blocks =
 
 -- ---- all of them
 
+-- the moment of the last accepted command; the first where nothing was written yet
+abbrev pub last_in : Option Meta → Moment
+last_in None = 0
+last_in (Some m) = m.last
+
+-- no account, session or charge is of a moment after this one
+-- rule: rows-ruled.timely
+pub record AreTimely (last : Moment) (r : TableRows) : Type 0 where
+  pub head : (h : HeadColumns) → r.head ≡ Some h → h.as_of ≤ last
+  pub sessions : (s : List ℕ) (x : Session) → r.sessions s ≡ Some x → x.touched ≤ last
+  pub charges : (n : ℕ) (x : ChargeRow) → r.charges n ≡ Some x → x.moment ≤ last
+
 -- what is stored of an account
 -- rule: rows-ruled.in-rules
-pub record AreInRules (shelf : Shelf) (a : List ℕ) (r : TableRows) : Type 0 where
+pub record AreInRules (shelf : Shelf) (last : Moment) (a : List ℕ) (r : TableRows) : Type 0 where
+  pub timely : AreTimely last r
   pub head : (h : HeadColumns) → r.head ≡ Some h → IsTrue (is_account a h)
   pub buckets : (n : ℕ) (b : BucketRow) → r.buckets n ≡ Some b → IsTrue (is_bucket b)
   pub counters : (g k : ℕ) (x : Counter) → r.counters g k ≡ Some x → IsTrue (is_counter x)
@@ -106,12 +120,17 @@ pub record AreInRules (shelf : Shelf) (a : List ℕ) (r : TableRows) : Type 0 wh
   pub allowances : (n : ℕ) → r.allowances n ≡ true → IsTrue (is_allowance n)
   pub covered : (n blocks : ℕ) → r.covered n ≡ Some blocks → IsTrue (is_covered n blocks)
 
--- rule: rows-ruled.in-rules: if rows are in their rules, so is the content of the tables; and rows
---   whose content is in its rules are in theirs, if they are as the statements write them
-pub record IsInRules (shelf : Shelf) (c : TablesContent) : Type 0 where
+-- the content, by these books and this last moment
+pub record IsInRulesBy (shelf : Shelf) (last : Moment) (c : TablesContent) : Type 0 where
   pub once : c.kept ≤ 1
   pub meta : (m : Meta) → c.meta ≡ Some m → IsTrue (is_meta m)
-  pub rows : (a : List ℕ) → AreInRules shelf a (c.rows a)
+  pub rows : (a : List ℕ) → AreInRules shelf last a (c.rows a)
   pub vouchers : (code : List ℕ) (x : VoucherColumns) → c.vouchers code ≡ Some x
       → IsTrue (is_voucher code x)
   pub books : (n : ℕ) (x : BookRow) → c.books n ≡ Some x → IsTrue (is_book n x)
+
+-- rule: rows-ruled.in-rules: if rows are in their rules, so is the content of the tables; and rows
+--   whose content is in its rules are in theirs, if they are as the statements write them
+-- rule: rows-ruled.timely
+abbrev pub IsInRules : Shelf → TablesContent → Type 0
+IsInRules shelf c = IsInRulesBy shelf (last_in c.meta) c

@@ -3,10 +3,10 @@
 -- column that names another row isn't tested again.
 -- Source: profile.
 use Rattle.std.specs.Prelude.{ℕ, ◌&&◌, ◌||◌, Bool, true, false, List, [], ◌∷◌, is_some, nat_eq}
-use Rattle.std.specs.Prelude.{nat_le, slice_index_or, Result, Ok, Err}
+use Rattle.std.specs.Prelude.{if◌then◌else◌, nat_le, slice_index_or, Result, Ok, Err}
 use Rattle.std.specs.List.{list_any}
 use Rattle.std.specs.Cmp.Lexicographic.{pointwise}
-use Rattle.units.specs.Words.{latest_command, greatest_number, most_used, most_counted}
+use Rattle.units.specs.Words.{Moment, latest_command, greatest_number, most_used, most_counted}
 use Rattle.units.specs.Words.{most_days}
 use Rattle.identifiers.specs.Texts.{is_account_number, is_reference, is_session_id}
 use Rattle.identifiers.specs.Texts.{is_voucher_code, same_name}
@@ -170,3 +170,22 @@ rules shelf =
 -- rule: rows-ruled
 abbrev pub rule_at : Shelf → ℕ → Row → Bool
 rule_at shelf at = slice_index_or (rules shelf) at (λ row. true)
+
+-- ---- moments
+
+-- the moment in a column isn't after the last moment
+abbrev pub is_by : ℕ → Moment → Row → Bool
+is_by place last row = nat_le (number_at row place) last
+
+-- so are those of accounts, of sessions and of charges, the tables at 1, 4 and 9
+-- rule: rows-ruled.timely
+abbrev pub is_timely_at : Moment → ℕ → Row → Bool
+is_timely_at last at row =
+    if nat_eq at 1 then is_by 3 last row
+    else (if nat_eq at 4 then is_by 4 last row
+    else (if nat_eq at 9 then is_by 3 last row else true))
+
+-- the row is in the rules of its table, and timely
+-- rule: rows-ruled.timely: no account, session or charge is of a moment after the last moment
+abbrev pub passes_at : Shelf → Moment → ℕ → Row → Bool
+passes_at shelf last at row = rule_at shelf at row && is_timely_at last at row

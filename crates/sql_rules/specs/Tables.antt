@@ -4,6 +4,7 @@ use Rattle.std.specs.Prelude.{◌≡◌, ◌<◌, ℕ, zero, suc, List, [], ◌�
 use Rattle.std.specs.Prelude.{slice_index_or}
 use Rattle.std.specs.Prelude.{None, pos, negsuc, false, IsTrue, Result, IfErr, OnOk}
 use Rattle.std.specs.List.{AllByRecursion}
+use Rattle.units.specs.Words.{Moment}
 use Rattle.shelves.specs.Shelves.{Shelf}
 use Rattle.sqlite_value.specs.declared.value.Value.TheVariants.{Int}
 use Rattle.sqlite_value.specs.declared.keys.Collation.TheVariants.{Binary}
@@ -16,12 +17,14 @@ use Rattle.sqlite.specs.Given.{IsPlain}
 use Rattle.sqlite.specs.Listing.{understood, reads_listing}
 use Rattle.sqlite.proofs.Callers.{command_of}
 use Rattle.sqlite.specs.State.{State, HasCleanDisk, IsUnchanged, Survives}
+use Rattle.sql_rows.specs.Content.{tables_content}
 use Rattle.sql_tables.specs.Keyed.{IsStored}
 use Rattle.sql_tables.specs.Schema.{book_schema, meta, schema_at}
 use Rattle.sql_tables.specs.Statements.{Spares}
 use Rattle.sql_tables.specs.declared.fault.OpenFault.{OpenFault}
 use Rattle.sql_tables.specs.declared.fault.OpenFault.TheVariants.{Foreign, Version, Rules, Older}
-use Rattle.sql_rules.specs.Rules.{rule_at}
+use Rattle.sql_rules.specs.Rules.{passes_at}
+use Rattle.sql_rules.specs.Ruled.{last_in}
 
 -- ---- what is in its rules
 
@@ -29,19 +32,27 @@ use Rattle.sql_rules.specs.Rules.{rule_at}
 abbrev pub table_at : ℕ → Table
 table_at at = slice_index_or book_schema.tables at meta
 
--- no rowid comes twice in the table at this place, and each row is in its rules
-pub record IsRuledAt (shelf : Shelf) (at : ℕ) (trees : Trees) : Type 0 where
+-- no rowid comes twice in the table at this place, and each row is in its rules and timely
+pub record IsRuledAt (shelf : Shelf) (last : Moment) (at : ℕ) (trees : Trees) : Type 0 where
   pub stored : IsStored (trees (table_at at).tree)
-  pub rows : AllByRecursion (λ row. IsTrue (rule_at shelf at row)) (trees (table_at at).tree)
+  pub rows : AllByRecursion (λ row. IsTrue (passes_at shelf last at row)) (trees (table_at at).tree)
 
 -- of the first tables
-abbrev pub AreRuledTo : Shelf → ℕ → Trees → Type 0
-AreRuledTo shelf k trees = (at : ℕ) → at < k → IsRuledAt shelf at trees
+abbrev pub AreRuledTo : Shelf → Moment → ℕ → Trees → Type 0
+AreRuledTo shelf last k trees = (at : ℕ) → at < k → IsRuledAt shelf last at trees
 
--- of all tables of a version
--- rule: rows-ruled
+-- of all tables of a version, by this last moment
+abbrev pub AreRuledBy : Shelf → Moment → ℕ → Trees → Type 0
+AreRuledBy shelf last v trees = AreRuledTo shelf last (length (schema_at v).tables) trees
+
+-- the last moment that is kept there
+abbrev pub last_kept : Trees → Moment
+last_kept trees = last_in (tables_content trees).meta
+
+-- of all tables of a version, by the last moment that they keep
+-- rule: rows-ruled, rows-ruled.timely
 abbrev pub AreRuled : Shelf → ℕ → Trees → Type 0
-AreRuled shelf v trees = AreRuledTo shelf (length (schema_at v).tables) trees
+AreRuled shelf v trees = AreRuledBy shelf (last_kept trees) v trees
 
 -- ---- how it is found
 

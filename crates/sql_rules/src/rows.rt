@@ -10,7 +10,7 @@ ghost use Rattle.sql_rules.specs.Rules.{is_ruled_allowance, is_ruled_answer, is_
 ghost use Rattle.sql_rules.specs.Rules.{is_ruled_bucket, is_ruled_charge, is_ruled_counter};
 ghost use Rattle.sql_rules.specs.Rules.{is_ruled_covered, is_ruled_grant_book, is_ruled_group};
 ghost use Rattle.sql_rules.specs.Rules.{is_ruled_hold, is_ruled_meta, is_ruled_session};
-ghost use Rattle.sql_rules.specs.Rules.{is_ruled_voucher, rule_at};
+ghost use Rattle.sql_rules.specs.Rules.{is_by, is_ruled_voucher, is_timely_at, passes_at, rule_at};
 
 use crate::columns::{MOST_RATED, is_null_at, is_optional_within, is_within, number_at, text_at};
 use crate::kept::are_kept_texts;
@@ -21,7 +21,7 @@ use sqlite::Row;
 use std::alloc::{AllocError, Global};
 use units::{
     END_OF_NUMBERS, GREATEST_NUMBER, LATEST_COMMAND, MOST_BLOCKS, MOST_COUNTED, MOST_DAYS,
-    MOST_MONEY, MOST_USED, NO_END,
+    MOST_MONEY, MOST_USED, Moment, NO_END,
 };
 
 /// How many tables there are, those of all versions.
@@ -203,12 +203,7 @@ fn is_ruled_covered(row: &Row) -> bool
 /// # Errors
 /// Lack of memory, for the texts that are kept of a command alone.
 // rule: rows-ruled
-pub(crate) fn is_ruled(
-    alloc: Global,
-    shelf: &TariffShelf,
-    at: usize,
-    row: &Row,
-) -> Result<bool, AllocError>
+fn is_ruled(alloc: Global, shelf: &TariffShelf, at: usize, row: &Row) -> Result<bool, AllocError>
     requires { at < length book_schema.tables }
     ensures { IfOk result (λ b. b ≡ rule_at shelf.now at row.now) }
 {
@@ -228,4 +223,48 @@ pub(crate) fn is_ruled(
         12 => Ok(is_ruled_allowance(row)),
         _ => Ok(is_ruled_covered(row)),
     }
+}
+
+// ---- moments
+
+fn is_by(row: &Row, place: usize, last: Moment) -> bool
+    ensures { result ≡ is_by place last row.now }
+{
+    number_at(row, place) <= last.seconds()
+}
+
+/// Whether a row of the table at a place isn't of a moment after the last moment.
+fn is_timely(last: Moment, at: usize, row: &Row) -> bool
+    ensures { result ≡ is_timely_at last at row.now }
+{
+    if at == 1 {
+        return is_by(row, 3, last);
+    }
+    if at == 4 {
+        return is_by(row, 4, last);
+    }
+    if at == 9 {
+        return is_by(row, 3, last);
+    }
+    true
+}
+
+/// Whether a row is in the rules of the table at this place among those of all versions, and isn't
+/// of a moment after the last moment.
+///
+/// # Errors
+/// Lack of memory, for the texts that are kept of a command alone.
+// rule: rows-ruled, rows-ruled.timely
+pub(crate) fn passes(
+    alloc: Global,
+    shelf: &TariffShelf,
+    last: Moment,
+    at: usize,
+    row: &Row,
+) -> Result<bool, AllocError>
+    requires { at < length book_schema.tables }
+    ensures { IfOk result (λ b. b ≡ passes_at shelf.now last at row.now) }
+{
+    let is_ruled = is_ruled(alloc, shelf, at, row)?;
+    Ok(is_ruled && is_timely(last, at, row))
 }

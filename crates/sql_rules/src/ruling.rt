@@ -5,7 +5,7 @@ ghost use Rattle.sqlite.specs.Held.{state};
 ghost use Rattle.sqlite.specs.State.{HasCleanDisk};
 ghost use Rattle.sql_tables.specs.Schema.{schema_at};
 ghost use Rattle.sql_tables.specs.Opens.{IsVersion};
-ghost use Rattle.sql_rules.specs.Tables.{AreRuled, Tells};
+ghost use Rattle.sql_rules.specs.Tables.{AreRuledBy, Tells};
 
 use crate::rows::TABLES;
 use crate::walking::table_passes;
@@ -13,31 +13,34 @@ use shelves::TariffShelf;
 use sql_tables::OpenFault;
 use sqlite::{Alter, Connection};
 use std::alloc::Global;
+use units::Moment;
 
 /// Tests each row of each table of a version: that no rowid comes twice in its table, and that it
-/// is in the table's rules, where the tariff books are those of the shelf. Each row is read once,
-/// in one pass a table, what is kept once first. Nothing is changed, whatever is answered.
+/// is in the table's rules, where the tariff books are those of the shelf. No account, session or
+/// charge is of a moment after the last one, as it is given. Each row is read once, in one pass a
+/// table, what is kept once first. Nothing is changed, whatever is answered.
 ///
 /// # Errors
-/// `Rules` only where a row is out of its rules or a rowid comes twice; `Store` where the store
-/// failed; `Memory` where memory was refused.
-// rule: rows-ruled
+/// `Rules` only where a row is out of its rules or of a moment after the last one, or a rowid comes
+/// twice; `Store` where the store failed; `Memory` where memory was refused.
+// rule: rows-ruled, rows-ruled.timely
 pub fn rules_of<S: Alter>(
     conn: &mut Connection<S>,
     alloc: Global,
     version: u32,
     shelf: &TariffShelf,
+    last: Moment,
 ) -> Result<(), OpenFault>
     requires known { IsVersion version }
     requires ours { HasCleanDisk (state S.Store conn.old) → conn.old.schema ≡ schema_at version }
-    ensures { Tells (AreRuled shelf.now version) (state S.Store conn.old)
+    ensures { Tells (AreRuledBy shelf.now last version) (state S.Store conn.old)
         (state S.Store conn.new) result }
 {
     // No version has more: of a schema of more the disk has failed.
     let count = conn.schema().tables.len().min(TABLES);
-    table_passes(conn, alloc, version, shelf, 0)?;
+    table_passes(conn, alloc, version, shelf, last, 0)?;
     'tables: for at in 1..count {
-        table_passes(conn, alloc, version, shelf, at)?;
+        table_passes(conn, alloc, version, shelf, last, at)?;
     }
     Ok(())
 }

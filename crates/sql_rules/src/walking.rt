@@ -1,5 +1,5 @@
-//! A walk over all rows of a table, which tests that their rowids rise and that they are in their
-//! rules.
+//! A walk over all rows of a table, which tests that their rowids rise, that they are in their
+//! rules, and that none is of a moment after the last moment.
 
 ghost use Rattle.std.specs.Prelude.{◌≡◌, ◌<◌, ℤ, Bool, [], ◌∷◌, ◌++◌, List, None, IsTrue, IfOk};
 ghost use Rattle.std.specs.Prelude.{IfSome, OnOk, length};
@@ -13,16 +13,17 @@ ghost use Rattle.sql_tables.specs.Opens.{IsVersion};
 ghost use Rattle.sql_tables.specs.Rises.{IsAbove};
 ghost use Rattle.sql_tables.specs.Statements.{Spares};
 ghost use Rattle.sql_tables.specs.declared.fault.OpenFault.TheVariants.{Rules};
-ghost use Rattle.sql_rules.specs.Rules.{rule_at};
+ghost use Rattle.sql_rules.specs.Rules.{passes_at};
 ghost use Rattle.sql_rules.specs.Tables.{IsOfRows, IsRuledAt, Tells};
 ghost use Rattle.sql_rules.specs.Walks.{Pass, Walks};
 
-use crate::rows::is_ruled;
+use crate::rows::passes;
 use shelves::TariffShelf;
 use sql_tables::{OpenFault, rows_text};
 use sqlite::types::ValueRef;
 use sqlite::{Alter, Connection, Error, ErrorCode, Row};
 use std::alloc::Global;
+use units::Moment;
 
 /// The first value of the row, if it is an integer above the last.
 fn next_id(row: &Row, last: Option<i64>) -> Option<i64>
@@ -74,27 +75,30 @@ impl Walk {
 fn with_row(
     alloc: Global,
     shelf: &TariffShelf,
+    last: Moment,
     at: usize,
     walk: Walk,
     row: &Row,
 ) -> Result<Walk, Error>
     requires { at < length book_schema.tables }
     ensures { IfOk result (λ w. (given : List Values)
-        → Walks (rule_at shelf.now at) walk.passes walk.last given
-        → Walks (rule_at shelf.now at) w.passes w.last (given ++ row.now ∷ [])) }
+        → Walks (passes_at shelf.now last at) walk.passes walk.last given
+        → Walks (passes_at shelf.now last at) w.passes w.last (given ++ row.now ∷ [])) }
 {
-    match is_ruled(alloc, shelf, at, row) {
-        Ok(is_ruled) => Ok(walk.with(row, is_ruled)),
+    match passes(alloc, shelf, last, at, row) {
+        Ok(passes) => Ok(walk.with(row, passes)),
         Err(_) => Err(Error::SqliteFailure(ErrorCode::OutOfMemory)),
     }
 }
 
 /// Whether the first value of each row of a selection is an integer above that of the row before,
-/// and each is in the rules of the table at a place. Each row is read, also after one that isn't.
+/// and each is in the rules of the table at a place, and timely. Each row is read, also after one
+/// that isn't.
 fn do_pass<S: Alter>(
     conn: &mut Connection<S>,
     alloc: Global,
     shelf: &TariffShelf,
+    last: Moment,
     at: usize,
     sql: &str,
 ) -> Result<bool, Error>
@@ -105,8 +109,8 @@ fn do_pass<S: Alter>(
         IfOk result (λ passes. (was : Held S) × (rows : List Values)
         × IsUnchanged (state S.Store conn.old) (state S.Store was)
         × Shown sql.now [] (state S.Store was) (state S.Store conn.new) rows
-        × (IsTrue passes → Pass (rule_at shelf.now at) rows)
-        × (Pass (rule_at shelf.now at) rows → IsTrue passes)) }
+        × (IsTrue passes → Pass (passes_at shelf.now last at) rows)
+        × (Pass (passes_at shelf.now last at) rows → IsTrue passes)) }
     ensures same { HasCleanDisk (state S.Store conn.new) →
         OnOk result (IsUnchanged (state S.Store conn.old) (state S.Store conn.new)) }
     ensures spares { HasCleanDisk (state S.Store conn.new) →
@@ -122,7 +126,7 @@ fn do_pass<S: Alter>(
         let Some(row) = rows.next()? else {
             return Ok(walk.passes);
         };
-        walk = with_row(alloc, shelf, at, walk, &row)?;
+        walk = with_row(alloc, shelf, last, at, walk, &row)?;
     }
     Err(Error::SqliteFailure(ErrorCode::TooBig))
 }
@@ -138,12 +142,14 @@ fn fault_of(error: Error) -> OpenFault
     }
 }
 
-/// Tests that no rowid of a table comes twice and that each of its rows is in its rules.
+/// Tests that no rowid of a table comes twice, that each of its rows is in its rules, and that none
+/// is of a moment after the last moment.
 pub(crate) fn table_passes<S: Alter>(
     conn: &mut Connection<S>,
     alloc: Global,
     version: u32,
     shelf: &TariffShelf,
+    last: Moment,
     at: usize,
 ) -> Result<(), OpenFault>
     requires known { IsVersion version }
@@ -151,12 +157,12 @@ pub(crate) fn table_passes<S: Alter>(
     requires most { HasCleanDisk (state S.Store conn.old) →
         at < length (schema_at version).tables }
     requires ours { HasCleanDisk (state S.Store conn.old) → conn.old.schema ≡ schema_at version }
-    ensures { Tells (IsRuledAt shelf.now at) (state S.Store conn.old) (state S.Store conn.new)
+    ensures { Tells (IsRuledAt shelf.now last at) (state S.Store conn.old) (state S.Store conn.new)
         result }
 {
     // For the prover alone: the version whose schema the text is read over.
     let _version = version;
-    match do_pass(conn, alloc, shelf, at, rows_text(at)) {
+    match do_pass(conn, alloc, shelf, last, at, rows_text(at)) {
         Ok(true) => Ok(()),
         Ok(false) => Err(OpenFault::Rules),
         Err(error) => Err(fault_of(error)),

@@ -35,6 +35,13 @@ for s in 01 02; do runuser -u ocs -- ocs init /var/lib/ocs/$s.db examples/book.t
 office doors > /etc/haproxy/haproxy.cfg
 systemctl daemon-reload && systemctl restart haproxy
 """
+# The last command of a database, and with it all that has a later moment, is put back by 25 hours.
+RESTED = """
+UPDATE meta SET last_moment = strftime('%s') - 90000;
+UPDATE accounts SET as_of = min(as_of, (SELECT last_moment FROM meta));
+UPDATE sessions SET touched = min(touched, (SELECT last_moment FROM meta));
+UPDATE charges SET moment = min(moment, (SELECT last_moment FROM meta));
+"""
 # Systemd's sign that the clock was synchronised since the boot.
 SIGN = "/run/systemd/timesync/synchronized"
 
@@ -185,8 +192,7 @@ def test_who_is_turned_away_is_counted_from_the_journal(machine: Machine) -> Non
 
 def test_a_shard_that_rested_waits_for_a_word(machine: Machine) -> None:
     machine.run("systemctl stop ocs@01")
-    rested = "UPDATE meta SET last_moment = strftime('%s') - 90000"
-    machine.run(f'runuser -u ocs -- sqlite3 /var/lib/ocs/01.db "{rested}"')
+    machine.run(f'runuser -u ocs -- sqlite3 /var/lib/ocs/01.db "{RESTED}"')
     machine.status("systemctl start ocs@01")
     said = "the clock is 25 hours ahead of its last command"
     until(lambda: machine.says("01", said), "a refusal")

@@ -12,16 +12,16 @@ use Rattle.sql_rows.specs.Content.{TablesContent, tables_content, with_voucher_r
 use Rattle.sql_rows.specs.Makes.{Turns}
 use Rattle.sql_rules.specs.Ruled.{IsInRules}
 use Rattle.sql_keeper.specs.RuledRows.{is_ruled_addition}
-use Rattle.sql_keeper.proofs.rules.RuledRows.{addition_kept}
+use Rattle.sql_keeper.proofs.rules.RuledRows.{addition_ruled}
 use Rattle.sql_keeper.specs.Additions.{BecomesAdded, with_addition, with_addition_put}
 use Rattle.sql_keeper.specs.Commits.{CommitsWhole, Transacts}
-use Rattle.sql_keeper.specs.Content.{tables_of, voucher_in, Names}
+use Rattle.sql_keeper.specs.Content.{last_in, tables_of, voucher_in, Names}
 use Rattle.sql_keeper.specs.Seen.{Stands}
 use Rattle.sql_keeper.specs.Tidy.{IsTidy}
 use Rattle.sql_keeper.specs.Writes.{meta_at, voucher_row}
 use Rattle.sql_tables.specs.Statements.{HasIdleBook}
 use Rattle.sql_keeper.proofs.reads.InTurn.{none_read}
-use Rattle.sql_keeper.proofs.puts.NewGroups.{moment_put}
+use Rattle.sql_keeper.proofs.puts.NewGroups.{kept_up_to, moment_put}
 use Rattle.sql_keeper.proofs.puts.Redeemed.{told_over}
 use Rattle.sql_keeper.proofs.rules.TidyChanges.{tidy_addition}
 use Rattle.sql_keeper.proofs.commits.Whole.{refused}
@@ -40,18 +40,19 @@ addition_read names text code terms t c =
 
 become : (text code : List ℕ) (terms : VoucherTerms) (t : ℕ) → t ≤ 4_102_488_000
     → is_ruled_addition code terms t ≡ true → (old new : Trees)
-    → Turns (with_addition text code terms t) old new
+    → last_in (tables_content old).meta ≤ t → Turns (with_addition text code terms t) old new
     → BecomesAdded text code terms t old new
-become text code terms t last ruled old new turns = record {
+become text code terms t last ruled old new later turns = record {
   tables = λ names. ap (tables_of names) turns.content
       ∙ addition_read names text code terms t (tables_content old);
   tidy = λ names tidy. subst (IsTidy names) (sym turns.content)
       (tidy_addition names text code terms t (tables_content old) tidy);
   rules = λ shelf there in'. subst (IsInRules shelf) (sym turns.content)
-      (addition_kept shelf text code terms t (tables_content old) ruled there in');
+      (addition_ruled shelf (tables_content old) there in' text code terms t later ruled);
   plain = turns.plain;
   meta = ap (λ (c : TablesContent). c.meta) turns.content;
   last = last;
+  later = later;
   books = ap (λ (c : TablesContent). c.books) turns.content;
   catalog = turns.catalog;
   stored = turns.stored;
@@ -65,7 +66,9 @@ pub become_added : (text code : List ℕ) (terms : VoucherTerms) (t : ℕ) → t
     → Turns (with_addition_put is_there code terms t) old.now.trees db
     → BecomesAdded text code terms t old.now.trees db
 become_added text code terms t last ruled is_there old there clean on db turns =
-    become text code terms t last ruled old.now.trees db (record {
+    become text code terms t last ruled old.now.trees db
+    (kept_up_to is_there (meta_at text t) (tables_content old.now.trees).meta (there clean on))
+    (record {
       content = turns.content ∙ ap (with_voucher_row code (voucher_row (unspent terms)))
           (moment_put is_there (meta_at text t) (tables_content old.now.trees) (there clean on));
       catalog = turns.catalog;

@@ -27,8 +27,8 @@ use Rattle.sql_rows.specs.Content.{with_bucket, without_holds}
 use Rattle.sql_rows.specs.Values.{plain_bucket}
 use Rattle.sql_rows.specs.Each.{with_each, with_counters, with_sessions}
 use Rattle.sql_rows.specs.Makes.{Turns}
-use Rattle.sql_rules.specs.Ruled.{IsInRules}
-use Rattle.sql_keeper.specs.Content.{tables_of, Names}
+use Rattle.sql_rules.specs.Ruled.{IsInRulesBy}
+use Rattle.sql_keeper.specs.Content.{last_in, tables_of, Names}
 use Rattle.sql_keeper.specs.Commits.{Becomes}
 use Rattle.sql_keeper.specs.KeptRows.{AreGrantsOver, AreKept, BecomesOver, Keeps}
 use Rattle.sql_keeper.specs.Numbers.{AreNumbersFree, LacksThen}
@@ -46,8 +46,8 @@ use Rattle.sql_keeper.specs.declared.putting.Known.{Known}
 use Rattle.sql_keeper.proofs.puts.KeptGroups.{sees_kept}
 use Rattle.sql_keeper.proofs.puts.KeptKinds.{keeps_counted}
 use Rattle.sql_keeper.proofs.commits.GrantsWritten.{grants_written}
-use Rattle.sql_keeper.proofs.puts.NewGroups.{lacked_before, put_over}
-use Rattle.sql_keeper.proofs.rules.RuledRows.{change_kept}
+use Rattle.sql_keeper.proofs.puts.NewGroups.{kept_up_to, lacked_before, put_over}
+use Rattle.sql_keeper.proofs.rules.RuledRows.{change_ruled}
 
 -- ---- what is kept once, and the later books
 
@@ -128,41 +128,47 @@ module _ (names : Names) (text : List ℕ) (change : Change) (texts : Option Kep
     (named : IsNamed change.rows) (told : AreTexts change.number change.kept texts)
     (texts_ruled : are_ruled_texts change.number change.kept texts ≡ true)
     (last : change.moment ≤ 4_102_488_000) where
-  become : (old new : Trees) → MayBeMade names change (rows_in old change.number)
+  become : (old new : Trees) → last_in (tables_content old).meta ≤ change.moment
+      → MayBeMade names change (rows_in old change.number)
       → Turns (with_change names (meta_with text change) change texts) old new
       → Becomes names text change old new
-  become old new may turns = record {
-    tables = ap (tables_of names) turns.content
-        ∙ changes_read names (meta_with text change) change texts (tables_content old) named may
-        told
-        refl;
-    tidy = λ t. subst (IsTidy names) (sym turns.content)
-        (tidy_change names (meta_with text change) change texts (tables_content old) named may told
-        t);
-    rules = λ shelf is there in'. subst (IsInRules shelf) (sym turns.content)
-        (subst (λ n.
-        IsInRules shelf (with_change n (meta_with text change) change texts (tables_content old)))
-        (sym is)
-        (change_kept shelf (meta_with text change) change texts (tables_content old) refl
-        (subst (λ n. is_ruled_change n change ≡ true) is may.ruled) texts_ruled
-        (subst (λ n. AreWritable n change.rows.sessions change.rows.groups) is may.reservations)
-        there in'));
-    plain = turns.plain;
-    meta = ap (λ (c : TablesContent). c.meta) turns.content ∙ ap (λ (b : Beside). b.meta)
-        (change_meta names (meta_with text change) change texts (tables_content old));
-    last = last;
-    books = ap (λ (c : TablesContent). c.books) turns.content ∙ ap (λ (b : Beside). b.books)
-        (change_meta names (meta_with text change) change texts (tables_content old));
-    catalog = turns.catalog;
-    stored = turns.stored;
-  }
+  become old new later may turns =
+      let kept : (tables_content new).meta ≡ Some (meta_with text change) =
+      ap (λ (c : TablesContent). c.meta) turns.content ∙ ap (λ (b : Beside). b.meta)
+      (change_meta names (meta_with text change) change texts (tables_content old)) in
+      record {
+        tables = ap (tables_of names) turns.content
+            ∙ changes_read names (meta_with text change) change texts (tables_content old) named may
+            told
+            refl;
+        tidy = λ t. subst (IsTidy names) (sym turns.content)
+            (tidy_change names (meta_with text change) change texts (tables_content old) named may told
+            t);
+        rules = λ shelf is there in'.
+            subst (λ n. IsInRulesBy shelf n (tables_content new)) (sym (ap last_in kept))
+            (subst (IsInRulesBy shelf change.moment) (sym turns.content)
+            (subst (λ n. IsInRulesBy shelf change.moment
+            (with_change n (meta_with text change) change texts (tables_content old))) (sym is)
+            (change_ruled shelf (tables_content old) there in' (meta_with text change) change texts refl
+            later (subst (λ n. is_ruled_change n change ≡ true) is may.ruled) texts_ruled
+            (subst (λ n. AreWritable n change.rows.sessions change.rows.groups) is may.reservations))));
+        plain = turns.plain;
+        meta = kept;
+        last = last;
+        later = later;
+        books = ap (λ (c : TablesContent). c.books) turns.content ∙ ap (λ (b : Beside). b.books)
+            (change_meta names (meta_with text change) change texts (tables_content old));
+        catalog = turns.catalog;
+        stored = turns.stored;
+      }
 
   -- and reservations are stored so
-  become_over : (old new : Trees) → MayBeMade names change (rows_in old change.number)
+  become_over : (old new : Trees) → last_in (tables_content old).meta ≤ change.moment
+      → MayBeMade names change (rows_in old change.number)
       → Turns (with_change names (meta_with text change) change texts) old new
       → BecomesOver names text change old new
-  become_over old new may turns = record {
-    becomes = become old new may turns;
+  become_over old new later may turns = record {
+    becomes = become old new later may turns;
     grants = subst (λ (c : TablesContent). AreGrantsOver change.rows.groups
         (rows_in old change.number) (c.rows change.number)) (sym turns.content)
         (grants_written names (meta_with text change) change texts (tables_content old) named may
@@ -200,7 +206,9 @@ module _ (names : Names) (text : List ℕ) (change : Change) (texts : Option Kep
   become_at known old mid only may sees keeps there clean on db turns =
       let was : IsTrue old.is_open = (only.still clean on).was_open in
       let disk = only.cleanness clean in
-      become_over old.now.trees db (may clean on).made
+      become_over old.now.trees db
+      (kept_up_to known.is_there (meta_with text change) (tables_content old.now.trees).meta
+      (there disk was)) (may clean on).made
       (turned known old.now.trees db (may clean on) (sees disk was) (keeps disk was)
       (there disk was)
       (subst (λ (d : Database). Turns (with_change_put names known change texts) d.trees db)

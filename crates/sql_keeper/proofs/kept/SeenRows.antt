@@ -1,5 +1,5 @@
 -- What a keeper has seen of an account, and what reads of its tables leave of it.
-use Rattle.std.proofs.Common.{◌≡◌, ℕ, Bool, true, false, List, Option, Some, None, Result, Ok}
+use Rattle.std.proofs.Common.{◌≡◌, ◌≤◌, ℕ, Bool, true, false, List, Option, Some, None, Result, Ok}
 use Rattle.std.proofs.Common.{[], ◌∷◌, cond, IfOk, refl, sym, ap, subst, ◌∙◌}
 use Rattle.std.specs.Prelude.{if◌then◌else◌, ◌&&◌, nat_eq, option_map, is_some, slice_get, IfSome}
 use Rattle.sqlite_trees.specs.Tree.{Trees}
@@ -27,12 +27,13 @@ use Rattle.sql_rows.specs.Content.{TableRows, rows_in, tables_content}
 use Rattle.sql_rows.specs.Lists.{HasNoGroups}
 use Rattle.sql_rows.specs.Values.{Meta}
 use Rattle.sql_keeper.specs.Asks.{Asks}
-use Rattle.sql_keeper.specs.Content.{Names, head_in}
+use Rattle.sql_keeper.specs.Content.{Names, head_in, last_in}
 use Rattle.sql_keeper.specs.Grants.{IsGrantIn, IsGrantSeen, grant_with, is_name, only_bucket}
 use Rattle.sql_keeper.specs.LiveRows.{IsLoadStored}
 use Rattle.sql_keeper.specs.LiveGroups.{AreGrantsStored, Gathers}
 use Rattle.sql_keeper.specs.Seen.{AreSeen, IsJoined, IsKnown, IsSeen, IsSeenOf, IsSeenWith}
-use Rattle.sql_keeper.specs.Seen.{IsKeptOnce, IsStanding, IsUnknown, IsUnknownAlone, Sees, Stands}
+use Rattle.sql_keeper.specs.Seen.{IsKeptOnce, IsStanding, IsUnknown, IsUnknownAlone, IsUpTo, Sees}
+use Rattle.sql_keeper.specs.Seen.{Stands}
 use Rattle.sql_keeper.specs.Seen.{standing_in, standing_of}
 use Rattle.sql_keeper.specs.Writes.{head_columns_of}
 use Rattle.sql_keeper.specs.declared.seen.SeenAccount.{SeenAccount}
@@ -61,6 +62,13 @@ stands_after told m old new stands only clean on =
     let still = only.still clean on in
     subst (λ (d : Database). IsKeptOnce told m (tables_content d.trees).meta) (sym still.now_is)
     (stands (only.cleanness clean) still.was_open)
+
+-- nor is the last moment a later one then
+pub up_to_after : (t : ℕ) (old new : State) → IsUpTo t old → OnlyReads old new → IsUpTo t new
+up_to_after t old new up only clean on =
+    let still = only.still clean on in
+    subst (λ (d : Database). last_in (tables_content d.trees).meta ≤ t) (sym still.now_is)
+    (up (only.cleanness clean) still.was_open)
 
 -- nothing was seen
 pub none_seen : (o : Option SeenAccount) (s : State) → o ≡ None → AreSeen o s

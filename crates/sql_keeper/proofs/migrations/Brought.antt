@@ -538,14 +538,15 @@ module _ (v : ℕ) (known : IsVersion v) (less : v < latest) (old mid : State) (
     (items : List BookColumns) (read : HasRows v old mid m items) (version : m.version ≡ v)
     (text : List ℕ) (text_is : text ≡ string_bytes m.book) where
   pub shelf_read : (r : Result ReadBooks OpenFault)
-      → IfOk r (λ b. IsShelfRead text (map book_at items) b.own)
+      → IfOk r (λ b. IsShelfRead text (map book_at items) b.own) → IfOk r (λ b. b.last ≡ m.last)
       → IfErr r (λ e. e ≡ Rules → IsNoShelf text (map book_at items))
       → IfErr r (λ e. ¬ (e ≡ Rules) → e ≡ Memory) → ReadsShelf v old mid r
-  shelf_read (Ok b) shelf rules either = record {
+  shelf_read (Ok b) shelf since rules either = record {
     shelf = λ clean. record {
       row = meta_of m;
       is = read.meta.is clean;
       version = version;
+      last = since;
       shelf = shelf_at v known less old mid m items read version text text_is b.own shelf clean;
     };
     kept = λ clean.
@@ -556,6 +557,6 @@ module _ (v : ℕ) (known : IsVersion v) (less : v < latest) (old mid : State) (
     other = tt;
     survives = read.meta.has.survives;
   }
-  shelf_read (Err e) shelf rules either =
+  shelf_read (Err e) shelf since rules either =
       reads_err v old mid e
       (no_shelf v known less old mid m items read version text text_is e rules either)

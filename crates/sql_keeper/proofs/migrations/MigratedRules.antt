@@ -3,7 +3,7 @@
 use Rattle.std.proofs.Common.{◌≡◌, ◌<◌, ◌⊎◌, inl, inr, ℕ, zero, suc, List, [], ◌∷◌, ◌++◌, length}
 use Rattle.std.proofs.Common.{Option, Some, Bool, true, false, refl, sym, ap, subst, arith, IsTrue}
 use Rattle.std.proofs.Common.{◌∙◌}
-use Rattle.std.specs.Prelude.{if◌then◌else◌, is_some, nat_le, slice_index_or}
+use Rattle.std.specs.Prelude.{if◌then◌else◌, is_some, nat_le, option_map, slice_index_or}
 use Rattle.std.proofs.lemmas.Bool.Decides.{nat_tests}
 use Rattle.std.specs.List.{AllByRecursion}
 use Rattle.shelves.specs.Shelves.{Shelf, count}
@@ -11,7 +11,7 @@ use Rattle.sqlite_trees.specs.Tree.{Trees}
 use Rattle.sqlite_schema.specs.Rules.{Fits}
 use Rattle.sqlite_schema.specs.declared.schema.Table.{Table}
 use Rattle.sqlite_catalog.specs.Change.{KeepsRows}
-use Rattle.sql_tables.specs.Keyed.{IsStored}
+use Rattle.sql_tables.specs.Keyed.{IsStored, look}
 use Rattle.sql_tables.specs.Opens.{IsVersion}
 use Rattle.sql_tables.specs.Schema.{book_schema, latest, pieces_to, schema_at}
 use Rattle.sql_tables.specs.Schema as table
@@ -19,11 +19,11 @@ use Rattle.sql_tables.specs.Stages.{AreEmpty, tables_between}
 use Rattle.sql_rows.specs.Content.{TablesContent, TableRows, tables_content}
 use Rattle.sql_rows.specs.Makes.{Turns}
 use Rattle.sql_rows.specs.Plain.{ArePlain}
-use Rattle.sql_rows.specs.Values.{Meta}
+use Rattle.sql_rows.specs.Values.{Meta, meta_in, meta_key}
 use Rattle.sql_rules.specs.Columns.{is_in_bounds}
-use Rattle.sql_rules.specs.Rules.{rule_at}
-use Rattle.sql_rules.specs.Ruled.{AreInRules, IsInRules}
-use Rattle.sql_rules.specs.Tables.{AreRuled, AreRuledTo, IsRuledAt, table_at}
+use Rattle.sql_rules.specs.Rules.{passes_at}
+use Rattle.sql_rules.specs.Ruled.{AreInRules, IsInRules, IsInRulesBy, last_in}
+use Rattle.sql_rules.specs.Tables.{AreRuled, AreRuledTo, IsRuledAt, last_kept, table_at}
 use Rattle.sql_rules.proofs.Contents.{content_ruled}
 use Rattle.sql_rules.proofs.KeptRules.{meta_kept}
 use Rattle.sql_keeper.specs.Content.{is_reserved}
@@ -58,26 +58,26 @@ in_parts old mid (t ∷ first) later kept none (suc at) low =
       | inr empty ↦ inr empty
     ]
 
-module _ (shelf : Shelf) (old mid : Trees) where
+module _ (shelf : Shelf) (last : ℕ) (old mid : Trees) where
   -- a table whose rows stay
   still_ruled : (at : ℕ) → mid (table_at at).tree ≡ old (table_at at).tree
-      → IsRuledAt shelf at old → IsRuledAt shelf at mid
+      → IsRuledAt shelf last at old → IsRuledAt shelf last at mid
   still_ruled at same r = record {
     stored = subst IsStored (sym same) r.stored;
-    rows = subst (AllByRecursion (λ row. IsTrue (rule_at shelf at row))) (sym same) r.rows;
+    rows = subst (AllByRecursion (λ row. IsTrue (passes_at shelf last at row))) (sym same) r.rows;
   }
 
   -- a table without rows
-  none_ruled : (at : ℕ) → mid (table_at at).tree ≡ [] → IsRuledAt shelf at mid
+  none_ruled : (at : ℕ) → mid (table_at at).tree ≡ [] → IsRuledAt shelf last at mid
   none_ruled at none = record {
     stored = subst IsStored (sym none) (tt, tt);
-    rows = subst (AllByRecursion (λ row. IsTrue (rule_at shelf at row))) (sym none) tt;
+    rows = subst (AllByRecursion (λ row. IsTrue (passes_at shelf last at row))) (sym none) tt;
   }
 
   -- the tables of a version whose rows stay, and no row of those that are new
   ruled_tables : (first later : List Table) → first ++ later ≡ book_schema.tables
-      → KeepsRows first old mid → AreEmpty later mid → AreRuledTo shelf (length first) old
-      → AreRuledTo shelf (length (first ++ later)) mid
+      → KeepsRows first old mid → AreEmpty later mid → AreRuledTo shelf last (length first) old
+      → AreRuledTo shelf last (length (first ++ later)) mid
   ruled_tables first later is kept none all at low =
       elim (in_parts old mid first later kept none at low) [
         | inl stays ↦
@@ -85,17 +85,36 @@ module _ (shelf : Shelf) (old mid : Trees) where
         | inr empty ↦ none_ruled at (subst (λ ts. IsEmptyAt mid ts at) is empty)
       ]
 
+-- what is kept once keeps its moment
+last_same : (old mid : Trees) → mid table.meta.tree ≡ old table.meta.tree
+    → last_kept old ≡ last_kept mid
+last_same old mid same =
+    ap (λ rows. last_in (option_map meta_in (look table.meta (λ t. rows) meta_key))) (sym same)
+
+module _ (shelf : Shelf) (old mid : Trees) where
+  -- the tables of a version, by the moment that it keeps
+  ruled_by_last : (first later : List Table) → first ++ later ≡ book_schema.tables
+      → mid table.meta.tree ≡ old table.meta.tree
+      → KeepsRows first old mid → AreEmpty later mid
+      → AreRuledTo shelf (last_kept old) (length first) old
+      → AreRuledTo shelf (last_kept mid) (length (first ++ later)) mid
+  ruled_by_last first later is same kept none all =
+      subst (λ n. AreRuledTo shelf n (length (first ++ later)) mid) (last_same old mid same)
+      (ruled_tables shelf (last_kept old) old mid first later is kept none all)
+
   -- those of each older version
   -- rule: database-migrated.ruled-version
   pub ruled_since : (v : ℕ) → IsVersion v → v < latest → AreKept v old mid → AreRuled shelf v old →
       AreRuled shelf latest mid
   ruled_since zero known less kept all = absurd (omega (arith, known.0))
   ruled_since (suc zero) known less kept all =
-      ruled_tables (schema_at 1).tables
-      (tables_between (length (pieces_to 1)) (length (pieces_to latest))) refl kept.0 kept.1 all
+      ruled_by_last (schema_at 1).tables
+      (tables_between (length (pieces_to 1)) (length (pieces_to latest))) refl kept.0.0 kept.0
+      kept.1 all
   ruled_since (suc (suc zero)) known less kept all =
-      ruled_tables (schema_at 2).tables
-      (tables_between (length (pieces_to 2)) (length (pieces_to latest))) refl kept.0 kept.1 all
+      ruled_by_last (schema_at 2).tables
+      (tables_between (length (pieces_to 2)) (length (pieces_to latest))) refl kept.0.0 kept.0
+      kept.1 all
   ruled_since (suc (suc (suc n))) known less kept all =
       let low : suc (suc (suc n)) < 3 = less in absurd (omega (arith, low))
 
@@ -109,9 +128,14 @@ first_within shelf o true n some e =
     subst (λ m. is_in_bounds 1 (count shelf) m ≡ true) is (grind (arith, nat_tests))
 first_within shelf o false n some e = some n e
 
-granted_rows : (shelf : Shelf) (a : List ℕ) (r : TableRows) → AreInRules shelf a r →
-    AreInRules shelf a (granted_in r)
+granted_rows : {last : ℕ} (shelf : Shelf) (a : List ℕ) (r : TableRows)
+    → AreInRules shelf last a r → AreInRules shelf last a (granted_in r)
 granted_rows shelf a r in' = record {
+  timely = record {
+    head = in'.timely.head;
+    sessions = in'.timely.sessions;
+    charges = in'.timely.charges;
+  };
   head = in'.head;
   buckets = in'.buckets;
   counters = in'.counters;
@@ -126,8 +150,8 @@ granted_rows shelf a r in' = record {
   covered = in'.covered;
 }
 
-granted_by : (shelf : Shelf) (b : Bool) (c : TablesContent) → IsInRules shelf c
-    → IsInRules shelf (if b then c else record c { rows = λ a. granted_in (c.rows a) })
+granted_by : {last : ℕ} (shelf : Shelf) (b : Bool) (c : TablesContent)
+    → IsInRulesBy shelf last c → IsInRulesBy shelf last (if b then c else record c { rows = λ a. granted_in (c.rows a) })
 granted_by shelf true c in' = in'
 granted_by shelf false c in' = record {
   once = in'.once;
@@ -152,8 +176,10 @@ module _ (shelf : Shelf) (v : ℕ) (mid new : Trees) (m : Meta) (all : AreRuled 
       let held = content_ruled shelf mid fits all in
       let given = with_granted v (tables_content mid) in
       let same = granted_meta (nat_le 2 v) (tables_content mid) ∙ is in
+      let by_row : IsInRulesBy shelf m.last (tables_content mid) =
+      subst (λ o. IsInRulesBy shelf (last_in o) (tables_content mid)) is held in
       subst (IsInRules shelf) (sym turns.content)
-      (meta_kept shelf given (granted_by shelf (nat_le 2 v) (tables_content mid) held)
+      (meta_kept shelf given (granted_by shelf (nat_le 2 v) (tables_content mid) by_row)
       (record m { version = latest }) (held.meta m is)
       (λ none. absurd (let some : is_some given.meta ≡ true = ap is_some same in
       let clash : true ≡ false = sym some ∙ none in cc)))

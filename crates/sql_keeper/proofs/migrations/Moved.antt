@@ -19,7 +19,7 @@ use Rattle.sql_tables.specs.Schema.{latest, schema_at}
 use Rattle.sql_tables.specs.Statements.{AreStored, HasIdleBook, IsStill}
 use Rattle.sql_rows.specs.Content.{tables_content}
 use Rattle.sql_rows.specs.Values.{Meta}
-use Rattle.sql_rules.specs.Tables.{AreRuled, Tells}
+use Rattle.sql_rules.specs.Tables.{AreRuled, Tells, last_kept}
 use Rattle.sql_tables.specs.Opens.{IsFound, IsNoVersion, IsOpenFaultTold, IsVersion}
 use Rattle.sql_tables.specs.declared.fault.OpenFault.{OpenFault}
 use Rattle.sql_tables.specs.declared.fault.OpenFault.TheVariants.{Foreign, Version, Rules, Older}
@@ -353,6 +353,10 @@ module _ (v : ℕ) (old mid new : State) (same : v ≡ latest)
   module _ (last : State) (r : ReadBooks) (reads : ReadsBooks mid new (Ok r)) where
     pub latest_found : FindsBooks old new (Ok r)
     latest_found = finds_books v old mid new found one reads.only reads.survives same (Ok r) reads
+
+    -- its last moment is the one that is kept
+    pub latest_last : HasCleanDisk new → r.last ≡ last_kept new.now.trees
+    latest_last clean = (latest_found.found clean).0.last
 
     -- its rows are
     pub any_latest : {A : Type 0} (u : A) → Tells (AreRuled r.own latest) new last (Ok u)

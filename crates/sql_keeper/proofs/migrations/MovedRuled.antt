@@ -15,7 +15,8 @@ use Rattle.sql_tables.specs.declared.fault.OpenFault.TheVariants.{Foreign, Versi
 use Rattle.sql_tables.specs.declared.fault.OpenFault.TheVariants.{Memory, Store}
 use Rattle.sql_rows.specs.Content.{tables_content}
 use Rattle.sql_rows.specs.Values.{Meta}
-use Rattle.sql_rules.specs.Tables.{AreRuled, Tells}
+use Rattle.sql_rules.specs.Ruled.{last_in}
+use Rattle.sql_rules.specs.Tables.{AreRuled, Tells, last_kept}
 use Rattle.sql_keeper.specs.Causes.{IsOtherThan, IsStores}
 use Rattle.sql_keeper.specs.Migrates.{AreRowsRuled, BecomesLatest, FindsShelf, HasIdleAt}
 use Rattle.sql_keeper.specs.Migrates.{HasRuledRows, IsLeftLatest, IsRuledVersion, IsShelfAt}
@@ -61,6 +62,14 @@ asked_schema v old mid r idle has clean =
     let s = has.still clean in
     ap (λ (d : Database). d.schema) s.now_is
     ∙ (idle (omega (arith, has.survives.clean, clean)) s.was_open).0.schema
+
+-- the last moment is that of the shelf that was read
+pub asked_last : (v : ℕ) (old mid : State) (r : ReadBooks) → HasAsked v old mid r
+    → HasCleanDisk mid → r.last ≡ last_kept mid.now.trees
+asked_last v old mid r has clean =
+    let at = has.shelf clean in
+    at.last ∙ sym (ap last_in at.is)
+    ∙ ap (λ (d : Database). last_kept d.trees) (sym (has.still clean).now_is)
 
 -- ---- each row was tested
 

@@ -126,8 +126,13 @@ tidy_new names m = record { there = refl; once = refl; rows = tidy_nothing names
 
 -- ---- what is there is in its rules
 
-ruled_nothing : (shelf : Shelf) (a : List ℕ) → AreInRules shelf a nothing
+ruled_nothing : (shelf : Shelf) (a : List ℕ) → AreInRules shelf 0 a nothing
 ruled_nothing shelf a = record {
+  timely = record {
+    head = λ h e. absurd (cc e);
+    sessions = λ s x e. absurd (cc e);
+    charges = λ n x e. absurd (cc e);
+  };
   head = λ h e. absurd (cc e);
   buckets = λ n b e. absurd (cc e);
   counters = λ g k x e. absurd (cc e);

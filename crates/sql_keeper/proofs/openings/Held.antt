@@ -1,7 +1,7 @@
 -- What the commands leave is in its rules, and is found again: it is refused for no row.
 use Rattle.std.proofs.Common.{◌≡◌, ◌≤◌, ◌<◌, inl, inr, ◌∙◌, ◌++◌, ◌+◌, ℕ, suc, List, [], ◌∷◌, Some}
 use Rattle.std.proofs.Common.{refl, sym, ap, subst, arith, length, length-append, true, Bool}
-use Rattle.std.specs.Prelude.{◌==◌, is_some}
+use Rattle.std.specs.Prelude.{◌==◌, is_some, nat_le}
 use Rattle.std.proofs.lemmas.Bool.{and_from}
 use Rattle.std.proofs.lemmas.Bool.Decides.{nat_tests}
 use Rattle.units.specs.Words.{no_end}
@@ -167,13 +167,26 @@ held_committed text shelf last change old new held b = record {
   moment = sym (ap last_in b.meta);
 }
 
+-- a moment that isn't before the last one
+by_from : (n t : ℕ) → nat_le n t ≡ true → n ≤ t
+by_from n t e = grind (arith, nat_tests, e)
+
+-- the last moment that is kept isn't after it then
+-- rule: database-reads.held
+pub held_up_to : (text : List ℕ) (shelf : Shelf) (last t : ℕ) (trees : Trees)
+    → nat_le last t ≡ true → IsHeld text shelf last trees → last_in (tables_content trees).meta ≤ t
+held_up_to text shelf last t trees later held =
+    subst (λ n. n ≤ t) held.moment (by_from last t later)
+
 -- what is kept once is there with the text, and as a command leaves it that is at the last moment
 -- rule: database-reads.held
 pub held_stands : (text : List ℕ) (shelf : Shelf) (last : ℕ) (given : List ℕ) (t : ℕ) (told : Bool)
-    (trees : Trees) → given ≡ text → told ≡ (last == t) → IsHeld text shelf last trees
+    (trees : Trees) → given ≡ text → told ≡ (last == t) → nat_le last t ≡ true
+    → IsHeld text shelf last trees
     → IsKeptOnce told (meta_at given t) (tables_content trees).meta
-held_stands text shelf last given t told trees same at_last held = record {
+held_stands text shelf last given t told trees same at_last later held = record {
   last = kept.row.last;
+  later = subst (λ n. n ≤ t) (held.moment ∙ ap last_in kept.is) (by_from last t later);
   row = kept.is ∙ (λ i. Some (record {
     version = kept.version i;
     book = (kept.book ∙ sym same) i;

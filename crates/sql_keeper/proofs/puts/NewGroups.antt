@@ -1,5 +1,5 @@
 -- Groups of which nothing was there, put without a removal.
-use Rattle.std.proofs.Common.{◌≡◌, ℕ, Bool, true, false, cond, List, [], ◌∷◌, refl, sym, ap, subst}
+use Rattle.std.proofs.Common.{◌≡◌, ◌≤◌, ℕ, Bool, true, false, cond, List, [], ◌∷◌, refl, sym, ap, subst}
 use Rattle.std.proofs.Common.{◌∙◌, Option, Some, None}
 use Rattle.std.specs.Prelude.{if◌then◌else◌, ◌&&◌, ◌+◌, is_some, nat_eq, option_map}
 use Rattle.identifiers.specs.Texts.{same_name}
@@ -25,7 +25,7 @@ use Rattle.sql_rows.specs.Each.{with_counters, with_sessions}
 use Rattle.sql_rows.specs.Values.{Kept, Meta}
 use Rattle.sql_rows.specs.Content.{TableRows, TablesContent, with_group_row, with_meta, with_rows}
 use Rattle.sql_rows.specs.Lists.{AreCoveredBeside, HasNoGroups}
-use Rattle.sql_keeper.specs.Content.{Names}
+use Rattle.sql_keeper.specs.Content.{Names, last_in}
 use Rattle.sql_keeper.specs.Numbers.{LacksCharge, LacksCharges, LacksThen}
 use Rattle.sql_keeper.specs.Seen.{IsKeptOnce}
 use Rattle.sql_keeper.specs.Tests.{AreNewGroups, AreWritable, IsTested}
@@ -294,6 +294,12 @@ moment_same m last c stood o is = λ i. record c { meta = is i; kept = count i }
   where
     count : c.kept ≡ (if is_some c.meta then c.kept else c.kept + 1)
     count = ap (λ (x : Option Meta). if is_some x then c.kept else c.kept + 1) (sym stood)
+
+-- the last moment isn't after that of what is put
+-- rule: rows-ruled.timely
+pub kept_up_to : (told : Bool) (m : Meta) (o : Option Meta) → IsKeptOnce told m o
+    → last_in o ≤ m.last
+kept_up_to told m o it = subst (λ x. last_in x ≤ m.last) (sym it.row) it.later
 
 pub moment_put : (is_there : Bool) (m : Meta) (c : TablesContent) → IsKeptOnce is_there m c.meta
     → with_moment_put is_there m.last c ≡ with_meta m c

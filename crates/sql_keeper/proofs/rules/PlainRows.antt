@@ -15,6 +15,7 @@ use Rattle.sql_rules.specs.Columns.{is_in_bounds, number_at}
 use Rattle.sql_rules.specs.Rules.{are_periods, is_period, is_ruled_account, is_ruled_group}
 use Rattle.sql_rules.specs.Rules.{is_ruled_session}
 use Rattle.sql_rules.specs.Tables.{AreRuled}
+use Rattle.sql_rules.proofs.Contents.{rows_in_rules}
 use Rattle.sql_rules.proofs.Lookups.{found_in}
 
 -- ---- a column of what is under a key, behind the rowid
@@ -80,15 +81,15 @@ plain_group shelf r h =
 pub rows_plain : (shelf : Shelf) (trees : Trees) → AreRuled shelf latest trees → ArePlain trees
 rows_plain shelf trees all = record {
   heads = λ key cells e.
-      let it = found_in accounts trees is_ruled_account (all 1 (omega arith)).rows (λ (v : Row). v)
+      let it = found_in accounts trees is_ruled_account (rows_in_rules shelf trees all 1 (omega arith)) (λ (v : Row). v)
       key cells (ap (option_map (λ (v : Row). v)) e) in
       subst (λ v. is_plain_head v ≡ true) it.3 (plain_head it.0 it.2);
   of_sessions = λ key cells e.
-      let it = found_in sessions trees is_ruled_session (all 4 (omega arith)).rows (λ (v : Row). v)
+      let it = found_in sessions trees is_ruled_session (rows_in_rules shelf trees all 4 (omega arith)) (λ (v : Row). v)
       key cells (ap (option_map (λ (v : Row). v)) e) in
       subst (λ v. is_plain_session v ≡ true) it.3 (plain_session it.0 it.2);
   of_groups = λ key cells e.
-      let it = found_in session_groups trees (is_ruled_group shelf) (all 5 (omega arith)).rows
+      let it = found_in session_groups trees (is_ruled_group shelf) (rows_in_rules shelf trees all 5 (omega arith))
       (λ (v : Row). v) key cells (ap (option_map (λ (v : Row). v)) e) in
       subst (λ v. is_plain_group v ≡ true) it.3 (plain_group shelf it.0 it.2);
 }

@@ -47,7 +47,7 @@ use Rattle.sql_rules.specs.Columns.{are_some_blocks, is_moment, is_numbering, is
 use Rattle.sql_rules.specs.Columns.{is_in_bounds}
 use Rattle.sql_rules.specs.Rules.{are_kept_texts, are_periods, has_period, is_answer_key}
 use Rattle.sql_rules.specs.Rules.{is_period_name}
-use Rattle.sql_rules.specs.Ruled.{AreInRules, IsInRules, is_book, is_bucket, is_charge, is_counter}
+use Rattle.sql_rules.specs.Ruled.{AreInRules, IsInRules, IsInRulesBy, is_book, is_bucket, is_charge, is_counter}
 use Rattle.sql_rules.specs.Ruled.{is_group, is_session, is_voucher}
 use Rattle.sql_rules.proofs.Decoded.{are_named, periods_are}
 use Rattle.sql_rules.proofs.KeptRules.{account_kept, allowance_gone, allowance_kept, answer_kept}
@@ -55,9 +55,11 @@ use Rattle.sql_rules.proofs.KeptRules.{book_kept, bucket_kept, charge_kept, coun
 use Rattle.sql_rules.proofs.KeptRules.{covered_gone}
 use Rattle.sql_rules.proofs.KeptRules.{covered_kept, grant_book_gone, grant_book_kept, group_kept}
 use Rattle.sql_rules.proofs.KeptRules.{hold_kept, holds_gone, meta_kept, rows_kept, session_kept}
-use Rattle.sql_rules.proofs.KeptRules.{voucher_kept}
-use Rattle.sql_keeper.specs.Content.{names_numbered, shelf_names}
+use Rattle.sql_rules.proofs.KeptRules.{later_kept, voucher_kept}
+use Rattle.sql_keeper.specs.Content.{last_in, names_numbered, shelf_names}
 use Rattle.sql_keeper.specs.RuledRows.{are_ruled_rows, are_ruled_texts, are_texts_under}
+use Rattle.sql_keeper.specs.RuledRows.{are_timely_charges, are_timely_rows, are_timely_sessions}
+use Rattle.sql_keeper.specs.RuledRows.{is_timely_change}
 use Rattle.sql_keeper.specs.RuledRows.{is_ruled_addition, is_ruled_charge}
 use Rattle.sql_keeper.specs.RuledRows.{is_ruled_change, is_ruled_sweep, is_ruled_swept}
 use Rattle.sql_keeper.specs.RuledRows.{is_ruled_group, is_ruled_hold, is_ruled_key}
@@ -88,12 +90,21 @@ pub names_count : (shelf : Shelf) → length (shelf_names shelf) ≡ count shelf
 names_count shelf =
     length-map (dated_books shelf) (λ (d : DatedBook). d.book.periods)
 
-module _ (shelf : Shelf) where
+by_from : (n t : ℕ) → nat_le n t ≡ true → n ≤ t
+by_from n t e = grind (arith, nat_tests, e)
+
+each_of : {A : Type 0} (test : A → Bool) (xs : List A) → list_all test xs ≡ true
+    → EachIn (λ x. test x ≡ true) xs
+each_of test [] e = tt
+each_of test (x ∷ xs) e =
+    let parts = and_parts (test x) (list_all test xs) e in (parts.0, each_of test xs parts.1)
+
+module _ (shelf : Shelf) (last : ℕ) where
   all_kept : {X : Type 0} (change : X → TablesContent → TablesContent) (test : X → Bool)
-      → ((x : X) (c : TablesContent) → test x ≡ true → IsInRules shelf c →
-      IsInRules shelf (change x c))
-      → (xs : List X) (c : TablesContent) → list_all test xs ≡ true → IsInRules shelf c
-      → IsInRules shelf (with_each change xs c)
+      → ((x : X) (c : TablesContent) → test x ≡ true → IsInRulesBy shelf last c →
+      IsInRulesBy shelf last (change x c))
+      → (xs : List X) (c : TablesContent) → list_all test xs ≡ true → IsInRulesBy shelf last c
+      → IsInRulesBy shelf last (with_each change xs c)
   all_kept change test one [] c all in' = in'
   all_kept change test one (x ∷ xs) c all in' =
       let parts = and_parts (test x) (list_all test xs) all in
@@ -101,15 +112,23 @@ module _ (shelf : Shelf) where
 
   each_kept : {X : Type 0} (change : X → TablesContent → TablesContent) (test : X → Bool)
       (P : X → Type 0)
-      → ((x : X) (c : TablesContent) → test x ≡ true → P x → IsInRules shelf c
-      → IsInRules shelf (change x c))
+      → ((x : X) (c : TablesContent) → test x ≡ true → P x → IsInRulesBy shelf last c
+      → IsInRulesBy shelf last (change x c))
       → (xs : List X) (c : TablesContent) → list_all test xs ≡ true → EachIn P xs →
-      IsInRules shelf c
-      → IsInRules shelf (with_each change xs c)
+      IsInRulesBy shelf last c
+      → IsInRulesBy shelf last (with_each change xs c)
   each_kept change test P one [] c all each in' = in'
   each_kept change test P one (x ∷ xs) c all each in' =
       let parts = and_parts (test x) (list_all test xs) all in
       each_kept change test P one xs (change x c) parts.1 each.1 (one x c parts.0 each.0 in')
+
+  -- ---- moments
+
+  abbrev IsTouchedBy : Session → Type 0
+  IsTouchedBy x = nat_le x.touched last ≡ true
+
+  abbrev IsChargedBy : ChargeRow → Type 0
+  IsChargedBy x = nat_le x.moment last ≡ true
 
   -- ---- names of periods
 
@@ -144,7 +163,7 @@ module _ (shelf : Shelf) where
   module _ (a : List ℕ) where
     scoped_kept : (o : Option ℕ) (k : BucketKind) (n : ℕ) (c : TablesContent) →
         is_numbering n ≡ true
-        → IsInRules shelf c → IsInRules shelf (with_scoped a o k n c)
+        → IsInRulesBy shelf last c → IsInRulesBy shelf last (with_scoped a o k n c)
     scoped_kept None k n c rule in' = in'
     scoped_kept (Some g) Money n c rule in' =
         rows_kept shelf c in' a (with_kind Money n)
@@ -157,8 +176,8 @@ module _ (shelf : Shelf) where
     first_of_five true q r s t h = refl
     first_of_five false q r s t h = absurd (cc h)
 
-    counted_kept : (b : BucketRow) (c : TablesContent) → is_bucket b ≡ true → IsInRules shelf c
-        → IsInRules shelf (with_counted a b c)
+    counted_kept : (b : BucketRow) (c : TablesContent) → is_bucket b ≡ true → IsInRulesBy shelf last c
+        → IsInRulesBy shelf last (with_counted a b c)
     counted_kept b c rule in' =
         scoped_kept b.scope b.kind b.number (with_rows a (with_bucket (plain_bucket b)) c)
         (first_of_five (is_numbering b.number) _ _ _ _ rule)
@@ -166,8 +185,8 @@ module _ (shelf : Shelf) where
         (bucket_kept shelf a (c.rows a) (in'.rows a) (plain_bucket b) rule))
 
     book_of_kept : (s : List ℕ) (g : ℕ) (o : Option Reservation) (c : TablesContent)
-        → is_ruled_reservation (shelf_names shelf) o ≡ true → IsInRules shelf c
-        → IsInRules shelf (with_rows a (with_book_of s g o) c)
+        → is_ruled_reservation (shelf_names shelf) o ≡ true → IsInRulesBy shelf last c
+        → IsInRulesBy shelf last (with_rows a (with_book_of s g o) c)
     book_of_kept s g None c rule in' =
         rows_kept shelf c in' a (with_book_of s g None)
         (grant_book_gone shelf a (c.rows a) (in'.rows a) s g)
@@ -187,8 +206,8 @@ module _ (shelf : Shelf) where
 
     held_kept : (sessions : List Session) (x : SessionGroup) (c : TablesContent)
         → is_ruled_group (shelf_names shelf) x ≡ true
-        → MayStand (shelf_names shelf) sessions x.session x.reservation → IsInRules shelf c
-        → IsInRules shelf (with_held_group a (shelf_names shelf) x c)
+        → MayStand (shelf_names shelf) sessions x.session x.reservation → IsInRulesBy shelf last c
+        → IsInRulesBy shelf last (with_held_group a (shelf_names shelf) x c)
     held_kept sessions x c rule may in' =
         let s = x.session in
         let g = x.group in
@@ -196,14 +215,14 @@ module _ (shelf : Shelf) where
         (is_ruled_reservation (shelf_names shelf) x.reservation) rule in
         let row = columns_of (shelf_names shelf) x in
         let grouped = with_rows a (with_group_row s g row) c in
-        let one : IsInRules shelf grouped = rows_kept shelf c in' a (with_group_row s g row)
+        let one : IsInRulesBy shelf last grouped = rows_kept shelf c in' a (with_group_row s g row)
         (group_kept shelf a (c.rows a) (in'.rows a) s g row
         (and_from _ _ parts.0 (periods_are shelf row.periods
         ∙ names_known sessions s x.reservation may))) in
         let booked = with_rows a (with_book_of s g x.reservation) grouped in
-        let two : IsInRules shelf booked = book_of_kept s g x.reservation grouped parts.1 one in
+        let two : IsInRulesBy shelf last booked = book_of_kept s g x.reservation grouped parts.1 one in
         let freed = with_rows a (without_holds s g) booked in
-        let three : IsInRules shelf freed = rows_kept shelf booked two a (without_holds s g)
+        let three : IsInRulesBy shelf last freed = rows_kept shelf booked two a (without_holds s g)
         (holds_gone shelf a (booked.rows a) (two.rows a) s g) in
         all_kept (λ (h : HeldAmount). with_rows a (with_hold_row s g h.bucket h.amount))
         is_ruled_hold
@@ -212,10 +231,11 @@ module _ (shelf : Shelf) where
         (holds_in x.reservation) freed (holds_ruled x.reservation parts.1) three
 
     stored_kept : (among : List Session) (w : StoredRows) (c : TablesContent)
-        → are_ruled_rows (shelf_names shelf) a w ≡ true
-        → AreWritable (shelf_names shelf) among w.groups → IsInRules shelf c
-        → IsInRules shelf (with_stored a (shelf_names shelf) w c)
-    stored_kept among w c rule may in' =
+        → are_ruled_rows (shelf_names shelf) a w ≡ true → are_timely_rows last w ≡ true
+        → AreWritable (shelf_names shelf) among w.groups → IsInRulesBy shelf last c
+        → IsInRulesBy shelf last (with_stored a (shelf_names shelf) w c)
+    stored_kept among w c rule early may in' =
+        let times = and_parts (nat_le w.as_of last) (are_timely_sessions last w.sessions) early in
         let groups = and_parts _ (list_all (is_ruled_group (shelf_names shelf)) w.groups) rule in
         let sessions = and_parts _ (list_all is_session w.sessions) groups.0 in
         let counters = and_parts _ (list_all is_counter w.counters) sessions.0 in
@@ -224,24 +244,26 @@ module _ (shelf : Shelf) where
         (λ (x : SessionGroup).
         MayStand (shelf_names shelf) among x.session x.reservation)
         (held_kept among) w.groups _ groups.1 may
-        (all_kept (λ x. with_rows a (with_session_row x)) is_session
-        (λ x d some so. rows_kept shelf d so a (with_session_row x)
-        (session_kept shelf a (d.rows a) (so.rows a) x some)) w.sessions _ sessions.1
+        (each_kept (λ x. with_rows a (with_session_row x)) is_session IsTouchedBy
+        (λ x d some early so. rows_kept shelf d so a (with_session_row x)
+        (session_kept shelf a (d.rows a) (so.rows a) x some (by_from x.touched last early)))
+        w.sessions _ sessions.1 (each_of (λ (x : Session). nat_le x.touched last) w.sessions times.1)
         (all_kept (λ x. with_rows a (with_counter_row x)) is_counter
         (λ x d some so. rows_kept shelf d so a (with_counter_row x)
         (counter_kept shelf a (d.rows a) (so.rows a) x some)) w.counters _ counters.1
         (all_kept (with_counted a) is_bucket counted_kept w.buckets _ buckets.1
-        (account_kept shelf c in' a (head_columns_of w) buckets.0))))
+        (account_kept shelf c in' a (head_columns_of w) buckets.0 (by_from w.as_of last times.0)))))
 
     -- the same with the head put last
     swept_kept : (among : List Session) (w : StoredRows) (c : TablesContent)
-        → are_ruled_rows (shelf_names shelf) a w ≡ true
-        → AreWritable (shelf_names shelf) among w.groups → IsInRules shelf c
-        → IsInRules shelf (with_account a (head_columns_of w)
+        → are_ruled_rows (shelf_names shelf) a w ≡ true → are_timely_rows last w ≡ true
+        → AreWritable (shelf_names shelf) among w.groups → IsInRulesBy shelf last c
+        → IsInRulesBy shelf last (with_account a (head_columns_of w)
         (with_groups a (shelf_names shelf) w.groups
         (with_sessions a w.sessions (with_counters a w.counters
         (with_all_counted a w.buckets c)))))
-    swept_kept among w c rule may in' =
+    swept_kept among w c rule early may in' =
+        let times = and_parts (nat_le w.as_of last) (are_timely_sessions last w.sessions) early in
         let groups = and_parts _ (list_all (is_ruled_group (shelf_names shelf)) w.groups) rule in
         let sessions = and_parts _ (list_all is_session w.sessions) groups.0 in
         let counters = and_parts _ (list_all is_counter w.counters) sessions.0 in
@@ -251,14 +273,15 @@ module _ (shelf : Shelf) where
         (λ (x : SessionGroup).
         MayStand (shelf_names shelf) among x.session x.reservation)
         (held_kept among) w.groups _ groups.1 may
-        (all_kept (λ x. with_rows a (with_session_row x)) is_session
-        (λ x d some so. rows_kept shelf d so a (with_session_row x)
-        (session_kept shelf a (d.rows a) (so.rows a) x some)) w.sessions _ sessions.1
+        (each_kept (λ x. with_rows a (with_session_row x)) is_session IsTouchedBy
+        (λ x d some early so. rows_kept shelf d so a (with_session_row x)
+        (session_kept shelf a (d.rows a) (so.rows a) x some (by_from x.touched last early)))
+        w.sessions _ sessions.1 (each_of (λ (x : Session). nat_le x.touched last) w.sessions times.1)
         (all_kept (λ x. with_rows a (with_counter_row x)) is_counter
         (λ x d some so. rows_kept shelf d so a (with_counter_row x)
         (counter_kept shelf a (d.rows a) (so.rows a) x some)) w.counters _ counters.1
         (all_kept (with_counted a) is_bucket counted_kept w.buckets c buckets.1 in'))))
-        a (head_columns_of w) buckets.0
+        a (head_columns_of w) buckets.0 (by_from w.as_of last times.0)
 
     -- ---- charges, texts, vouchers
 
@@ -270,10 +293,10 @@ module _ (shelf : Shelf) where
         least = grind (arith, nat_tests, e)
 
     blocks_kept : (n m : ℕ) (c : TablesContent) → nat_le m 1_000_000_000 ≡ true
-        → IsInRules shelf c → IsInRules shelf (with_rows a (with_blocks n m) c)
+        → IsInRulesBy shelf last c → IsInRulesBy shelf last (with_rows a (with_blocks n m) c)
     blocks_kept n m c most in' = at (m == 0) refl
       where
-        at : (t : Bool) → (m == 0) ≡ t → IsInRules shelf (with_rows a (λ r. if t
+        at : (t : Bool) → (m == 0) ≡ t → IsInRulesBy shelf last (with_rows a (λ r. if t
             then without_covered n r
             else with_covered (record { number = n; blocks = m }) r) c)
         at true e = rows_kept shelf c in' a (without_covered n)
@@ -283,20 +306,24 @@ module _ (shelf : Shelf) where
             (some_blocks m e most))
 
     paid_kept : (x : ChargeRow) (c : TablesContent) → is_ruled_charge x ≡ true
-        → IsInRules shelf c → IsInRules shelf (with_paid a x c)
-    paid_kept x c rule in' =
+        → nat_le x.moment last ≡ true → IsInRulesBy shelf last c → IsInRulesBy shelf last (with_paid a x c)
+    paid_kept x c rule early in' =
         let parts = and_parts (is_charge x) (nat_le x.covered.0 1_000_000_000) rule in
         blocks_kept x.number x.covered.0 (with_rows a (with_charge_row (plain_charge x)) c) parts.1
         (rows_kept shelf c in' a (with_charge_row (plain_charge x))
-        (charge_kept shelf a (c.rows a) (in'.rows a) (plain_charge x) parts.0))
+        (charge_kept shelf a (c.rows a) (in'.rows a) (plain_charge x) parts.0
+        (by_from x.moment last early)))
 
     all_paid_kept : (xs : List ChargeRow) (c : TablesContent) → list_all is_ruled_charge xs ≡ true
-        → IsInRules shelf c → IsInRules shelf (with_all_paid a xs c)
-    all_paid_kept = all_kept (with_paid a) is_ruled_charge paid_kept
+        → are_timely_charges last xs ≡ true → IsInRulesBy shelf last c
+        → IsInRulesBy shelf last (with_all_paid a xs c)
+    all_paid_kept xs c rule early =
+        each_kept (with_paid a) is_ruled_charge IsChargedBy paid_kept xs c rule
+        (each_of (λ (x : ChargeRow). nat_le x.moment last) xs early)
 
     texts_kept : (key : Key) (t : Kept) (c : TablesContent) → is_ruled_key key ≡ true
-        → are_texts_under key a t ≡ true → IsInRules shelf c
-        → IsInRules shelf (with_texts a key t c)
+        → are_texts_under key a t ≡ true → IsInRulesBy shelf last c
+        → IsInRulesBy shelf last (with_texts a key t c)
     texts_kept (Request s n) t c key texts in' =
         rows_kept shelf c in' a (with_answer request_kind s n t)
         (answer_kept shelf a (c.rows a) (in'.rows a) request_kind s n t
@@ -309,15 +336,15 @@ module _ (shelf : Shelf) where
         (are_kept_texts reference_kind x 0 a t.content t.answer) key texts))
 
     kept_kept : (kept : Option KeptAnswer) (texts : Option Kept) (c : TablesContent)
-        → is_ruled_kept kept ≡ true → are_ruled_texts a kept texts ≡ true → IsInRules shelf c
-        → IsInRules shelf (with_kept a kept texts c)
+        → is_ruled_kept kept ≡ true → are_ruled_texts a kept texts ≡ true → IsInRulesBy shelf last c
+        → IsInRulesBy shelf last (with_kept a kept texts c)
     kept_kept None texts c key rule in' = in'
     kept_kept (Some k) None c key rule in' = in'
     kept_kept (Some k) (Some t) c key rule in' =
         texts_kept (key_of k.content) t c key rule in'
 
   redeemed_kept : (o : Option Redeemed) (c : TablesContent) → is_ruled_redeemed o ≡ true
-      → IsInRules shelf c → IsInRules shelf (with_redeemed o c)
+      → IsInRulesBy shelf last c → IsInRulesBy shelf last (with_redeemed o c)
   redeemed_kept None c rule in' = in'
   redeemed_kept (Some r) c rule in' = voucher_kept shelf c in' r.code (voucher_row r.voucher) rule
 
@@ -327,15 +354,17 @@ module _ (shelf : Shelf) where
   none_there true e f = absurd (cc f)
   none_there false e f = absurd (cc e)
 
-  -- rule: rows-ruled.ruled-change
-  pub change_kept : (m : Meta) (change : Change) (texts : Option Kept) (c : TablesContent)
-      → m.last ≡ change.moment → is_ruled_change (shelf_names shelf) change ≡ true
+  change_kept : (m : Meta) (change : Change) (texts : Option Kept) (c : TablesContent)
+      → change.moment ≡ last → m.last ≡ change.moment → is_ruled_change (shelf_names shelf) change ≡ true
       → are_ruled_texts change.number change.kept texts ≡ true
       → AreWritable (shelf_names shelf) change.rows.sessions change.rows.groups
-      → is_some c.meta ≡ true → IsInRules shelf c
-      → IsInRules shelf (with_change (shelf_names shelf) m change texts c)
-  change_kept m change texts c last rule told may there in' =
-      let kept = and_parts _ (is_ruled_kept change.kept) rule in
+      → is_some c.meta ≡ true → IsInRulesBy shelf last c
+      → IsInRulesBy shelf last (with_change (shelf_names shelf) m change texts c)
+  change_kept m change texts c now kept_last rule told may there in' =
+      let all = and_parts _ (is_timely_change change) rule in
+      let times = and_parts (are_timely_rows change.moment change.rows)
+      (are_timely_charges change.moment change.charges.items) all.1 in
+      let kept = and_parts _ (is_ruled_kept change.kept) all.0 in
       let redeemed = and_parts _ (is_ruled_redeemed change.redeemed) kept.0 in
       let charges = and_parts _ (list_all is_ruled_charge change.charges.items) redeemed.0 in
       let rows = and_parts (is_moment change.moment)
@@ -343,35 +372,70 @@ module _ (shelf : Shelf) where
       redeemed_kept change.redeemed _ redeemed.1
       (kept_kept change.number change.kept texts _ kept.1 told
       (all_paid_kept change.number change.charges.items _ charges.1
-      (stored_kept change.number change.rows.sessions change.rows (with_meta m c) rows.1 may
-      (meta_kept shelf c in' m (subst (λ n. is_moment n ≡ true) (sym last) rows.0)
+      (subst (λ n. are_timely_charges n change.charges.items ≡ true) now times.1)
+      (stored_kept change.number change.rows.sessions change.rows (with_meta m c) rows.1
+      (subst (λ n. are_timely_rows n change.rows ≡ true) now times.0) may
+      (meta_kept shelf c in' m (subst (λ n. is_moment n ≡ true) (sym kept_last) rows.0)
       (λ none. none_there (is_some c.meta) there none)))))
 
   -- ---- a voucher, a sweep
 
-  -- rule: rows-ruled.ruled-change
-  pub addition_kept : (text code : List ℕ) (terms : VoucherTerms) (t : ℕ) (c : TablesContent)
-      → is_ruled_addition code terms t ≡ true → is_some c.meta ≡ true → IsInRules shelf c
-      → IsInRules shelf (with_addition text code terms t c)
-  addition_kept text code terms t c rule there in' =
-      let parts = and_parts (is_moment t) (is_voucher code (voucher_row (unspent terms))) rule in
-      voucher_kept shelf (with_meta (meta_at text t) c)
-      (meta_kept shelf c in' (meta_at text t) parts.0
+  addition_kept : (text code : List ℕ) (terms : VoucherTerms) (c : TablesContent)
+      → is_ruled_addition code terms last ≡ true → is_some c.meta ≡ true → IsInRulesBy shelf last c
+      → IsInRulesBy shelf last (with_addition text code terms last c)
+  addition_kept text code terms c rule there in' =
+      let parts = and_parts (is_moment last) (is_voucher code (voucher_row (unspent terms))) rule in
+      voucher_kept shelf (with_meta (meta_at text last) c)
+      (meta_kept shelf c in' (meta_at text last) parts.0
       (λ none. none_there (is_some c.meta) there none)) code (voucher_row (unspent terms)) parts.1
 
-  -- rule: rows-ruled.ruled-change
-  pub sweep_kept : (text : List ℕ) (t : ℕ) (xs : List SweptAccount) (c : TablesContent)
-      → is_ruled_sweep (shelf_names shelf) t xs ≡ true
-      → EachIn (MayBePut (shelf_names shelf)) xs → is_some c.meta ≡ true → IsInRules shelf c
-      → IsInRules shelf (with_sweep (shelf_names shelf) text t xs c)
-  sweep_kept text t xs c rule may there in' =
-      let parts = and_parts (is_moment t) (list_all (is_ruled_swept (shelf_names shelf)) xs) rule in
-      each_kept (with_swept (shelf_names shelf)) (is_ruled_swept (shelf_names shelf))
+  sweep_kept : (text : List ℕ) (xs : List SweptAccount) (c : TablesContent)
+      → is_ruled_sweep (shelf_names shelf) last xs ≡ true
+      → EachIn (MayBePut (shelf_names shelf)) xs → is_some c.meta ≡ true → IsInRulesBy shelf last c
+      → IsInRulesBy shelf last (with_sweep (shelf_names shelf) text last xs c)
+  sweep_kept text xs c rule may there in' =
+      let parts = and_parts (is_moment last) (list_all (is_ruled_swept (shelf_names shelf) last) xs) rule in
+      each_kept (with_swept (shelf_names shelf)) (is_ruled_swept (shelf_names shelf) last)
       (MayBePut (shelf_names shelf))
-      (λ x d rule own so. swept_kept x.number own.among x.rows d rule own.may so) xs
-      (with_meta (meta_at text t) c) parts.1 may
-      (meta_kept shelf c in' (meta_at text t) parts.0
+      (λ x d rule own so.
+      let both = and_parts (are_ruled_rows (shelf_names shelf) x.number x.rows)
+      (are_timely_rows last x.rows) rule in
+      swept_kept x.number own.among x.rows d both.0 both.1 own.may so) xs
+      (with_meta (meta_at text last) c) parts.1 may
+      (meta_kept shelf c in' (meta_at text last) parts.0
       (λ none. none_there (is_some c.meta) there none))
+
+-- ---- what the last moment of the content becomes
+
+module _ (shelf : Shelf) (c : TablesContent) (there : is_some c.meta ≡ true)
+    (in' : IsInRules shelf c) where
+  -- rule: rows-ruled.ruled-change, rows-ruled.timely
+  pub change_ruled : (m : Meta) (change : Change) (texts : Option Kept)
+      → m.last ≡ change.moment → last_in c.meta ≤ change.moment
+      → is_ruled_change (shelf_names shelf) change ≡ true
+      → are_ruled_texts change.number change.kept texts ≡ true
+      → AreWritable (shelf_names shelf) change.rows.sessions change.rows.groups
+      → IsInRulesBy shelf change.moment (with_change (shelf_names shelf) m change texts c)
+  change_ruled m change texts last later rule told may =
+      change_kept shelf change.moment m change texts c refl last rule told may there
+      (later_kept shelf (last_in c.meta) change.moment c later in')
+
+  -- rule: rows-ruled.ruled-change, rows-ruled.timely
+  pub addition_ruled : (text code : List ℕ) (terms : VoucherTerms) (t : ℕ) → last_in c.meta ≤ t
+      → is_ruled_addition code terms t ≡ true
+      → IsInRulesBy shelf t (with_addition text code terms t c)
+  addition_ruled text code terms t later rule =
+      addition_kept shelf t text code terms c rule there
+      (later_kept shelf (last_in c.meta) t c later in')
+
+  -- rule: rows-ruled.ruled-change, rows-ruled.timely
+  pub sweep_ruled : (text : List ℕ) (t : ℕ) (xs : List SweptAccount) → last_in c.meta ≤ t
+      → is_ruled_sweep (shelf_names shelf) t xs ≡ true
+      → EachIn (MayBePut (shelf_names shelf)) xs
+      → IsInRulesBy shelf t (with_sweep (shelf_names shelf) text t xs c)
+  sweep_ruled text t xs later rule may =
+      sweep_kept shelf t text xs c rule may there
+      (later_kept shelf (last_in c.meta) t c later in')
 
 -- ---- a book more
 
@@ -419,9 +483,10 @@ module _ (shelf : Shelf) (from : ℕ) (b : Book) where
   within_more : (low m n k : ℕ) → m ≤ n → is_in_bounds low m k ≡ true → is_in_bounds low n k ≡ true
   within_more low m n k less e = grind (arith, nat_tests, less, e)
 
-  more_rows : (a : List ℕ) (r : TableRows) → AreInRules shelf a r →
-      AreInRules (with_book shelf from b) a r
+  more_rows : {last : ℕ} (a : List ℕ) (r : TableRows) → AreInRules shelf last a r →
+      AreInRules (with_book shelf from b) last a r
   more_rows a r in' = record {
+    timely = in'.timely;
     head = in'.head;
     buckets = in'.buckets;
     counters = in'.counters;

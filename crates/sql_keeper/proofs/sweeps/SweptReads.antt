@@ -24,11 +24,12 @@ use Rattle.sql_rows.specs.Lists.{AreAccounts}
 use Rattle.sql_rows.specs.Makes.{Makes, Turns}
 use Rattle.sql_rows.proofs.queries.Within.{HaveWithin}
 use Rattle.sql_rules.specs.Columns.{is_moment}
-use Rattle.sql_rules.specs.Ruled.{IsInRules}
+use Rattle.sql_rules.specs.Ruled.{IsInRulesBy}
 use Rattle.sql_keeper.specs.RuledRows.{is_ruled_sweep, is_ruled_swept}
-use Rattle.sql_keeper.proofs.rules.RuledRows.{sweep_kept}
+use Rattle.sql_keeper.proofs.rules.RuledRows.{sweep_ruled}
 use Rattle.sql_keeper.specs.Commits.{CommitsWhole}
-use Rattle.sql_keeper.specs.Content.{tables_of, Names}
+use Rattle.sql_keeper.specs.Content.{last_in, tables_of, Names}
+use Rattle.sql_keeper.specs.Seen.{IsUpTo}
 use Rattle.sql_keeper.specs.LiveRows.{IsLiveUncounted}
 use Rattle.sql_keeper.specs.Sweeps.{AreSweptRows, IsSweptOf, IsSweptAs, IsSweptFrom, AreSweptOf}
 use Rattle.sql_keeper.specs.Sweeps.{AreAllSwept, BecomesSwept, CommitsSweep, MakesSweep}
@@ -88,7 +89,7 @@ pub one_swept : {B C E F : Type 0} (names : Names) (shelf : Shelf) (t : ℕ) (a 
     (old mid new : State) (o : Option StoredRows) (x : SweptAccount) (u : B) (v : C)
     → HaveWithin old mid
     → (HasCleanDisk mid → IsLiveUncounted names (rows_in old.now.trees a) o)
-    → IsSweptFrom names shelf t a o x → IsTrue (is_ruled_swept names x)
+    → IsSweptFrom names shelf t a o x → IsTrue (is_ruled_swept names t x)
     → Attempts {A = B} {E = F} (Makes (with_swept names x)) mid new (Ok u)
     → Attempts {A = C} {E = E} (SweepsOne names shelf t a) old new (Ok v)
 one_swept {B} {C} {E} names shelf t a old mid new o x u v have live made ruled put = record {
@@ -237,7 +238,7 @@ module _ (names : Names) (text : List ℕ) (shelf : Shelf) (t : ℕ) where
                 before
                 (as_before numbers a xs next.account (tables_content old.now.trees)
                 (tables_content mid.now.trees) m.turns.turns.content apart before next.swept);
-            ruled = all_ruled (is_ruled_swept names) xs next.account m.turns.ruled next.ruled;
+            ruled = all_ruled (is_ruled_swept names t) xs next.account m.turns.ruled next.ruled;
             turns = record {
               content = both.turns.content ∙ sym (each_more (with_swept names) xs next.account
                   (with_meta (meta_at text t) (tables_content old.now.trees)));
@@ -296,68 +297,79 @@ module _ (names : Names) (text : List ℕ) (shelf : Shelf) (t : ℕ) where
 
 become : (names : Names) (text : List ℕ) (shelf : Shelf) (t : ℕ) (xs : List SweptAccount)
     → IsShelf shelf → t ≤ 4_102_488_000 → (old new : Trees)
-    → AreAllSwept names shelf t (tables_content old) xs → is_ruled_sweep names t xs ≡ true
+    → last_in (tables_content old).meta ≤ t → AreAllSwept names shelf t (tables_content old) xs → is_ruled_sweep names t xs ≡ true
     → Turns (with_sweep names text t xs) old new → BecomesSwept names text shelf t old new
-become names text shelf t xs ranges last old new all ruled turns = record {
-  tables =
-      subst (λ (c : TablesContent). IsSwept shelf t (tables_of names (tables_content old))
-      (tables_of names c))
-      (sym turns.content) (sweeps_read names text shelf t (tables_content old) xs ranges all);
-  tidy = λ tidy. subst (IsTidy names) (sym turns.content)
-      (tidy_sweep names text shelf t (tables_content old) xs ranges all tidy);
-  rules = λ own is there in'. subst (IsInRules own) (sym turns.content)
-      (subst (λ n. IsInRules own (with_sweep n text t xs (tables_content old))) (sym is)
-      (sweep_kept own text t xs (tables_content old)
-      (subst (λ n. is_ruled_sweep n t xs ≡ true) is ruled)
-      (subst (λ n. EachIn (MayBePut n) xs) is
-      (may names text shelf t (tables_content old) xs ranges all)) there in'));
-  plain = turns.plain;
-  meta = ap (λ (c : TablesContent). c.meta) turns.content
-      ∙ swept_meta names text shelf t (tables_content old) xs ranges all;
-  last = last;
-  books = ap (λ (c : TablesContent). c.books) turns.content
-      ∙ swept_books names text shelf t (tables_content old) xs ranges all;
-  catalog = turns.catalog;
-  stored = turns.stored;
-}
+become names text shelf t xs ranges last old new later all ruled turns =
+    let kept : (tables_content new).meta ≡ Some (meta_at text t) =
+    ap (λ (c : TablesContent). c.meta) turns.content
+    ∙ swept_meta names text shelf t (tables_content old) xs ranges all in
+    record {
+      tables =
+          subst (λ (c : TablesContent). IsSwept shelf t (tables_of names (tables_content old))
+          (tables_of names c))
+          (sym turns.content) (sweeps_read names text shelf t (tables_content old) xs ranges all);
+      tidy = λ tidy. subst (IsTidy names) (sym turns.content)
+          (tidy_sweep names text shelf t (tables_content old) xs ranges all tidy);
+      rules = λ own is there in'.
+          subst (λ n. IsInRulesBy own n (tables_content new)) (sym (ap last_in kept))
+          (subst (IsInRulesBy own t) (sym turns.content)
+          (subst (λ n. IsInRulesBy own t (with_sweep n text t xs (tables_content old))) (sym is)
+          (sweep_ruled own (tables_content old) there in' text t xs later
+          (subst (λ n. is_ruled_sweep n t xs ≡ true) is ruled)
+          (subst (λ n. EachIn (MayBePut n) xs) is
+          (may names text shelf t (tables_content old) xs ranges all)))));
+      plain = turns.plain;
+      meta = kept;
+      last = last;
+      later = later;
+      books = ap (λ (c : TablesContent). c.books) turns.content
+          ∙ swept_books names text shelf t (tables_content old) xs ranges all;
+      catalog = turns.catalog;
+      stored = turns.stored;
+    }
 
 -- the accounts of all numbers, one after another
 swept_whole : (names : Names) (text : List ℕ) (shelf : Shelf) (t : ℕ) → IsShelf shelf
     → t ≤ 4_102_488_000 → is_moment t ≡ true → (old db : Trees)
-    → SweepsAccounts names text shelf t old db → BecomesSwept names text shelf t old db
-swept_whole names text shelf t ranges last ruled old db all =
+    → last_in (tables_content old).meta ≤ t → SweepsAccounts names text shelf t old db → BecomesSwept names text shelf t old db
+swept_whole names text shelf t ranges last ruled old db later all =
     let s = all.each.swept all.all.apart in
     let xs = all.each.accounts in
-    become names text shelf t xs ranges last old db (record {
+    become names text shelf t xs ranges last old db later (record {
       all = subst (AreAccounts (tables_content old)) (sym s.numbers_are) all.all;
       each = s.each;
-    }) (and_from (is_moment t) (list_all (is_ruled_swept names) xs) ruled all.each.ruled)
+    }) (and_from (is_moment t) (list_all (is_ruled_swept names t) xs) ruled all.each.ruled)
     all.each.turns
 
 -- rule: database-sweep.sweeps-accounts
 pub sweep_written : {A E : Type 0} (names : Names) (text : List ℕ) (shelf : Shelf) (t : ℕ)
-    → IsShelf shelf → t ≤ 4_102_488_000 → is_moment t ≡ true → (old new : State) (r : Result A E)
-    → TransactsSweep names text shelf t old new r
+    → IsShelf shelf → t ≤ 4_102_488_000 → is_moment t ≡ true → (old new : State) → IsUpTo t old
+    → (r : Result A E) → TransactsSweep names text shelf t old new r
     → CommitsWhole (BecomesSwept names text shelf t) old new r
-sweep_written {A} {E} names text shelf t ranges last ruled old new r w = record {
-  done = λ clean. done r (w.done clean);
+sweep_written {A} {E} names text shelf t ranges last ruled old new up r w = record {
+  done = λ clean. done (was clean) r (w.done clean);
   err = w.kept;
   idle = w.idle;
   survives = survives_weaker old new
       (λ db. IsTrue old.is_open × SweepsAccounts names text shelf t old.now.trees db)
       (λ db. IsTrue old.is_open → BecomesSwept names text shelf t old.now.trees db)
-      (λ clean db e on. swept_whole names text shelf t ranges last ruled old.now.trees db e.1)
+      (λ clean db e on. swept_whole names text shelf t ranges last ruled old.now.trees db
+      (up (was clean) on) e.1)
       w.survives;
 }
   where
-    done : (r : Result A E)
+    was : HasCleanDisk new → HasCleanDisk old
+    was clean = omega (arith, w.survives.clean, clean)
+
+    done : HasCleanDisk old → (r : Result A E)
         → OnOk r
         (IsTrue old.is_open × IsTrue new.is_open × CommitsSweep names text shelf t old new)
         → OnOk r (IsTrue old.is_open × IsTrue new.is_open
         × BecomesSwept names text shelf t old.now.trees new.now.trees)
-    done (Ok v) d = (
+    done clean (Ok v) d = (
       d.0,
       d.1,
-      swept_whole names text shelf t ranges last ruled old.now.trees new.now.trees d.2.sweeps,
+      swept_whole names text shelf t ranges last ruled old.now.trees new.now.trees (up clean d.0)
+          d.2.sweeps,
     )
-    done (Err e) d = tt
+    done clean (Err e) d = tt

@@ -4,9 +4,10 @@ use Rattle.sql_keeper.proofs.stops.StillOpen.{committed_standing, standing_shut}
 use Rattle.sql_keeper.proofs.added_vouchers.ask_to_add.Goals as goal
 
 pub make_addition-requires-clause-is_there : goal.make_addition-requires-clause-is_there
-make_addition-requires-clause-is_there g c =
+make_addition-requires-clause-is_there g c later =
     stands_after c.args.is_there _ (state g.S.Store c.args.conn.now)
-    (state g.S.Store c.still_open.new.conn) c.requires.is_there c.in_ok-still_open.ensures.only
+    (state g.S.Store c.still_open.new.conn) (c.requires.is_there later)
+    c.in_ok-still_open.ensures.only
 
 pub make_addition-requires-clause-plain : goal.make_addition-requires-clause-plain
 make_addition-requires-clause-plain g c = c.in_ok-still_open.ensures.only.mode c.requires.plain

@@ -12,7 +12,7 @@ returns-in_err-write_addition-clause-commits g c =
     (become_added _ _ _ c.args.moment
     (omega (arith, c.seconds-moment.ensures.in_range, c.seconds-moment.ensures.value))
     (sym c.if-not-is_ruled_addition.ensures) c.args.is_there (state g.S.Store c.args.conn.now)
-    c.requires.is_there) _ _
+    (c.requires.is_there c.if-not-is_later.false)) _ _
     c.in_err-write_addition.ensures.transacts)
 
 pub returns-clause-commits : goal.returns-clause-commits
@@ -21,8 +21,12 @@ returns-clause-commits g c =
     (become_added _ _ _ c.args.moment
     (omega (arith, c.seconds-moment.ensures.in_range, c.seconds-moment.ensures.value))
     (sym c.if-not-is_ruled_addition.ensures) c.args.is_there (state g.S.Store c.args.conn.now)
-    c.requires.is_there) _ _
+    (c.requires.is_there c.if-not-is_later.false)) _ _
     c.in_ok-write_addition.ensures.transacts
+
+pub returns-then-not-is_later-clause-commits : goal.returns-then-not-is_later-clause-commits
+returns-then-not-is_later-clause-commits g c =
+    refused_at_once _ (state g.S.Store c.args.conn.now) _ c.requires.idle
 
 pub returns-then-not-is_ruled_addition-clause-commits :
     goal.returns-then-not-is_ruled_addition-clause-commits

@@ -18,9 +18,10 @@ make_change-requires-clause-kept g c =
     (state g.S.Store c.still_open.new.conn) c.requires.kept c.in_ok-still_open.ensures.only
 
 pub make_change-requires-clause-is_there : goal.make_change-requires-clause-is_there
-make_change-requires-clause-is_there g c =
+make_change-requires-clause-is_there g c later =
     stands_after c.args.is_there _ (state g.S.Store c.args.conn.now)
-    (state g.S.Store c.still_open.new.conn) c.requires.is_there c.in_ok-still_open.ensures.only
+    (state g.S.Store c.still_open.new.conn) (c.requires.is_there later)
+    c.in_ok-still_open.ensures.only
 
 pub make_change-requires-clause-plain : goal.make_change-requires-clause-plain
 make_change-requires-clause-plain g c = c.in_ok-still_open.ensures.only.mode c.requires.plain

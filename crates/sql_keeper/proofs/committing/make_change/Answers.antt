@@ -1,8 +1,13 @@
 use Rattle.std.proofs.Common.{arith}
 use Rattle.std.proofs.lemmas.Result.{err_from_is_err_and}
 use Rattle.sql_keeper.proofs.commits.Commits.{become_at, free_at}
-use Rattle.sql_keeper.proofs.commits.Whole.{written, not_written}
+use Rattle.sqlite.specs.Held.{state}
+use Rattle.sql_keeper.proofs.commits.Whole.{untouched, written, not_written}
 use Rattle.sql_keeper.proofs.committing.make_change.Goals as goal
+
+pub returns-then-not-is_later-clause-commits : goal.returns-then-not-is_later-clause-commits
+returns-then-not-is_later-clause-commits g c =
+    untouched _ (state g.S.Store c.args.conn.now) _ c.requires.idle
 
 pub returns-in_err-write_change-clause-commits : goal.returns-in_err-write_change-clause-commits
 returns-in_err-write_change-clause-commits g c =
@@ -19,7 +24,7 @@ returns-in_err-write_change-clause-commits g c =
       kept = c.args.kept;
       is_there = c.args.is_there;
     }) _ _ c.in_ok-are_new.ensures.only c.in_ok-are_new.ensures.found c.requires.seen
-    c.requires.kept c.requires.is_there) _ _
+    c.requires.kept (c.requires.is_there c.if-not-is_later.false)) _ _
     c.in_err-write_change.ensures.transacts)
 
 pub returns-clause-commits : goal.returns-clause-commits
@@ -34,7 +39,7 @@ returns-clause-commits g c =
       kept = c.args.kept;
       is_there = c.args.is_there;
     }) _ _ c.in_ok-are_new.ensures.only c.in_ok-are_new.ensures.found c.requires.seen
-    c.requires.kept c.requires.is_there) _ _
+    c.requires.kept (c.requires.is_there c.if-not-is_later.false)) _ _
     c.in_ok-write_change.ensures.transacts
 
 pub returns-clause-free : goal.returns-clause-free
@@ -46,7 +51,7 @@ returns-clause-free g c = λ clean.
       kept = c.args.kept;
       is_there = c.args.is_there;
     }) _ _ c.in_ok-are_new.ensures.only c.in_ok-are_new.ensures.found c.requires.seen
-    c.requires.kept c.requires.is_there
+    c.requires.kept (c.requires.is_there c.if-not-is_later.false)
     (omega (arith, c.in_ok-write_change.ensures.transacts.survives.clean, clean))
     (c.in_ok-write_change.ensures.transacts.done clean).0
     (c.in_ok-write_change.ensures.free clean)

@@ -1,9 +1,11 @@
 use Rattle.std.proofs.lemmas.Result.{err_from_is_err_and}
 use Rattle.sqlite.specs.Held.{state}
+use Rattle.sql_tables.specs.Schema.{latest}
+use Rattle.sql_rules.proofs.Steps.{by_kept}
 use Rattle.sql_keeper.proofs.openings.Causes.{latest_known}
 use Rattle.sql_keeper.proofs.migrations.Moved.{any_err, any_latest, any_migrated, any_none}
 use Rattle.sql_keeper.proofs.migrations.Moved.{any_unread, any_unruled, below_latest, found_at}
-use Rattle.sql_keeper.proofs.migrations.Moved.{latest_schema}
+use Rattle.sql_keeper.proofs.migrations.Moved.{latest_last, latest_schema}
 use Rattle.sql_keeper.proofs.openings.Opens.{idle_book}
 use Rattle.sql_keeper.proofs.migrating.books_of_any.Goals as goal
 
@@ -62,10 +64,20 @@ returns-in_err-test_rows-clause-finds g c =
     any_err _ _ _ p.0 _ p.1 p.2
     (any_unruled c.in_ok-version.version _ _ _ c.if-version-ne-LATEST.false
     c.in_ok-version.ensures.found c.in_ok-version.ensures.survives c.in_ok-version.ensures.version
-    _ c.in_ok-read.read c.in_ok-read.ensures.reads _ c.in_err-test_rows.ensures.tells)
+    _ c.in_ok-read.read c.in_ok-read.ensures.reads _
+    (by_kept _ _ latest _ _ _
+    (latest_last c.in_ok-version.version _ _ _ c.if-version-ne-LATEST.false
+    c.in_ok-version.ensures.found c.in_ok-version.ensures.survives c.in_ok-version.ensures.version
+    (state g.S.Store c.args.conn.now) c.in_ok-read.read c.in_ok-read.ensures.reads)
+    c.in_err-test_rows.ensures.tells))
 
 pub returns-clause-finds : goal.returns-clause-finds
 returns-clause-finds g c =
     any_latest c.in_ok-version.version _ _ _ c.if-version-ne-LATEST.false
     c.in_ok-version.ensures.found c.in_ok-version.ensures.survives c.in_ok-version.ensures.version
-    _ c.in_ok-read.read c.in_ok-read.ensures.reads _ c.in_ok-test_rows.ensures.tells
+    _ c.in_ok-read.read c.in_ok-read.ensures.reads _
+    (by_kept _ _ latest _ _ _
+    (latest_last c.in_ok-version.version _ _ _ c.if-version-ne-LATEST.false
+    c.in_ok-version.ensures.found c.in_ok-version.ensures.survives c.in_ok-version.ensures.version
+    (state g.S.Store c.args.conn.now) c.in_ok-read.read c.in_ok-read.ensures.reads)
+    c.in_ok-test_rows.ensures.tells)

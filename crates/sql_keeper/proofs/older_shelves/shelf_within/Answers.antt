@@ -65,5 +65,5 @@ returns-clause-reads g c =
     (made_first _ _ _ _ c.requires.at c.in_ok-make_later.ensures.makes)
     c.in_ok-meta.ensures.reads) c.in_ok-rows.ensures.reads))
     c.in_ok-meta.ensures.finds.own c.as_str.result.now c.as_str.ensures.value
-    c.read_shelves.result c.read_shelves.ensures.read c.read_shelves.ensures.rules
-    c.read_shelves.ensures.either
+    c.read_shelves.result c.read_shelves.ensures.read c.read_shelves.ensures.last
+    c.read_shelves.ensures.rules c.read_shelves.ensures.either

@@ -1,6 +1,8 @@
 use Rattle.std.proofs.Common.{Err, ap, subst, sym, ◌∙◌}
 use Rattle.std.proofs.lemmas.Result.{err_from_is_err_and}
 use Rattle.sqlite.specs.Held.{state}
+use Rattle.sql_tables.specs.Schema.{latest}
+use Rattle.sql_rules.proofs.Steps.{by_kept}
 use Rattle.sql_keeper.specs.RuledOpening.{FindsRuled}
 use Rattle.sql_keeper.proofs.openings.Causes.{latest_known}
 use Rattle.sql_keeper.proofs.openings.RuledOpening.{rows_told, rows_unasked, rows_untold}
@@ -28,8 +30,11 @@ returns-in_err-test_rows-clause-finds g c =
     subst (FindsRuled (state g.S.Store c.args.conn.now) (state g.S.Store c.test_rows.new.conn))
     (sym (p.1 ∙ ap Err p.2))
     (rows_untold _ _ _ c.in_ok-read.read _ c.in_ok-read.ensures.finds
-    c.in_err-test_rows.ensures.tells)
+    (by_kept _ _ latest _ _ _ (λ clean. (c.in_ok-read.ensures.finds.found clean).0.last)
+    c.in_err-test_rows.ensures.tells))
 
 pub returns-clause-finds : goal.returns-clause-finds
 returns-clause-finds g c =
-    rows_told _ _ _ c.in_ok-read.read _ c.in_ok-read.ensures.finds c.in_ok-test_rows.ensures.tells
+    rows_told _ _ _ c.in_ok-read.read _ c.in_ok-read.ensures.finds
+    (by_kept _ _ latest _ _ _ (λ clean. (c.in_ok-read.ensures.finds.found clean).0.last)
+    c.in_ok-test_rows.ensures.tells)

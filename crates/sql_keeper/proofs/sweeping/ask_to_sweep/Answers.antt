@@ -1,11 +1,18 @@
 use Rattle.std.proofs.Common.{◌≡◌, arith}
 use Rattle.sql_rows.specs.Content.{tables_content}
 use Rattle.sqlite.specs.Held.{state}
+use Rattle.sql_keeper.proofs.kept.SeenRows.{up_to_after}
 use Rattle.sql_keeper.proofs.stops.StillOpen.{committed_standing, standing_shut, told_standing}
 use Rattle.sql_keeper.proofs.sweeping.ask_to_sweep.Goals as goal
 
 pub make_sweep-requires-clause-plain : goal.make_sweep-requires-clause-plain
 make_sweep-requires-clause-plain g c = c.in_ok-still_open.ensures.only.mode c.requires.plain
+
+pub make_sweep-requires-clause-later : goal.make_sweep-requires-clause-later
+make_sweep-requires-clause-later g c later =
+    up_to_after c.args.moment (state g.S.Store c.args.conn.now)
+    (state g.S.Store c.still_open.new.conn) (c.requires.later later)
+    c.in_ok-still_open.ensures.only
 
 pub returns-in_err-still_open-clause-plain : goal.returns-in_err-still_open-clause-plain
 returns-in_err-still_open-clause-plain g c =

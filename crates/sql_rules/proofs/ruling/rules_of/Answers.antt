@@ -28,14 +28,14 @@ table_passes-requires-clause-most g c clean = at_least c.args.version c.requires
 pub returns-in_err-table_passes : goal.returns-in_err-table_passes
 returns-in_err-table_passes g c =
     let v = c.args.version in
-    none_found_not c.args.shelf.now v (state g.S.Store c.args.conn.now)
+    none_found_not c.args.shelf.now c.args.last v (state g.S.Store c.args.conn.now)
     (state g.S.Store c.table_passes.new.conn) c.in_err-table_passes.field-0.0
     c.from_residual.result (search rules) (at_least v c.requires.known)
     c.in_err-table_passes.ensures
 
 pub tables-init : goal.tables-init
 tables-init g c =
-    found_first c.args.shelf.now (state g.S.Store c.args.conn.now)
+    found_first c.args.shelf.now c.args.last (state g.S.Store c.args.conn.now)
     (state g.S.Store c.table_passes.new.conn) c.in_ok-table_passes.field-0
     c.in_ok-table_passes.ensures
 
@@ -58,12 +58,14 @@ table_passes-requires-in-tables-clause-most g c clean =
 
 pub table_passes-requires-in-tables-clause-ours : goal.table_passes-requires-in-tables-clause-ours
 table_passes-requires-in-tables-clause-ours g c =
-    still_ours c.args.shelf.now c.args.version c.tables.at (state g.S.Store c.args.conn.now)
+    still_ours c.args.shelf.now c.args.last c.args.version c.tables.at
+    (state g.S.Store c.args.conn.now)
     (state g.S.Store c.tables.conn) c.tables.invariant c.requires.ours
 
 pub returns-in_err-table_passes-2 : goal.returns-in_err-table_passes-2
 returns-in_err-table_passes-2 g c =
-    found_not c.args.shelf.now c.args.version c.tables.at (state g.S.Store c.args.conn.now)
+    found_not c.args.shelf.now c.args.last c.args.version c.tables.at
+    (state g.S.Store c.args.conn.now)
     (state g.S.Store c.tables.conn) (state g.S.Store c.table_passes-in-tables.new.conn)
     c.in_err-table_passes-2.field-0.0 c.from_residual-in_err-table_passes-2.result (search rules)
     (λ was.
@@ -76,7 +78,7 @@ returns-in_err-table_passes-2 g c =
 
 pub tables-preserved : goal.tables-preserved
 tables-preserved g c =
-    found_next c.args.shelf.now c.tables.at (state g.S.Store c.args.conn.now)
+    found_next c.args.shelf.now c.args.last c.tables.at (state g.S.Store c.args.conn.now)
     (state g.S.Store c.tables.conn) (state g.S.Store c.table_passes-in-tables.new.conn)
     c.in_ok-table_passes-2.field-0 c.tables.invariant c.in_ok-table_passes-2.ensures
 
@@ -91,5 +93,5 @@ returns g c =
     (ap (λ (s : Schema). s.tables) c.schema.ensures.value) c.min-count.ensures
     (c.requires.ours was) in
     omega (arith, count, least) in
-    found_all c.args.shelf.now c.args.version c.tables.at (state g.S.Store c.args.conn.now)
-    (state g.S.Store c.tables.conn) _ end c.tables.invariant
+    found_all c.args.shelf.now c.args.last c.args.version c.tables.at
+    (state g.S.Store c.args.conn.now) (state g.S.Store c.tables.conn) _ end c.tables.invariant

@@ -4,4 +4,4 @@ use Rattle.sql_rules.proofs.ruling.rules_of.Given as goal
 
 abbrev pub invariant-tables : goal.invariant-tables
 invariant-tables g l =
-    FoundTo l.shelf l.at (state g.S.Store l.fn.conn) (state g.S.Store l.conn)
+    FoundTo l.shelf l.last l.at (state g.S.Store l.fn.conn) (state g.S.Store l.conn)

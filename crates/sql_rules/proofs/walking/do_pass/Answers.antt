@@ -6,7 +6,7 @@ use Rattle.sqlite.proofs.StateLemmas.{survives_then}
 use Rattle.sqlite.proofs.Callers.{begun_plain, unchanged_then}
 use Rattle.sql_tables.proofs.Keeps.{fails_spares}
 use Rattle.sql_tables.proofs.Steps.{commits_nothing}
-use Rattle.sql_rules.specs.Rules.{rule_at}
+use Rattle.sql_rules.specs.Rules.{passes_at}
 use Rattle.sql_rules.proofs.Passing.{walked}
 use Rattle.sql_rules.proofs.walking.do_pass.Goals as goal
 
@@ -42,7 +42,7 @@ returns-in_default-clause-walk g c clean =
     let was = c.rows.invariant.2 (omega (arith, moved.survives.clean)) in
     let shown =
     (rw (c.in_ok-row.was, c.in_default.is) at (moved.ok late)) c.args.sql.now [] was.0 was.1 in
-    let up = walked (rule_at c.args.shelf.now c.args.at) c.rows.walk.passes c.rows.walk.last was.0
+    let up = walked (passes_at c.args.shelf.now c.args.last c.args.at) c.rows.walk.passes c.rows.walk.last was.0
     was.3 in
     (c.rows.rows.conn.now, was.0, was.2, search (rules, shown), up.0, up.1)
 

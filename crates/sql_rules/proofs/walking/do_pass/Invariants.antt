@@ -3,7 +3,7 @@ use Rattle.sqlite_value.specs.Order.{Row}
 use Rattle.sqlite.specs.State.{HasCleanDisk, IsUnchanged, Survives}
 use Rattle.sqlite.specs.Held.{state}
 use Rattle.sqlite.specs.Given.{HasGiven}
-use Rattle.sql_rules.specs.Rules.{rule_at}
+use Rattle.sql_rules.specs.Rules.{passes_at}
 use Rattle.sql_rules.specs.Walks.{Walks}
 use Rattle.sql_rules.proofs.walking.do_pass.Given as goal
 
@@ -13,4 +13,4 @@ invariant-rows g l =
     let now = state g.S.Store l.rows.conn.now in
     (l.rows.conn.ghost_name ≡ l.initial.rows.conn.ghost_name) × Survives old now (λ _. ⊥)
     × (HasCleanDisk now → (given : List Row) × HasGiven g.S.Store l.sql [] l.rows.conn.now given
-    × IsUnchanged old now × Walks (rule_at l.shelf l.at) l.walk.passes l.walk.last given)
+    × IsUnchanged old now × Walks (passes_at l.shelf l.last l.at) l.walk.passes l.walk.last given)

@@ -5,7 +5,7 @@ use Rattle.sqlite.specs.Held.{state}
 use Rattle.sqlite.specs.Listing.{understood}
 use Rattle.sqlite.specs.State.{HasCleanDisk}
 use Rattle.sqlite_schema.specs.declared.schema.Schema.{Schema}
-use Rattle.sql_rules.specs.Rules.{rule_at}
+use Rattle.sql_rules.specs.Rules.{passes_at}
 use Rattle.sql_rules.specs.Tables.{IsRuledAt}
 use Rattle.sql_rules.specs.Walks.{Pass}
 use Rattle.sql_rules.proofs.Steps.{table_passes, table_stands}
@@ -28,11 +28,11 @@ returns-in-Ok-true g c = record {
       omega (arith, c.in-Ok-true.ensures.crash.clean, clean) in
       let is = text_at c.args.version c.args.at c.rows_text.result.now c.requires.known
       (c.requires.most was) c.rows_text.ensures in
-      let here = table_stands g.S.Store c.args.shelf.now c.args.version c.args.at
+      let here = table_stands g.S.Store c.args.shelf.now c.args.last c.args.version c.args.at
       c.rows_text.result.now is c.args.conn.now walk.0 (state g.S.Store c.do_pass.new.conn) walk.1
       walk.2 walk.3 (c.requires.ours was) (walk.4 c.in-Ok-true.field-0-test) in (
         same,
-        subst (λ (d : Database). IsRuledAt c.args.shelf.now c.args.at d.trees)
+        subst (λ (d : Database). IsRuledAt c.args.shelf.now c.args.last c.args.at d.trees)
             (sym same.0.now_is) here,
       );
   means = λ clean. tt;
@@ -50,8 +50,8 @@ returns-in-Ok-false g c = record {
       omega (arith, c.in-Ok-false.ensures.crash.clean, clean) in
       let is = text_at c.args.version c.args.at c.rows_text.result.now c.requires.known
       (c.requires.most was) c.rows_text.ensures in
-      let pass : Pass (rule_at c.args.shelf.now c.args.at) walk.1 =
-      table_passes g.S.Store c.args.shelf.now c.args.version c.args.at c.rows_text.result.now is
+      let pass : Pass (passes_at c.args.shelf.now c.args.last c.args.at) walk.1 =
+      table_passes g.S.Store c.args.shelf.now c.args.last c.args.version c.args.at c.rows_text.result.now is
       c.args.conn.now walk.0 (state g.S.Store c.do_pass.new.conn) walk.1 walk.2 walk.3
       (c.requires.ours was) ruled in
       let yes' = walk.5 pass in

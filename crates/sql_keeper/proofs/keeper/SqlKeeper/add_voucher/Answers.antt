@@ -1,4 +1,4 @@
-use Rattle.std.proofs.Common.{refl}
+use Rattle.std.proofs.Common.{refl, sym, ◌∙◌}
 use Rattle.sql_keeper.specs.Additions.{BecomesAdded}
 use Rattle.sql_keeper.specs.Content.{shelf_names}
 use Rattle.sql_keeper.proofs.openings.Held.{held_added, held_stands}
@@ -8,9 +8,10 @@ use Rattle.sql_keeper.proofs.commits.Whole.{handed_on}
 use Rattle.sql_keeper.proofs.keeper.SqlKeeper.add_voucher.Goals as goal
 
 pub ask_to_add-made-requires-clause-is_there : goal.ask_to_add-made-requires-clause-is_there
-ask_to_add-made-requires-clause-is_there g c = λ clean on.
+ask_to_add-made-requires-clause-is_there g c = λ later clean on.
     held_stands _ c.self.inside.shelf _ _ c.args.moment _ _ c.as_str-text.ensures.value
-    c.is_last-is_there.ensures (c.self.invariant.keeper.held clean on)
+    c.is_last-is_there.ensures (sym c.is_not_before-is_later.ensures ∙ later)
+    (c.self.invariant.keeper.held clean on)
 
 pub invariant_of-self : goal.invariant_of-self
 invariant_of-self g c = record {

@@ -1,4 +1,4 @@
-use Rattle.std.proofs.Common.{refl, subst, sym}
+use Rattle.std.proofs.Common.{refl, subst, sym, ◌∙◌}
 use Rattle.sqlite.specs.Held.{state}
 use Rattle.sql_keeper.specs.Content.{shelf_names}
 use Rattle.sql_keeper.specs.Commits.{Becomes}
@@ -13,9 +13,10 @@ use Rattle.sql_keeper.proofs.commits.Whole.{handed_on}
 use Rattle.sql_keeper.proofs.keeper.SqlKeeper.commit.Goals as goal
 
 pub ask_to_change-made-requires-clause-is_there : goal.ask_to_change-made-requires-clause-is_there
-ask_to_change-made-requires-clause-is_there g c = λ clean on.
+ask_to_change-made-requires-clause-is_there g c = λ later clean on.
     held_stands _ c.self.inside.shelf _ _ c.args.change.moment _ _ c.as_str-text.ensures.value
-    c.is_last-is_there.ensures (c.self.invariant.keeper.held clean on)
+    c.is_last-is_there.ensures (sym c.is_not_before-is_later.ensures ∙ later)
+    (c.self.invariant.keeper.held clean on)
 
 pub invariant_of-self : goal.invariant_of-self
 invariant_of-self g c = record {

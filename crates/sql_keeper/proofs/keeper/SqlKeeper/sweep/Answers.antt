@@ -1,12 +1,17 @@
-use Rattle.std.proofs.Common.{refl}
+use Rattle.std.proofs.Common.{refl, sym, ◌∙◌}
 use Rattle.sql_keeper.specs.Content.{shelf_names}
 use Rattle.sql_keeper.specs.Sweeps.{BecomesSwept}
-use Rattle.sql_keeper.proofs.openings.Held.{held_swept}
+use Rattle.sql_keeper.proofs.openings.Held.{held_swept, held_up_to}
 use Rattle.sql_keeper.proofs.reads.Asked.{handed}
 use Rattle.sql_keeper.proofs.commits.Committed.{swept_law}
 use Rattle.sql_keeper.proofs.stops.Standing.{keeps, standing_keeper, standing_whole}
 use Rattle.sql_keeper.proofs.commits.Whole.{handed_on}
 use Rattle.sql_keeper.proofs.keeper.SqlKeeper.sweep.Goals as goal
+
+pub ask_to_sweep-made-requires-clause-later : goal.ask_to_sweep-made-requires-clause-later
+ask_to_sweep-made-requires-clause-later g c = λ later clean on.
+    held_up_to _ c.self.inside.shelf _ c.args.moment _
+    (sym c.is_not_before-is_later.ensures ∙ later) (c.self.invariant.keeper.held clean on)
 
 pub invariant_of-self : goal.invariant_of-self
 invariant_of-self g c = record {
