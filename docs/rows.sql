@@ -4,10 +4,12 @@
 --     sqlite3 -readonly FILE < docs/rows.sql
 --
 -- Stop the program first, and look at a copy of both files, FILE and FILE-wal: a sqlite3 that isn't
--- read-only writes the log back into the file as it closes. docs/FORMATS.md says which rules an
--- opening tests, and what to do with a row that breaks one.
+-- read-only writes the log back into the file as it closes. docs/TABLES.md says what to do then.
+--
+-- An opening reports a row that breaks a rule: as file fault what the schema says, as open fault 2
+-- the version, as open fault 3 the others. What is below `not at an opening` is found here alone.
 
--- ---- what the schema says: pages, rows that name rows, CHECKs
+-- ---- what the schema says (file fault): pages, rows that name rows, CHECKs
 PRAGMA integrity_check;
 SELECT 'foreign key: the row that is named is there' AS rule, "table", rowid, parent
   FROM pragma_foreign_key_check;
@@ -60,6 +62,7 @@ SELECT 'accounts: the next numbers are 1 to 4294967296' AS rule, account, next_b
 -- ---- buckets
 SELECT 'buckets: a number from 1 on' AS rule, account, number
   FROM buckets WHERE number NOT BETWEEN 1 AND 4294967295;
+-- not at an opening
 SELECT 'buckets: the number is below next_bucket' AS rule, account, number, next_bucket
   FROM buckets JOIN accounts USING (account) WHERE number >= next_bucket;
 SELECT 'buckets: starts is before 2100' AS rule, account, number, starts
@@ -70,10 +73,13 @@ SELECT 'buckets: the scope is a rating group' AS rule, account, number, scope
   FROM buckets WHERE scope > 4294967295;
 SELECT 'buckets: credited is at most 10^15' AS rule, account, number, credited
   FROM buckets WHERE credited > 1000000000000000;
+-- not at an opening
 SELECT 'buckets: expired is 0 before the end' AS rule, account, number, ends, expired
   FROM buckets WHERE expired > 0 AND ends > (SELECT last_moment FROM meta);
+-- not at an opening
 SELECT 'buckets: available is 0 after the end' AS rule, account, number, ends, available
   FROM buckets JOIN accounts USING (account) WHERE available > 0 AND ends <= as_of;
+-- not at an opening
 SELECT 'buckets: reserved is the sum of the holds' AS rule, account, number, reserved, held
   FROM (SELECT b.account, b.number, b.reserved, coalesce(sum(h.amount), 0) AS held
     FROM buckets AS b LEFT JOIN holds AS h ON h.account = b.account AND h.bucket = b.number
@@ -83,6 +89,7 @@ SELECT 'buckets: reserved is the sum of the holds' AS rule, account, number, res
 -- ---- allowance_buckets
 SELECT 'allowance_buckets: a number from 1 on' AS rule, account, number
   FROM allowance_buckets WHERE number NOT BETWEEN 1 AND 4294967295;
+-- not at an opening
 SELECT 'allowance_buckets: at most 10^9 blocks, of one rating group' AS rule, account, number
   FROM allowance_buckets JOIN buckets USING (account, number)
   WHERE scope IS NULL OR credited > 1000000000;
@@ -102,6 +109,7 @@ SELECT 'sessions: touched is before 2100' AS rule, account, session, touched
   FROM sessions WHERE touched >= 4102444800;
 SELECT 'sessions: touched is at most the last moment' AS rule, account, session, touched
   FROM sessions WHERE touched > (SELECT last_moment FROM meta);
+-- not at an opening
 SELECT 'sessions: touched is at most as_of' AS rule, account, session, touched, as_of
   FROM sessions JOIN accounts USING (account) WHERE touched > as_of;
 SELECT 'sessions: the state is 1, 2 or 3' AS rule, account, session, state
@@ -119,6 +127,7 @@ SELECT 'session_groups: two periods with a reservation, none without' AS rule,
     WHEN 0 THEN period_before IS NULL AND period_after IS NULL
     WHEN 1 THEN period_before IS NOT NULL AND period_after IS NOT NULL
     ELSE 0 END;
+-- at an opening only if no book has the period
 SELECT 'session_groups: the periods are those of the book' AS rule,
   g.account, g.session, g.rating_group, period_before, period_after
   FROM session_groups AS g LEFT JOIN grant_books AS b USING (account, session, rating_group)
@@ -127,6 +136,7 @@ SELECT 'session_groups: the periods are those of the book' AS rule,
       OR instr(text, '"' || period_after || '"') = 0
       FROM (SELECT 1 AS number, book AS text FROM meta UNION ALL SELECT number, content FROM books)
       WHERE number = coalesce(b.book, 1)), 1);
+-- not at an opening
 SELECT 'session_groups: the rating group is one of the book' AS rule,
   g.account, g.session, g.rating_group
   FROM session_groups AS g JOIN grant_books AS b USING (account, session, rating_group)
@@ -135,14 +145,17 @@ SELECT 'session_groups: the rating group is one of the book' AS rule,
   WHERE reserved = 1
     AND replace(text, ' ', '') || char(10)
       NOT GLOB '*' || char(10) || 'id=' || g.rating_group || '[^0-9]*';
+-- not at an opening
 SELECT 'session_groups: a reservation is in an open session' AS rule,
   account, session, rating_group, state
   FROM session_groups JOIN sessions USING (account, session) WHERE reserved = 1 AND state <> 1;
+-- not at an opening
 SELECT 'grant_books: a row for each reservation' AS rule, account, session, rating_group
   FROM session_groups LEFT JOIN grant_books USING (account, session, rating_group)
   WHERE reserved = 1 AND book IS NULL;
 SELECT 'grant_books: the number is that of a book' AS rule, account, session, rating_group, book
   FROM grant_books WHERE book <> 1 AND book NOT IN (SELECT number FROM books);
+-- not at an opening
 SELECT 'grant_books: the book has begun' AS rule, account, session, rating_group, book, starts
   FROM grant_books JOIN books ON number = book
   WHERE starts > (SELECT last_moment FROM meta);
@@ -173,6 +186,7 @@ SELECT 'answers: the command is one of the account' AS rule, account, kind, name
   WHERE json_valid(content)
     AND account <> coalesce(json_extract(content, '$."Subscription-Id"."Subscription-Id-Data"'),
       json_extract(content, '$."Subscription-Id-Data"'), account);
+-- not at an opening
 SELECT 'answers: the answer is one to the command' AS rule, account, kind, name, number
   FROM answers
   WHERE json_valid(content) AND json_valid(answer) AND NOT CASE kind
@@ -184,9 +198,11 @@ SELECT 'answers: the answer is one to the command' AS rule, account, kind, name,
     WHEN 2 THEN answer
       = '{"Bucket":' || coalesce(json_extract(answer, '$.Bucket'), '') || ',"Result-Code":2001}'
     ELSE 0 END;
+-- not at an opening
 SELECT 'answers: the bucket of the answer is below next_bucket' AS rule, account, name, next_bucket
   FROM answers JOIN accounts USING (account)
   WHERE kind = 2 AND json_valid(answer) AND json_extract(answer, '$.Bucket') >= next_bucket;
+-- not at an opening
 SELECT 'answers: the voucher of a redemption is spent by the account' AS rule, account, name
   FROM answers AS a
   WHERE kind = 2 AND json_valid(content) AND json_extract(content, '$."Voucher-Code"') IS NOT NULL
@@ -206,12 +222,14 @@ SELECT 'vouchers: the scope is a rating group' AS rule, code, scope
 -- ---- charges, covered
 SELECT 'charges: a number from 1 on' AS rule, account, number
   FROM charges WHERE number NOT BETWEEN 1 AND 4294967295;
+-- not at an opening
 SELECT 'charges: the number is below next_charge' AS rule, account, number, next_charge
   FROM charges JOIN accounts USING (account) WHERE number >= next_charge;
 SELECT 'charges: the moment is before 2100' AS rule, account, number, moment
   FROM charges WHERE moment >= 4102444800;
 SELECT 'charges: the moment is at most the last moment' AS rule, account, number, moment
   FROM charges WHERE moment > (SELECT last_moment FROM meta);
+-- not at an opening
 SELECT 'charges: the moment is at most as_of' AS rule, account, number, moment, as_of
   FROM charges JOIN accounts USING (account) WHERE moment > as_of;
 SELECT 'charges: a Session-Id' AS rule, account, number, session
@@ -222,6 +240,7 @@ SELECT 'charges: at most 10^9 blocks' AS rule, account, number, blocks
   FROM charges WHERE blocks > 1000000000;
 SELECT 'charges: rated is at most 10^18' AS rule, account, number, rated
   FROM charges WHERE rated > 1000000000000000000;
+-- not at an opening
 SELECT 'charges: collected is what money buckets were charged' AS rule, account, collected, charged
   FROM (SELECT account,
       coalesce((SELECT sum(collected) FROM charges AS c WHERE c.account = a.account), 0)
@@ -233,6 +252,7 @@ SELECT 'charges: collected is what money buckets were charged' AS rule, account,
   WHERE collected <> charged;
 SELECT 'covered: 1 to 10^9 blocks' AS rule, account, number, blocks
   FROM covered WHERE blocks NOT BETWEEN 1 AND 1000000000;
+-- not at an opening
 SELECT 'covered: no more blocks than the charge has' AS rule, account, number, c.blocks
   FROM covered AS c JOIN charges AS x USING (account, number) WHERE c.blocks > x.blocks;
 

@@ -114,6 +114,35 @@ ROWS = [
     ),
     ("UPDATE meta SET last_moment = 2030000000", OPENED, None),
     (
+        "UPDATE meta SET last_moment = 4102444800",
+        RULES,
+        "meta: the last moment is before 2100",
+    ),
+    (
+        "UPDATE meta SET last_moment = 0",
+        RULES,
+        "charges: the moment is at most the last moment",
+    ),
+    ("UPDATE meta SET last_moment = 1767607250", OPENED, None),
+    (
+        """UPDATE meta SET last_moment = 0;
+        UPDATE meta SET last_moment = (SELECT max(as_of) FROM accounts)""",
+        OPENED,
+        None,
+    ),
+    (
+        "UPDATE meta SET last_moment = 1767607249",
+        RULES,
+        "accounts: as_of is at most the last moment",
+    ),
+    (of("accounts", 49151, "as_of = 1767607260"), OPENED, None),
+    (
+        of("accounts", 49151, "as_of = 1767607261"),
+        RULES,
+        "accounts: as_of is at most the last moment",
+    ),
+    (of("accounts", 49151, "as_of = 4102444800"), RULES, "accounts: as_of is before 2100"),
+    (
         "UPDATE sessions SET touched = 2030000000 WHERE session = 'live'",
         RULES,
         "sessions: touched is at most the last moment",
@@ -129,11 +158,45 @@ ROWS = [
         "sessions: touched is at most as_of",
     ),
     (
+        "UPDATE sessions SET touched = 1767607260 WHERE session = 'ended'",
+        OPENED,
+        "sessions: touched is at most as_of",
+    ),
+    (
+        "UPDATE sessions SET touched = 1767607261 WHERE session = 'ended'",
+        RULES,
+        "sessions: touched is at most the last moment",
+    ),
+    (
+        "UPDATE sessions SET touched = 4102444800 WHERE session = 'ended'",
+        RULES,
+        "sessions: touched is before 2100",
+    ),
+    (
         of("charges", 49152, "moment = 2030000000"),
         RULES,
         "charges: the moment is at most the last moment",
     ),
     (of("charges", 49152, "moment = moment + 15"), OPENED, "charges: the moment is at most as_of"),
+    (of("charges", 49152, "moment = 1767607260"), OPENED, "charges: the moment is at most as_of"),
+    (
+        of("charges", 49152, "moment = 1767607261"),
+        RULES,
+        "charges: the moment is at most the last moment",
+    ),
+    (of("charges", 49152, "moment = 4102444800"), RULES, "charges: the moment is before 2100"),
+    # flags and names of accounts
+    (of("accounts", 49151, "barred = 2"), RULES, "accounts: barred is 0 or 1"),
+    (
+        "INSERT INTO accounts VALUES ('12a', 0, 0, 1, 1)",
+        RULES,
+        "accounts: a number of 1 to 15 digits",
+    ),
+    (
+        "INSERT INTO accounts VALUES ('1234567890123456', 0, 0, 1, 1)",
+        RULES,
+        "accounts: a number of 1 to 15 digits",
+    ),
     # numbers
     (of("accounts", 49152, "next_charge = 1"), OPENED, "charges: the number is below next_charge"),
     (of("accounts", 49152, "next_charge = 2"), OPENED, "charges: the number is below next_charge"),
@@ -148,6 +211,26 @@ ROWS = [
         VALUES ('49152', 4000000000, 1767607200, 'more', 10, 5, 500000, 500000, 0)""",
         OPENED,
         "charges: the number is below next_charge",
+    ),
+    (
+        of("accounts", 49152, "next_charge = 4294967297"),
+        RULES,
+        "accounts: the next numbers are 1 to 4294967296",
+    ),
+    (
+        of("accounts", 49152, "next_bucket = 0"),
+        RULES,
+        "accounts: the next numbers are 1 to 4294967296",
+    ),
+    (
+        "INSERT INTO charges VALUES ('49152', 0, 1767607200, 'more', 10, 0, 0, 0, 0)",
+        RULES,
+        "charges: a number from 1 on",
+    ),
+    (
+        "INSERT INTO buckets VALUES ('49152', 0, 0, 4102444800, NULL, 0, 0, 0, 0, 0)",
+        RULES,
+        "buckets: a number from 1 on",
     ),
     (of("accounts", 49152, "next_bucket = 1"), OPENED, "buckets: the number is below next_bucket"),
     (
@@ -205,6 +288,7 @@ ROWS = [
         OPENED,
         "buckets: reserved is the sum of the holds",
     ),
+    ("UPDATE holds SET amount = 0", RULES, "holds: an amount of 1 to 10^15"),
     ("DELETE FROM holds", OPENED, "buckets: reserved is the sum of the holds"),
     (
         """UPDATE session_groups SET reserved = 1, period_before = 'peak', period_after = 'peak'
@@ -222,6 +306,28 @@ ROWS = [
         OPENED,
         "session_groups: a reservation is in an open session",
     ),
+    (
+        "UPDATE session_groups SET reserved = 2 WHERE session = 'live'",
+        RULES,
+        "session_groups: two periods with a reservation, none without",
+    ),
+    (
+        "UPDATE session_groups SET period_after = NULL WHERE session = 'live'",
+        RULES,
+        "session_groups: two periods with a reservation, none without",
+    ),
+    (
+        "UPDATE session_groups SET period_before = 'nope' WHERE session = 'live'",
+        RULES,
+        "session_groups: the periods are those of the book",
+    ),
+    (
+        "INSERT INTO session_groups VALUES ('49152', 'ended', 4294967296, 0, 0, NULL, NULL)",
+        RULES,
+        "session_groups: a rating group",
+    ),
+    ("UPDATE grant_books SET book = 0", RULES, "grant_books: the number is that of a book"),
+    ("UPDATE grant_books SET book = 3", RULES, "grant_books: the number is that of a book"),
     ("DELETE FROM grant_books", OPENED, "grant_books: a row for each reservation"),
     ("INSERT INTO grant_books VALUES ('49152', 'ended', 10, 1)", OPENED, None),
     ("UPDATE grant_books SET book = 2", OPENED, "grant_books: the book has begun"),
@@ -243,6 +349,28 @@ ROWS = [
     ),
     # sessions
     ("UPDATE session_groups SET used = 1000000000000000000 WHERE session = 'live'", OPENED, None),
+    (
+        "UPDATE session_groups SET used = 1000000000000000001 WHERE session = 'live'",
+        RULES,
+        "session_groups: used is at most 10^18",
+    ),
+    ("UPDATE sessions SET last_number = 4294967295 WHERE session = 'live'", OPENED, None),
+    (
+        "UPDATE sessions SET last_number = 4294967296 WHERE session = 'live'",
+        RULES,
+        "sessions: a last number of 32 bits",
+    ),
+    (
+        "UPDATE sessions SET state = 0 WHERE session = 'ended'",
+        RULES,
+        "sessions: the state is 1, 2 or 3",
+    ),
+    (
+        "UPDATE sessions SET state = 4 WHERE session = 'ended'",
+        RULES,
+        "sessions: the state is 1, 2 or 3",
+    ),
+    ("INSERT INTO sessions VALUES ('49152', 'a b', 0, 0, 2)", RULES, "sessions: a Session-Id"),
     ("UPDATE sessions SET last_number = 0 WHERE session = 'ended'", OPENED, None),
     (
         "DELETE FROM sessions WHERE session = 'debit'",
@@ -296,6 +424,26 @@ ROWS = [
         "answers: the key is that of the command",
     ),
     (
+        "UPDATE answers SET kind = 1, name = 'live', number = 9 WHERE name = 'second'",
+        RULES,
+        "answers: the key is that of the command",
+    ),
+    (
+        "UPDATE answers SET kind = 7 WHERE name = 'second'",
+        RULES,
+        "answers: under a Session-Id and a number, or under a reference and 0",
+    ),
+    (
+        "UPDATE answers SET number = 1 WHERE name = 'second'",
+        RULES,
+        "answers: under a Session-Id and a number, or under a reference and 0",
+    ),
+    (
+        "UPDATE answers SET answer = 'x' WHERE name = 'second'",
+        RULES,
+        "answers: both texts are compact JSON",
+    ),
+    (
         """UPDATE answers SET answer = '{"Bucket":77,"Result-Code":2001}' WHERE name = 'second'""",
         OPENED,
         "answers: the bucket of the answer is below next_bucket",
@@ -337,6 +485,16 @@ ROWS = [
         OPENED,
         "answers: the voucher of a redemption is spent by the account",
     ),
+    (
+        "UPDATE vouchers SET code = '00000000001x' WHERE code = '000000000002'",
+        RULES,
+        "vouchers: a code of 12 digits",
+    ),
+    ("UPDATE vouchers SET amount = 0", RULES, "vouchers: an amount of 1 to 10^15"),
+    ("UPDATE vouchers SET days = 0", RULES, "vouchers: 1 to 3650 days"),
+    ("UPDATE vouchers SET days = 3651", RULES, "vouchers: 1 to 3650 days"),
+    ("UPDATE vouchers SET scope = 4294967296", RULES, "vouchers: the scope is a rating group"),
+    ("UPDATE vouchers SET amount = amount + 1", OPENED, None),
     # charges
     (
         of("charges", 49152, "blocks = 1000000001") + " AND number = 1",
@@ -358,6 +516,9 @@ ROWS = [
         OPENED,
         "charges: collected is what money buckets were charged",
     ),
+    (of("charges", 49152, "session = ''"), RULES, "charges: a Session-Id"),
+    (of("charges", 49152, "rating_group = 4294967296"), RULES, "charges: a rating group"),
+    ("INSERT INTO covered VALUES ('49152', 1, 0)", RULES, "covered: 1 to 10^9 blocks"),
     (
         "INSERT INTO covered VALUES ('49152', 1, 9000000000000000000)",
         RULES,
@@ -378,6 +539,23 @@ ROWS = [
         of("buckets", 49151, "credited = 2000000000, available = 2000000000") + " AND number = 2",
         OPENED,
         "allowance_buckets: at most 10^9 blocks, of one rating group",
+    ),
+    (
+        of("buckets", 49152, "credited = 1000000000000001, available = 999999999800001"),
+        RULES,
+        "buckets: credited is at most 10^15",
+    ),
+    (
+        of("buckets", 49151, "scope = 4294967296") + " AND number = 2",
+        RULES,
+        "buckets: the scope is a rating group",
+    ),
+    (of("buckets", 49152, "starts = 4102444800"), RULES, "buckets: starts is before 2100"),
+    (
+        """INSERT INTO buckets VALUES ('49152', 0, 0, 4102444800, 10, 3, 3, 0, 0, 0);
+        INSERT INTO allowance_buckets VALUES ('49152', 0)""",
+        RULES,
+        "allowance_buckets: a number from 1 on",
     ),
     (
         "INSERT INTO allowance_buckets VALUES ('49152', 1)",
@@ -413,6 +591,16 @@ ROWS = [
     ),
     # counters
     (of("counters", 49152, "blocks = 4000000000000000000"), OPENED, None),
+    (
+        of("counters", 49152, "blocks = 4000000000000000001"),
+        RULES,
+        "counters: at most 4 * 10^18 blocks",
+    ),
+    (
+        of("counters", 49152, "cycle = 4294967296"),
+        RULES,
+        "counters: a rating group and a cycle of 32 bits",
+    ),
     (of("counters", 49152, "blocks = 0"), OPENED, None),
     ("INSERT INTO counters VALUES ('49152', 77, 0, 5)", OPENED, None),
     ("INSERT INTO counters VALUES ('49152', 10, 5, 50)", OPENED, None),
@@ -437,6 +625,8 @@ ROWS = [
     # books
     ("UPDATE books SET number = 3", RULES, "books: numbered 2 to 16, one after another"),
     ("UPDATE books SET starts = 1767600000", OPENED, None),
+    ("UPDATE books SET starts = 0", RULES, "books: starts is after 0 and before 2100"),
+    ("UPDATE books SET starts = 4102444800", RULES, "books: starts is after 0 and before 2100"),
     (
         "INSERT INTO books SELECT 3, starts - 1, content FROM books",
         RULES,
@@ -444,6 +634,11 @@ ROWS = [
     ),
     ("UPDATE books SET content = 'x'", RULES, None),
     # what is kept once
+    (
+        "UPDATE meta SET book = replace(book, 'price = 100000', 'price = 300000')",
+        OPENED,
+        None,
+    ),
     ("UPDATE meta SET version = 9", VERSION, "meta: the version is 3"),
     ("UPDATE meta SET version = 2", VERSION, "meta: the version is 3"),
     (
@@ -453,6 +648,7 @@ ROWS = [
     ),
     ("UPDATE meta SET version = 9, last_moment = 5000000000", VERSION, "meta: the version is 3"),
     ("UPDATE meta SET version = 9, last_moment = 4294967296", VERSION, "meta: the version is 3"),
+    ("UPDATE meta SET version = 9, last_moment = 4294967295", VERSION, "meta: the version is 3"),
     ("UPDATE meta SET version = 9, book = 'x'", VERSION, "meta: the version is 3"),
     ("UPDATE meta SET version = 4294967296", VERSION, "meta: the version is 3"),
     ("UPDATE meta SET version = 9223372036854775807", VERSION, "meta: the version is 3"),
