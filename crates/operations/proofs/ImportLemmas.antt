@@ -24,7 +24,7 @@ use Rattle.voucher_rules.specs.declared.adding.Addition.{Addition}
 use Rattle.voucher_rules.specs.declared.adding.Addition.TheVariants.{New, Present, Conflicting}
 use Rattle.voucher_rules.specs.declared.voucher.Voucher.{Voucher}
 use Rattle.operations.specs.Counts.{counted, counted_as, counts_line, no_counts, total}
-use Rattle.operations.specs.Imports.{BeginsImport, Imports, TellsImport, IsAdded, IsImportBegun}
+use Rattle.operations.specs.Imports.{Imports, TellsImport, IsAdded, IsImportBegun}
 use Rattle.operations.specs.Imports.{IsImported, addition_at, additions, counted_after}
 use Rattle.operations.specs.Imports.{counts_after}
 use Rattle.operations.specs.Written.{WritesBeginning}
@@ -184,12 +184,6 @@ untold_from b commands old new before after r n imports is written = λ list tim
       told = subst (λ counts. WritesBeginning before after (counts_line counts)) all.counted
           written;
     }
-
-pub begun_from : (b : Shelf) (commands : List DatedCommand) (old new : Tables)
-    (r : Result Counts StoreFault) (f : StoreFault) → Imports b commands old new r → r ≡ Err f →
-    BeginsImport b commands old new
-begun_from b commands old new r f imports is =
-    subst (λ (x : Result Counts StoreFault). Imports b commands old new x) is imports
 
 -- ---- one voucher
 

@@ -5,3 +5,4 @@ pub mod NumberedSums
 pub mod ImportLemmas
 pub mod HeldImports
 pub mod WriteFaults
+pub mod KeeperFaults

@@ -181,11 +181,16 @@ store_failed (Err statement.Write) is = absurd (cc)
 
 -- asked after a read, the source is as it was
 pub reads_asked : {T : Type 0} (old mid new : Seen) (r : Result T StatementFault) →
-    (mid.clean → mid.tables ≡ old.tables) → (mid.clean → old.clean) → old.failed ≤ mid.failed →
+    (mid.clean → mid.tables ≡ old.tables) →
+    (mid.honest → (tables : Tables) → mid.left tables → old.left tables) →
+    (mid.clean → old.clean) → (mid.honest → old.honest) → old.failed ≤ mid.failed →
     Asks mid new r → OnlyReads old new (month_ended r)
-reads_asked old mid new r same cleanness kept asks = record {
+reads_asked old mid new r same left cleanness honesty kept asks = record {
   same = λ whole. asks.same whole ∙ same (asks.cleanness whole);
+  left = λ honest tables found.
+      left (asks.honesty honest) tables (asks.left honest tables found);
   cleanness = λ whole. cleanness (asks.cleanness whole);
+  honesty = λ honest. honesty (asks.honesty honest);
   kept = omega (arith, kept, asks.kept);
   cause = λ is.
       let raised = asks.cause (store_failed r is) in

@@ -1,11 +1,10 @@
 -- A command that was carried out, for every list of accepted commands whose tables a keeper holds.
 -- Source: profile.
-use Rattle.std.specs.Prelude.{◌≡◌, ◌≢◌, List, Option, Result, Err, IfOk, OnOk}
+use Rattle.std.specs.Prelude.{◌≡◌, List, Option, Result, Err, IfNone, IfOk}
 use Rattle.std.specs.Io.KnownBytes.{Appends}
 use Rattle.units.specs.Words.{Moment}
 use Rattle.texts.specs.StreamWords.{Bytes}
 use Rattle.texts.specs.declared.streams.StreamFault.{StreamFault}
-use Rattle.texts.specs.declared.streams.StreamFault.TheVariants.{Read as ReadFailed}
 use Rattle.commands.specs.declared.answer.Answer.{Answer}
 use Rattle.commands.specs.declared.command.Command.{Command}
 use Rattle.shelves.specs.Shelves.{Shelf}
@@ -14,9 +13,10 @@ use Rattle.keepers.specs.Tables.{Tables}
 use Rattle.keepers.specs.declared.fault.StoreFault.{StoreFault}
 use Rattle.charging.specs.Accepted.{Accepted, IsInTime}
 use Rattle.charging.specs.Parts.{Leaves}
+use Rattle.charging.specs.Promise.{Carries}
 use Rattle.charging.specs.Served.{AreTables, IsServed, Writes, answer_to, moment_of}
-use Rattle.operations.specs.Printed.{PrintsAnswer}
-use Rattle.operations.specs.Stored.{StopsAtStore}
+use Rattle.operations.specs.Faults.{keeper_fault}
+use Rattle.operations.specs.Printed.{PrintsAnswer, PrintsLine}
 use Rattle.operations.specs.Told.{answer_line, status_of}
 use Rattle.operations.specs.Written.{WritesBeginning}
 use Rattle.operations.specs.declared.fault.OfficeFault.{OfficeFault}
@@ -46,7 +46,6 @@ pub record ServesOffice {W : Type 0} (contents : W → Option Bytes)
   pub done : new.clean → IfOk result (λ status.
       IsCarriedOut b c t old.tables new.tables (λ answer. (status ≡ status_of answer)
       × Appends (contents before) (contents after) (answer_line answer)))
-  pub printed : IfOk result (λ status. PrintsAnswer status (contents before) (contents after))
   -- rule: office-commands
   pub untold : (fault : StreamFault) → result ≡ Err (Write fault) → new.clean →
       IsCarriedOut b c t old.tables new.tables
@@ -54,9 +53,10 @@ pub record ServesOffice {W : Type 0} (contents : W → Option Bytes)
   -- rule: office-commands
   pub unserved : (fault : StoreFault) → result ≡ Err (Store fault) → new.clean →
       new.tables ≡ old.tables
-  pub honesty : new.honest → old.honest
-  pub stands : new.honest → OnOk result new.clean
-  pub asked : (fault : StreamFault) → result ≡ Err (Write fault) → new.honest → new.clean
-  pub fault : (fault : StreamFault) → result ≡ Err (Write fault) → fault ≢ ReadFailed
+  pub prints : PrintsLine (λ status. PrintsAnswer status (contents before) (contents after))
+      before after result
   pub left : Leaves old new (λ held. old.clean × Writes b c t old.tables held)
-  pub stops : StopsAtStore old new before after result
+  pub keeper : Carries old new (keeper_fault result)
+  -- each command asks the store, so one that is honest after it can be asked again, whatever it was
+  -- before
+  pub stands : new.honest → IfNone (keeper_fault result) new.clean

@@ -1,13 +1,12 @@
 -- Vouchers that are added one after another, for every list of accepted commands whose tables a
 -- keeper holds.
 -- Source: profile.
-use Rattle.std.specs.Prelude.{◌≡◌, ◌≢◌, ◌<◌, ◌≤◌, ℕ, List, [], ◌∷◌, length, map, take, MatchResult}
+use Rattle.std.specs.Prelude.{◌≡◌, ◌<◌, ◌≤◌, ℕ, List, [], ◌∷◌, length, map, take, MatchResult}
 use Rattle.std.specs.Prelude.{Option, Result, Err, IfOk, OnOk}
 use Rattle.std.specs.Io.KnownBytes.{Appends}
 use Rattle.units.specs.Words.{Moment}
 use Rattle.texts.specs.StreamWords.{Bytes}
 use Rattle.texts.specs.declared.streams.StreamFault.{StreamFault}
-use Rattle.texts.specs.declared.streams.StreamFault.TheVariants.{Read as ReadFailed}
 use Rattle.commands.specs.declared.command.Command.TheVariants.{AddVoucher}
 use Rattle.commands.specs.declared.command.VoucherAddition.{VoucherAddition}
 use Rattle.shelves.specs.Shelves.{Shelf}
@@ -17,13 +16,14 @@ use Rattle.keepers.specs.Tables.{Tables}
 use Rattle.keepers.specs.declared.fault.StoreFault.{StoreFault}
 use Rattle.charging.specs.Accepted.{Accepted, IsInTime}
 use Rattle.charging.specs.Parts.{Leaves}
+use Rattle.charging.specs.Promise.{Carries}
 use Rattle.charging.specs.Runs.{after_command, after_commands}
 use Rattle.charging.specs.Served.{AreTables, accepts, answer_to, moment_of}
 use Rattle.charging.specs.declared.running.DatedCommand.{DatedCommand}
 use Rattle.voucher_rules.specs.declared.adding.Addition.{Addition}
 use Rattle.operations.specs.Counts.{counted, counted_as, counts_line, no_counts, total}
-use Rattle.operations.specs.Printed.{PrintsCounts}
-use Rattle.operations.specs.Stored.{StopsAtStore}
+use Rattle.operations.specs.Faults.{keeper_fault}
+use Rattle.operations.specs.Printed.{PrintsCounts, PrintsLine}
 use Rattle.operations.specs.Written.{WritesBeginning}
 use Rattle.operations.specs.declared.counts.Counts.{Counts}
 use Rattle.operations.specs.declared.fault.OfficeFault.{OfficeFault}
@@ -123,19 +123,14 @@ pub record ServesImport {A W : Type 0} (contents : W → Option Bytes)
     (result : Result A OfficeFault) : Type 0 where
   pub done : new.clean → OnOk result (TellsImport b (additions t rows) old.tables new.tables
       (λ counts. Appends (contents before) (contents after) (counts_line counts)))
-  pub printed : OnOk result (PrintsCounts (contents before) (contents after))
   pub untold : (fault : StreamFault) → result ≡ Err (Write fault) → new.clean →
       TellsImport b (additions t rows) old.tables new.tables
       (λ counts. WritesBeginning (contents before) (contents after) (counts_line counts))
   pub unserved : (fault : StoreFault) → result ≡ Err (Store fault) → new.clean →
       BeginsImport b (additions t rows) old.tables new.tables
-  pub honesty : new.honest → old.honest
-  pub stands : new.honest → old.clean → OnOk result new.clean
-  pub asked : (fault : StreamFault) → result ≡ Err (Write fault) → new.honest → old.clean →
-      new.clean
-  pub fault : (fault : StreamFault) → result ≡ Err (Write fault) → fault ≢ ReadFailed
+  pub prints : PrintsLine (λ _. PrintsCounts (contents before) (contents after)) before after result
   pub left : Leaves old new (HoldsBeginning b (additions t rows) old.tables)
-  pub stops : StopsAtStore old new before after result
+  pub keeper : Carries old new (keeper_fault result)
 
 -- ---- one voucher
 

@@ -1,5 +1,5 @@
 pub mod Written
-pub mod Stored
+pub mod Faults
 pub mod Told
 pub mod Carried
 pub mod Months

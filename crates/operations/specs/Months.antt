@@ -118,11 +118,13 @@ abbrev pub month_ended : {A : Type 0} → Result A StatementFault → Result Sta
 month_ended (Ok written) = Ok Done
 month_ended (Err fault) = Err (month_fault fault)
 
--- the tables are as before, and store fault 2 comes only with a cause
+-- the tables are as before, and so is what a stop leaves; store fault 2 comes only with a cause
 -- rule: statement.month-told
 pub record OnlyReads (old new : Seen) (result : Result Status OfficeFault) : Type 0 where
   pub same : new.clean → new.tables ≡ old.tables
+  pub left : new.honest → (tables : Tables) → new.left tables → old.left tables
   pub cleanness : new.clean → old.clean
+  pub honesty : new.honest → old.honest
   pub kept : old.failed ≤ new.failed
   pub cause : IsErrOf result (Store store.Store) → min (old.failed + 1) max_failures ≤ new.failed
 
@@ -142,7 +144,5 @@ pub record ServesStatement {W : Type 0} (contents : W → Option Bytes)
   pub begun : OnErr result (BeginsMonth b q (contents before) (contents after))
   -- rule: statement.month-told
   pub reads : OnlyReads old new result
-  pub honesty : new.honest → old.honest
   pub stands : new.honest → OnOk result new.clean
   pub fault : (fault : StreamFault) → result ≡ Err (Write fault) → fault ≢ stream.Read
-  pub left : new.honest → (tables : Tables) → new.left tables → old.left tables

@@ -80,7 +80,6 @@ fn add_voucher<K: Keeper>(
 /// written. `Write` where memory ran out for the line or the writer failed: then all were added,
 /// and a beginning of the line is written.
 // rule: import
-#[tactic(auto, using(crate::proofs::ImportLemmas::told_from, crate::proofs::ImportLemmas::untold_from, crate::proofs::ImportLemmas::begun_from))]
 pub fn serve_import<K: Keeper, W: Write>(
     alloc: Global,
     keeper: &mut K,

@@ -24,7 +24,6 @@ use units::Moment;
 /// changed, and nothing is written. `Write` where the writer failed: then the command was carried
 /// out, and a beginning of its line is written.
 // rule: office-commands
-#[tactic(auto, using(crate::proofs::CarriedLemmas::done_from, crate::proofs::CarriedLemmas::left_from, crate::proofs::CarriedLemmas::untold_from))]
 pub fn serve_office<K: Keeper, W: Write>(
     alloc: Global,
     keeper: &mut K,

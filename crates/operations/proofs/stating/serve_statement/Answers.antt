@@ -28,10 +28,8 @@ returns-in_err-state g c =
       begun = on_err c.from_residual.result
           (nothing_begun c.args.shelf.now c.args.query.now w0 (nothing_written w0));
       reads = search rules;
-      honesty = search rules;
       stands = search rules;
       fault = search rules;
-      left = search rules;
     }
 
 pub returns-in-Some : goal.returns-in-Some
@@ -61,8 +59,8 @@ returns-in-Some g c = record {
       (g.K.Keeper.seen c.write_month.new.keeper)) (sym c.month_ended.ensures)
       (reads_asked (g.K.Keeper.seen c.args.keeper.now) (g.K.Keeper.seen c.account_state.new.keeper)
       (g.K.Keeper.seen c.write_month.new.keeper) c.write_month.result c.in_ok-state.ensures.same
-      c.in_ok-state.ensures.cleanness c.in_ok-state.ensures.cause.kept c.write_month.ensures.asks);
-  honesty = search rules;
+      c.in_ok-state.ensures.left c.in_ok-state.ensures.cleanness c.in_ok-state.ensures.honesty
+      c.in_ok-state.ensures.cause.kept c.write_month.ensures.asks);
   stands = λ honest.
       subst (λ (x : Result Status OfficeFault). OnOk x
       (g.K.Keeper.seen c.write_month.new.keeper).clean) (sym c.month_ended.ensures)
@@ -72,7 +70,6 @@ returns-in-Some g c = record {
       no_reading c.month_ended.result fault
       (subst (λ (r : Result Status OfficeFault). IsNoReading r) (sym c.month_ended.ensures)
       (month_unread c.write_month.result)) told;
-  left = search rules;
 }
 
 pub returns-in-None : goal.returns-in-None
@@ -92,13 +89,13 @@ returns-in-None g c = record {
       c.tell_unknown.ensures.told;
   reads = record {
     same = λ clean. c.in_ok-state.ensures.same clean;
+    left = c.in_ok-state.ensures.left;
     cleanness = λ clean. c.in_ok-state.ensures.cleanness clean;
+    honesty = c.in_ok-state.ensures.honesty;
     kept = c.in_ok-state.ensures.cause.kept;
     cause = λ failed. absurd (c.tell_unknown.ensures.unstored failed);
   };
-  honesty = search rules;
   stands = λ honest.
       on_ok c.tell_unknown.result (c.in_ok-state.ensures.stands honest);
   fault = search rules;
-  left = search rules;
 }
