@@ -1,7 +1,7 @@
 -- What becomes of a file of vouchers, for every list of accepted commands whose tables a keeper
 -- holds, and which faults are reported.
 -- Source: profile.
-use Rattle.std.specs.Prelude.{◌≡◌, ◌≤◌, List, Option, Result, Ok, Err, IsTrue, false}
+use Rattle.std.specs.Prelude.{◌≡◌, List, Option, None, Result, Ok, Err, IsTrue, false}
 use Rattle.std.specs.Prelude.{IfErr, IfSome, OnOk}
 use Rattle.std.specs.Io.KnownBytes.{Appends}
 use Rattle.units.specs.Words.{Moment}
@@ -10,7 +10,10 @@ use Rattle.commands.specs.declared.command.VoucherAddition.{VoucherAddition}
 use Rattle.shelves.specs.Shelves.{Shelf}
 use Rattle.keepers.specs.Seen.{Seen}
 use Rattle.keepers.specs.Tables.{Tables}
+use Rattle.keepers.specs.declared.fault.StoreFault.{StoreFault}
+use Rattle.charging.specs.Promise.{Carries}
 use Rattle.operations.specs.Counts.{counts_line}
+use Rattle.operations.specs.Faults.{store_fault}
 use Rattle.operations.specs.Imports.{BeginsImport, TellsImport, additions}
 use Rattle.operations.specs.Printed.{PrintsCounts}
 use Rattle.operations.specs.Written.{WritesBeginning}
@@ -72,6 +75,13 @@ IsUntold (Database fault) = IsUnanswered fault
 
 -- ---- what the calls answer
 
+-- the keeper's fault that a call ended with, where it is one
+abbrev pub keeper_fault : {A : Type 0} → Result A ImportFault → Option StoreFault
+keeper_fault (Ok done) = None
+keeper_fault (Err (Vouchers fault)) = None
+keeper_fault (Err (Database (Office fault))) = store_fault fault
+keeper_fault (Err (Database _)) = None
+
 -- the counts are printed, or nothing is where the vouchers weren't added
 pub record ImportsOffice {A O : Type 0} (contents : O → Option Bytes) (at : Option Moment)
     (old new : O) (result : Result A ImportFault) : Type 0 where
@@ -91,7 +101,4 @@ pub record ImportsFile {A O : Type 0} (contents : O → Option Bytes) (b : Shelf
       IsImportFault b text t old.tables new.tables (contents before) (contents after) fault))
   pub unwritten : IfErr result (λ fault. IsUntold fault → after ≡ before)
   pub told : IfErr result IsFileFault
-  pub honesty : new.honest → old.honest
-  pub stands : new.honest → old.clean → OnOk result new.clean
-  pub cleanness : new.clean → old.clean
-  pub failures : old.failed ≤ new.failed
+  pub keeper : Carries old new (keeper_fault result)

@@ -1,7 +1,20 @@
 use Rattle.std.proofs.Common.{rules, Err, refl}
 use Rattle.std.proofs.lemmas.Result.{err_from_is_err_and}
-use Rattle.service.proofs.ImportingLemmas.{not_told}
+use Rattle.service.proofs.ImportingLemmas.{carried_on, carried_unread, not_told}
 use Rattle.service.proofs.importing.import_file.Goals as goal
+
+pub returns-in_err-rows : goal.returns-in_err-rows
+returns-in_err-rows g c =
+    let p = err_from_is_err_and c.from_residual.result c.from_residual.ensures.1 in
+    record {
+      done = search rules;
+      printed = search rules;
+      fault = search rules;
+      unwritten = search rules;
+      told = search rules;
+      keeper = carried_unread (g.K.Keeper.seen c.args.keeper.now) c.from_residual.result p.0 _ p.1
+          p.2;
+    }
 
 pub returns-in_err-serve_import : goal.returns-in_err-serve_import
 returns-in_err-serve_import g c =
@@ -20,8 +33,7 @@ returns-in_err-serve_import g c =
           (λ fault e. c.in_err-serve_import.ensures.unserved fault e clean));
       unwritten = search rules;
       told = search rules;
-      honesty = search rules;
-      stands = search rules;
-      cleanness = search rules;
-      failures = search rules;
+      keeper = carried_on (g.K.Keeper.seen c.args.keeper.now)
+          (g.K.Keeper.seen c.serve_import.new.keeper) c.from_residual-in_err-serve_import.result
+          p.0 _ p.1 p.2 c.in_err-serve_import.ensures.keeper;
     }
