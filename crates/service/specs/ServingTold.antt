@@ -100,14 +100,7 @@ pub record ListensOver {D O E : Type 0} {g : disk.Ghosts D} (image : Image)
   -- rule: port
   pub continued : IfOk result (λ r. IsClean (file_state r.1.connection) →
       Comes image r.1 Continues)
-  pub listening : OnOk result (Appends (contents old) (contents new) (listening_line words.port))
-  pub begun : OnErr result
-      (WritesBeginning (contents old) (contents new) (listening_line words.port))
-  pub unwritten : IfErr result (λ fault. IsUnlistened fault → new ≡ old)
-  pub told : IfOk result (λ r. TellsFaults r.0 (faults before) (faults after))
-  pub bounded : IfOk result (λ r. r.0 ≤ words.connections)
-  pub untold : OnErr result (after ≡ before)
-  pub fault : IfErr result IsServeFault
+  pub listens : Listens contents faults words (λ r. r.0) old new before after result
 
 -- so many connections at most end in a fault, each of which is reported; what was accepted is what
 -- the tables go on by

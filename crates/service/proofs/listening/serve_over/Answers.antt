@@ -1,4 +1,3 @@
-use Rattle.std.proofs.Common.{rules}
 use Rattle.sqlite_wal.specs.Files.{image_at}
 use Rattle.charging.specs.Continued.{Continues}
 use Rattle.service.proofs.CleanOffices.{clean_from}
@@ -9,11 +8,5 @@ returns g c = record {
   continued = clean_from (image_at g.S.Start) _ _ c.serve_office.result (λ r. r.1) Continues
       c.in_ok-office.ensures.opened c.serve_office.ensures.cleanness
       c.serve_office.ensures.continued;
-  listening = search rules;
-  begun = search rules;
-  unwritten = search rules;
-  told = search rules;
-  bounded = search rules;
-  untold = search rules;
-  fault = search rules;
+  listens = c.serve_office.ensures.listens;
 }
