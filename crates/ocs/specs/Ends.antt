@@ -8,7 +8,8 @@ use Rattle.clap.specs.Words.{IsAmong, Text, fault_of}
 use Rattle.clap.specs.declared.error.kind.ErrorKind.{ErrorKind}
 use Rattle.clap.specs.declared.error.kind.ErrorKind.TheVariants.{DisplayHelp, DisplayVersion}
 use Rattle.operations.specs.Months.{unknown_line}
-use Rattle.operations.specs.Printed.{PrintsAnswer, PrintsCounts}
+use Rattle.operations.specs.Counts.{PrintsCounts}
+use Rattle.operations.specs.Printed.{PrintsAnswer}
 use Rattle.operations.specs.declared.status.Status.{Status}
 use Rattle.operations.specs.declared.status.Status.TheVariants.{Done, Failed, Unread}
 use Rattle.service.specs.CivilClock.{BeginsClock, PrintsClock}

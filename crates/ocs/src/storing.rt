@@ -6,7 +6,8 @@ ghost use Rattle.service.specs.CivilClock.{BeginsClock, IsClockFault, PrintsCloc
 ghost use Rattle.service.specs.Opening.{IsCommandFault, IsUnanswered, IsUnasked};
 ghost use Rattle.service.specs.Stating.{BeginsMonthOf, PrintsMonthOf};
 ghost use Rattle.operations.specs.Months.{unknown_line};
-ghost use Rattle.operations.specs.Printed.{IsEnded, PrintsAnswer, PrintsCounts};
+ghost use Rattle.operations.specs.Counts.{PrintsCounts};
+ghost use Rattle.operations.specs.Printed.{IsEnded, PrintsAnswer};
 ghost use Rattle.operations.specs.declared.status.Status.TheVariants.{Failed};
 ghost use Rattle.ocs.specs.Faults.{IsImportFault, OnlyDatabase};
 ghost use Rattle.ocs.specs.Told.{IfDatabase};

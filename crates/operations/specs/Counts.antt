@@ -1,7 +1,8 @@
 -- What becomes of vouchers that are added, counted.
 -- Source: profile.
-use Rattle.std.specs.Prelude.{ℕ, ◌+◌, ◌++◌, Bool, true, false, [], ◌∷◌, codes}
+use Rattle.std.specs.Prelude.{ℕ, ◌+◌, ◌++◌, Bool, true, false, [], ◌∷◌, Option, codes}
 use Rattle.std.specs.Fmt.{decimal}
+use Rattle.std.specs.Io.KnownBytes.{Appends}
 use Rattle.texts.specs.StreamWords.{Bytes}
 use Rattle.commands.specs.declared.answer.Answer.{Answer}
 use Rattle.commands.specs.declared.answer.Answer.TheVariants as answer
@@ -40,3 +41,9 @@ counts_text n = codes "new " ++ (decimal n.new ++ (codes " present " ++ (decimal
 -- rule: import
 abbrev pub counts_line : Counts → Bytes
 counts_line n = counts_text n ++ 10 ∷ []
+
+-- the line of some counts is printed
+-- rule: office-commands
+pub record PrintsCounts (old new : Option Bytes) : Type 0 where
+  pub counts : Counts
+  pub printed : Appends old new (counts_line counts)

@@ -21,9 +21,10 @@ use Rattle.charging.specs.Runs.{after_command, after_commands}
 use Rattle.charging.specs.Served.{AreTables, accepts, answer_to, moment_of}
 use Rattle.charging.specs.declared.running.DatedCommand.{DatedCommand}
 use Rattle.voucher_rules.specs.declared.adding.Addition.{Addition}
+use Rattle.operations.specs.Counts.{PrintsCounts}
 use Rattle.operations.specs.Counts.{counted, counted_as, counts_line, no_counts, total}
 use Rattle.operations.specs.Faults.{keeper_fault}
-use Rattle.operations.specs.Printed.{PrintsCounts, PrintsLine}
+use Rattle.operations.specs.Printed.{PrintsLine}
 use Rattle.operations.specs.Written.{WritesBeginning}
 use Rattle.operations.specs.declared.counts.Counts.{Counts}
 use Rattle.operations.specs.declared.fault.OfficeFault.{OfficeFault}

@@ -7,9 +7,7 @@ use Rattle.texts.specs.declared.streams.StreamFault.{StreamFault}
 use Rattle.texts.specs.declared.streams.StreamFault.TheVariants.{Read as ReadFailed}
 use Rattle.commands.specs.declared.answer.Answer.{Answer}
 use Rattle.keepers.specs.declared.fault.StoreFault.{StoreFault}
-use Rattle.operations.specs.Counts.{counts_line}
 use Rattle.operations.specs.Told.{answer_line, status_of}
-use Rattle.operations.specs.declared.counts.Counts.{Counts}
 use Rattle.operations.specs.declared.fault.OfficeFault.{OfficeFault}
 use Rattle.operations.specs.declared.fault.OfficeFault.TheVariants.{Store, Write}
 use Rattle.operations.specs.declared.status.Status.{Status}
@@ -21,12 +19,6 @@ abbrev pub IsEnded : Type 0 → Status → Type 0
 IsEnded Refused Done = Unit {0}
 IsEnded Refused Failed = Refused
 IsEnded Refused Unread = ⊥
-
--- the line of some counts
--- rule: office-commands
-pub record PrintsCounts (old new : Option Bytes) : Type 0 where
-  pub counts : Counts
-  pub printed : Appends old new (counts_line counts)
 
 -- the line of some answer, with which a command ends so
 -- rule: office-commands

@@ -12,10 +12,9 @@ use Rattle.keepers.specs.Seen.{Seen}
 use Rattle.keepers.specs.Tables.{Tables}
 use Rattle.keepers.specs.declared.fault.StoreFault.{StoreFault}
 use Rattle.charging.specs.Promise.{Carries}
-use Rattle.operations.specs.Counts.{counts_line}
+use Rattle.operations.specs.Counts.{PrintsCounts, counts_line}
 use Rattle.operations.specs.Faults.{store_fault}
 use Rattle.operations.specs.Imports.{BeginsImport, TellsImport, additions}
-use Rattle.operations.specs.Printed.{PrintsCounts}
 use Rattle.operations.specs.Written.{WritesBeginning}
 use Rattle.operations.specs.declared.counts.Counts.{Counts}
 use Rattle.operations.specs.declared.fault.OfficeFault.TheVariants.{Store, Write}

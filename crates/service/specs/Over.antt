@@ -32,7 +32,8 @@ use Rattle.sql_keeper.specs.Stops.{trees_in}
 use Rattle.operations.specs.Carried.{IsCarriedOut}
 use Rattle.operations.specs.Counts.{counts_line}
 use Rattle.operations.specs.Months.{IsMonthTold}
-use Rattle.operations.specs.Printed.{PrintsAnswer, PrintsCounts}
+use Rattle.operations.specs.Counts.{PrintsCounts}
+use Rattle.operations.specs.Printed.{PrintsAnswer}
 use Rattle.operations.specs.Told.{answer_line, status_of}
 use Rattle.operations.specs.declared.stating.MonthQuery.{MonthQuery}
 use Rattle.operations.specs.declared.status.Status.{Status}

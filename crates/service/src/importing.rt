@@ -1,7 +1,7 @@
 //! A file of vouchers over a database.
 
 ghost use Rattle.std.specs.Prelude.{◌≡◌, IfErr, IfOk, IfSome, OnOk};
-ghost use Rattle.operations.specs.Printed.{PrintsCounts};
+ghost use Rattle.operations.specs.Counts.{PrintsCounts};
 ghost use Rattle.service.specs.Importing.{IsFileFault};
 ghost use Rattle.service.specs.Importing.{ImportsFile, ImportsOffice};
 ghost use Rattle.service.specs.Importing.{IsUntold};
