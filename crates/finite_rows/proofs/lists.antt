@@ -1,0 +1,8 @@
+-- Whatever commands were accepted, each account's rows are a list within their rules.
+pub mod CommandRows
+pub mod FiniteRows
+pub mod HeldAgain
+pub mod InOrder
+pub mod LiveSessions
+pub mod RequestRows
+pub mod RowsKept
