@@ -10,6 +10,7 @@ import random
 import shutil
 import time
 
+from support import prompt
 from support.image import image
 from support.machine import SHARED, Machine, Network
 from support.served import BOOKS, WAITING, Served
@@ -75,7 +76,8 @@ class Pair:
         """A machine's disk: NBD, which the machine's kernel speaks. (What user-mode-linux has for
         files of its host, ubd, answers a flush and doesn't do it.)"""
         where = f"{HOST}:{PORTS + one.number}"
-        return Disk(one.place / "disk.img", self.network.words, where)
+        inside = [*prompt.words(one.number), *self.network.words]
+        return Disk(one.place / "disk.img", inside, where)
 
     def make(self) -> None:
         """Both disks have a file system with a new shard, in step."""

@@ -18,6 +18,7 @@ import ssl
 import subprocess
 from collections.abc import Iterator
 
+from support import prompt
 from support.served import Layout
 from support.waiting import until
 from support.world import done, ran
@@ -162,7 +163,8 @@ class Machine:
     def start(self, init: str, disk: str = "") -> None:
         """It gets power, with a disk beside its first: /dev/nbd0, at an address and a port."""
         (self.shared / "up").unlink(missing_ok=True)
-        words = [*WITH_US, *self.network.words, *TOGETHER, "linux.uml"]
+        words = [*prompt.words(self.number), *WITH_US, *self.network.words, *TOGETHER]
+        words += ["linux.uml"]
         first, memory = INITS[init]
         words += [f"mem={memory}", "root=/dev/ubda", "rw", f"init={first}", "con=null"]
         # Without 512 terminals, for each of which a boot starts a process.
