@@ -176,6 +176,10 @@ class Gateways:
         """How many commands are acknowledged."""
         return sum(len(account.acknowledged) for account in self.accounts)
 
+    def door(self) -> Door:
+        """What a gateway asks."""
+        return Door(self.connect)
+
     def take(self, shares: list[list[Account]]) -> None:
         """Goes on with accounts that were asked before, of their own each time."""
         self.shares = copy.deepcopy(shares)
@@ -183,7 +187,7 @@ class Gateways:
 
     def open(self) -> None:
         """Opens the accounts, and gives each its first money."""
-        door = Door(self.connect)
+        door = self.door()
         for account in self.accounts:
             status, told = door.ask("PUT", f"/accounts/{account.number}")
             assert status == 200, (status, told)
@@ -204,7 +208,7 @@ class Gateways:
     def work(self, mine: list[Account], at: int) -> None:
         """One gateway: asks for its accounts by chance."""
         chance = random.Random(f"{self.seed} {self.round} {at}")
-        door = Door(self.connect)
+        door = self.door()
         while not self.stop.is_set():
             account = chance.choice(mine)
             account.pending = account.pending or account.next(chance)
@@ -213,7 +217,7 @@ class Gateways:
 
     def sweep(self) -> None:
         """Sweeps once a second or so; sweeps have no order with the commands."""
-        door = Door(self.connect)
+        door = self.door()
         while not self.stop.wait(1.0):
             self.is_sweeping = True
             if door.ask("POST", "/sweep")[0] == 200:
@@ -241,7 +245,7 @@ class Gateways:
 
     def settle(self, seconds: float = 300.0) -> int:
         """Sends what is under way until each is answered; how many commands there were."""
-        door = Door(self.connect)
+        door = self.door()
         if self.is_sweeping:
             until(lambda: door.ask("POST", "/sweep")[0] == 200, "the sweep", seconds)
             self.sweeps, self.is_sweeping = self.sweeps + 1, False
@@ -254,7 +258,7 @@ class Gateways:
     def repeat(self, last: int | None = None, seconds: float = 300.0) -> int:
         """Asks acknowledged commands again, of each account the last ones or all, and sees that
         each has its first answer byte for byte; how many there were."""
-        door = Door(self.connect)
+        door = self.door()
         wanted = slice(-last if last else None, None)
         jobs = [job for one in self.accounts for job in one.acknowledged[wanted]]
         for command, answer in jobs:

@@ -31,6 +31,13 @@ MEMORIES = "/dev/shm"
 # A machine's first process, and its memory.
 INITS = {"small": ("/usr/local/sbin/small", "256M"), "systemd": ("/sbin/init", "512M")}
 DOOR = 700
+# A gateway has the kernel ask whether a machine is there still: one that died ends no connection.
+ASKED_WHETHER_THERE = {
+    (socket.SOL_SOCKET, socket.SO_KEEPALIVE): 1,
+    (socket.IPPROTO_TCP, socket.TCP_KEEPIDLE): 3,
+    (socket.IPPROTO_TCP, socket.TCP_KEEPINTVL): 1,
+    (socket.IPPROTO_TCP, socket.TCP_KEEPCNT): 5,
+}
 # A process ends with its test, whatever becomes of that; and with it all that it started.
 WITH_US = ["setpriv", "--pdeathsig", "KILL"]
 TOGETHER = ["unshare", "--pid", "--fork", "--kill-child", "--mount-proc"]
@@ -94,8 +101,10 @@ class Network:
         return Inside(self, address, port, seconds)
 
     def cable(self, card: str, machine: int, is_in: bool) -> None:
-        """A machine's cable is pulled, or put back."""
-        self.sh(f"ip link set {card}{machine} {'up' if is_in else 'down'}")
+        """A machine's cable is pulled out of its bridge, or put back. (A tap that is down gives the
+        machine's driver an error, after which it reads no more.)"""
+        where = f"master bridge-{card}" if is_in else "nomaster"
+        self.sh(f"ip link set {card}{machine} {where}")
 
     def end(self) -> None:
         """Takes it away."""
@@ -128,6 +137,8 @@ class Inside(http.client.HTTPConnection):
 
     def connect(self) -> None:
         peer = self.network.dial(self.address, self.port, self.seconds)
+        for option, value in ASKED_WHETHER_THERE.items():
+            peer.setsockopt(*option, value)
         if self.context:
             self.sock = self.context.wrap_socket(peer, server_hostname=self.host)
         else:
