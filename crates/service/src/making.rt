@@ -66,7 +66,7 @@ pub fn make_over<S: Start>(
 /// `Book`, why it is none: also where it isn't UTF-8, so no TOML.
 pub fn book_text(alloc: Global, bytes: &[u8]) -> Result<&str, DatabaseFault>
     ensures same { IfOk result (λ text. text.now ≡ bytes.now) }
-    ensures book { OnOk result (IsBookText bytes.now) }
+    ensures tables { OnOk result (IsBookText bytes.now) }
     ensures told { IfErr result (IsTextFault bytes.now) }
 {
     let Ok(text) = str::from_utf8(bytes) else {

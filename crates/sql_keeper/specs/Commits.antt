@@ -9,7 +9,7 @@ use Rattle.sqlite_trees.specs.Objects.{catalog_tree}
 use Rattle.sqlite.specs.State.{State, HasCleanDisk, Survives}
 use Rattle.keepers.specs.declared.loaded.Change.{Change}
 use Rattle.keepers.specs.Change.{changed}
-use Rattle.sql_tables.specs.Statements.{AreStored, HasIdleBook, IsStill}
+use Rattle.sql_tables.specs.Statements.{AreStored, HasIdleTables, IsStill}
 use Rattle.sql_rows.specs.Content.{TablesContent, tables_content}
 use Rattle.sql_rows.specs.Makes.{Commits, Turns}
 use Rattle.sql_rows.specs.Plain.{ArePlain}
@@ -26,7 +26,7 @@ pub record Transacts {A E : Type 0} (change : TablesContent → TablesContent) (
     pub done : HasCleanDisk new →
         OnOk result (IsTrue old.is_open × IsTrue new.is_open × Commits change old new)
     pub kept : HasCleanDisk new → IsTrue new.is_open → OnErr result (IsStill old new)
-    pub idle : HasIdleBook new
+    pub idle : HasIdleTables new
     pub survives : Survives old new (λ db. IsTrue old.is_open × Turns change old.now.trees db)
 
 -- the tables hold the change and nothing else; they would be found again: the catalog is the same,
@@ -58,7 +58,7 @@ pub record CommitsWhole {A E : Type 0} (Become : Trees → Trees → Type 0) (ol
   pub done : HasCleanDisk new
       → OnOk result (IsTrue old.is_open × IsTrue new.is_open × Become old.now.trees new.now.trees)
   pub err : HasCleanDisk new → IsTrue new.is_open → OnErr result (IsStill old new)
-  pub idle : HasIdleBook new
+  pub idle : HasIdleTables new
   -- only a fault of the disk shuts the connection
   pub survives : Survives old new (λ db. IsTrue old.is_open → Become old.now.trees db)
 

@@ -9,8 +9,8 @@ use Rattle.sqlite_trees.specs.Tree.{Trees}
 use Rattle.sqlite_catalog.specs.Listing.{Lists}
 use Rattle.sqlite.specs.State.{State, HasCleanDisk, Shows, Survives}
 use Rattle.keepers.specs.Tables.{no_tables}
-use Rattle.sql_tables.specs.Schema.{book_schema, latest}
-use Rattle.sql_tables.specs.Statements.{AreStored, HasIdleBook, IsBook, IsStill}
+use Rattle.sql_tables.specs.Schema.{our_schema, latest}
+use Rattle.sql_tables.specs.Statements.{AreStored, HasIdleTables, IsTabled, IsStill}
 use Rattle.sql_rows.specs.Values.{Meta}
 use Rattle.sql_rows.specs.Content.{tables_content}
 use Rattle.sql_rows.specs.Plain.{ArePlain}
@@ -26,7 +26,7 @@ first_meta text = record { version = latest; book = text; last = 0 }
 -- there is no other book
 -- rule: database-made
 pub record IsNewBook (text : BookText) (trees : Trees) : Type 0 where
-  pub lists : Lists (trees catalog_tree) book_schema
+  pub lists : Lists (trees catalog_tree) our_schema
   pub stored : AreStored trees
   pub meta : (tables_content trees).meta ≡ Some (first_meta text)
   pub tables : (names : Names) → tables_of names (tables_content trees) ≡ no_tables
@@ -40,7 +40,7 @@ pub record IsNewBook (text : BookText) (trees : Trees) : Type 0 where
 -- inside a transaction
 pub record BuildsBook (text : BookText) (old new : State) : Type 0 where
   pub made : IsNewBook text new.now.trees
-  pub book : IsBook new
+  pub book : IsTabled new
   pub shows : Shows old new new.now old.committed true
 
 -- outside a transaction: the tables are made, or nothing is changed, and a stop leaves what was
@@ -49,6 +49,6 @@ pub record BuildsBook (text : BookText) (old new : State) : Type 0 where
 pub record CreatesBook {A E : Type 0} (text : BookText) (old new : State) (result : Result A E)
     : Type 0 where
   pub done : HasCleanDisk new →
-      OnOk result (IsTrue new.is_open × HasIdleBook new × IsNewBook text new.now.trees)
+      OnOk result (IsTrue new.is_open × HasIdleTables new × IsNewBook text new.now.trees)
   pub kept : HasCleanDisk new → IsTrue new.is_open → OnErr result (IsStill old new)
   pub survives : Survives old new (IsNewBook text)

@@ -7,8 +7,8 @@ use Rattle.sqlite_trees.specs.Tree.{Trees}
 use Rattle.sqlite.specs.State.{State, HasCleanDisk, Survives}
 use Rattle.sqlite_schema.specs.Rules.{Fits}
 use Rattle.sql_tables.specs.Words.{TablesVersion}
-use Rattle.sql_tables.specs.Schema.{book_schema, latest}
-use Rattle.sql_tables.specs.Statements.{HasIdleBook, IsStill, OnlyReads}
+use Rattle.sql_tables.specs.Schema.{our_schema, latest}
+use Rattle.sql_tables.specs.Statements.{HasIdleTables, IsStill, OnlyReads}
 use Rattle.sql_rows.specs.Content.{tables_content}
 use Rattle.sql_rows.specs.Plain.{ArePlain}
 use Rattle.sql_rows.specs.declared.meta_rows.MetaColumns.{MetaColumns}
@@ -31,7 +31,7 @@ pub record IsReadOf (r : ReadBooks) (trees : Trees) : Type 0 where
 -- and each row is in its rules, as the statements write it
 pub record IsReadRuled (r : ReadBooks) (trees : Trees) : Type 0 where
   pub read : IsReadOf r trees
-  pub rules : Fits book_schema trees → IsInRules r.own (tables_content trees)
+  pub rules : Fits our_schema trees → IsInRules r.own (tables_content trees)
   pub plain : ArePlain trees
 
 -- what is kept once is that of this version; or a fault says why not
@@ -64,7 +64,7 @@ pub record FindsBooks (old new : State) (result : Result ReadBooks OpenFault) : 
       IfOk result (λ r. IsReadOf r new.now.trees × IsStill old new × IsTrue new.is_open)
   pub given : IfOk result (λ r. r.given ≡ r.own)
   pub read : IfOk result (λ r. IsBookOf (string_bytes r.text) r.own.first)
-  pub idle : OnOk result (HasIdleBook new)
+  pub idle : OnOk result (HasIdleTables new)
   pub cause : HasCleanDisk new →
       IfErr result (λ fault. IsStores fault ⊎ HasFault fault old.now)
   pub still : HasCleanDisk new → IsTrue new.is_open → IsStill old new

@@ -8,7 +8,7 @@ use Rattle.sqlite.specs.Held.{Held, held_code, state}
 use Rattle.sqlite.specs.State.{State, HasCleanDisk}
 use Rattle.shelves.specs.Shelves.{Shelf}
 use Rattle.shelves.specs.contracts.shelf.TariffShelf as tariff_shelf
-use Rattle.sql_tables.specs.Statements.{HasIdleBook}
+use Rattle.sql_tables.specs.Statements.{HasIdleTables}
 use Rattle.sql_rows.specs.Content.{tables_content}
 use Rattle.keepers.specs.Faults.{max_failures}
 use Rattle.keepers.specs.Tables.{Tables}
@@ -58,7 +58,7 @@ StaysOpen s = HasCleanDisk s → s.faults ≡ 0 → IsTrue s.is_open
 pub record IsKeeper {S : Type 0} (g : Ghosts S) (k : KeeperState S) : Type 0 where
   pub bounded : k.failures ≤ max_failures
   pub plain : k.connection.in_transaction ≡ false
-  pub idle : HasIdleBook (state g k.connection)
+  pub idle : HasIdleTables (state g k.connection)
   pub stays : StaysOpen (state g k.connection)
   pub held : HasCleanDisk (state g k.connection) → IsTrue (state g k.connection).is_open
       → IsHeld k.text k.shelf k.last (state g k.connection).now.trees

@@ -8,7 +8,7 @@ use Rattle.sqlite_trees.specs.Tree.{Trees}
 use Rattle.sqlite_trees.specs.Objects.{catalog_tree}
 use Rattle.sqlite_catalog.specs.Listing.{Lists}
 use Rattle.shelves.specs.Shelves.{Shelf}
-use Rattle.sql_tables.specs.Schema.{book_schema, latest}
+use Rattle.sql_tables.specs.Schema.{our_schema, latest}
 use Rattle.sql_tables.specs.Statements.{AreStored}
 use Rattle.sql_rows.specs.Values.{Meta}
 use Rattle.sql_rows.specs.Content.{tables_content}
@@ -30,7 +30,7 @@ pub record IsKept (trees : Trees) (text : BookText) : Type 0 where
 -- other books that it keeps may follow it
 -- rule: database-opened.left: what is made, committed or swept is left as it is found again
 pub record IsLeft (text : BookText) (trees : Trees) : Type 0 where
-  pub lists : Lists (trees catalog_tree) book_schema
+  pub lists : Lists (trees catalog_tree) our_schema
   pub stored : AreStored trees
   pub kept : IsKept trees text
   pub utf8 : IsUtf8 text

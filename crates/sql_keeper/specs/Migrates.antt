@@ -16,9 +16,9 @@ use Rattle.sqlite_catalog.specs.Listing.{Lists}
 use Rattle.sqlite.specs.Held.{Held, state}
 use Rattle.sqlite.specs.State.{KeepsCommit, State, HasCleanDisk, Shows, Survives}
 use Rattle.shelves.specs.Shelves.{Shelf}
-use Rattle.sql_tables.specs.Schema.{book_schema, latest, schema_at}
+use Rattle.sql_tables.specs.Schema.{our_schema, latest, schema_at}
 use Rattle.sql_tables.specs.Stages.{AreStoredAt}
-use Rattle.sql_tables.specs.Statements.{AreStored, Attempts, HasIdleBook, IsBook, IsStill}
+use Rattle.sql_tables.specs.Statements.{AreStored, Attempts, HasIdleTables, IsTabled, IsStill}
 use Rattle.sql_tables.specs.declared.reading.ReadFault.{ReadFault}
 use Rattle.sql_tables.specs.declared.reading.ReadFault.TheVariants as reading
 use Rattle.sql_rows.specs.Content.{TablesContent, TableRows, tables_content, with_grant_book}
@@ -74,7 +74,7 @@ pub record BecomesLatest (v : TablesVersion) (old new : Trees) : Type 0 where
   pub books : (tables_content new).books ≡ (content_at v old).books
   pub left : (text : BookText) (row : Meta) → (tables_content old).meta ≡ Some row → row.book ≡ text
       → (tables_content new).meta ≡ Some (record { version = latest; book = text; last = row.last })
-  pub lists : Lists (new catalog_tree) book_schema
+  pub lists : Lists (new catalog_tree) our_schema
   pub stored : AreStored new
 
 -- a database that is left as one of the latest version by a migration of one of this version
@@ -186,7 +186,7 @@ IsHeldBy r trees = IsHeld (string_bytes r.text) r.own r.last trees
 -- is kept is read; or a fault says why not
 pub record BringsToLatest (v : TablesVersion) (old new : State)
     (result : Result ReadBooks OpenFault) : Type 0 where
-  pub brings : Attempts (λ a b. BecomesLatest v a.now.trees b.now.trees × IsBook b
+  pub brings : Attempts (λ a b. BecomesLatest v a.now.trees b.now.trees × IsTabled b
       × Shows a b b.now a.committed true) old new result
   pub read : HasCleanDisk new → IfOk result (λ r. IsHeldBy r new.now.trees)
   pub given : IfOk result (λ r. r.given ≡ r.own)
@@ -204,7 +204,7 @@ pub record MigratesTables (v : TablesVersion) (old new : State)
   pub given : IfOk result (λ r. r.given ≡ r.own)
   pub first : IfOk result (λ r. IsBookOf (string_bytes r.text) r.own.first)
   pub kept : HasCleanDisk new → IsTrue new.is_open → OnErr result (IsStill old new)
-  pub idle : OnOk result (HasIdleBook new)
+  pub idle : OnOk result (HasIdleTables new)
   pub version : HasCleanDisk new → IfErr result (λ e. e ≡ Version → IsOtherThan v old.now.trees)
   pub rules : HasCleanDisk new → IfErr result (λ e. e ≡ Rules → ¬ IsRuledVersion v old.now.trees)
   pub other : IfErr result (λ e. (¬ (e ≡ Foreign)) × (¬ (e ≡ Older)))

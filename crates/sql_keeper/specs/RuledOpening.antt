@@ -7,7 +7,7 @@ use Rattle.sqlite.specs.Effect.{Database}
 use Rattle.sqlite.specs.State.{State, HasCleanDisk, Survives}
 use Rattle.sql_tables.specs.Schema.{latest, schema_at}
 use Rattle.sql_tables.specs.Stages.{AreStoredAt}
-use Rattle.sql_tables.specs.Statements.{HasIdleBook, IsStill}
+use Rattle.sql_tables.specs.Statements.{HasIdleTables, IsStill}
 use Rattle.sql_rows.specs.Content.{tables_content}
 use Rattle.sql_tables.specs.declared.fault.OpenFault.{OpenFault}
 use Rattle.sql_tables.specs.declared.fault.OpenFault.TheVariants.{Rules}
@@ -50,7 +50,7 @@ pub record FindsRuled (old new : State) (result : Result ReadBooks OpenFault) : 
       × IsTrue new.is_open × AreRuled r.own latest new.now.trees)
   pub given : IfOk result (λ r. r.given ≡ r.own)
   pub read : IfOk result (λ r. IsBookOf (string_bytes r.text) r.own.first)
-  pub idle : OnOk result (HasIdleBook new)
+  pub idle : OnOk result (HasIdleTables new)
   pub cause : HasCleanDisk new → IfErr result (λ fault. IsRowFault fault old.now)
   pub still : HasCleanDisk new → IsTrue new.is_open → IsStill old new
   pub survives : Survives old new (λ _. ⊥)

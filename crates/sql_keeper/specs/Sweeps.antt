@@ -11,7 +11,7 @@ use Rattle.shelves.specs.Words.{BookText}
 use Rattle.sqlite_trees.specs.Tree.{Trees}
 use Rattle.sqlite_trees.specs.Objects.{catalog_tree}
 use Rattle.sqlite.specs.State.{State, HasCleanDisk, Shows, Survives}
-use Rattle.sql_tables.specs.Statements.{AreStored, HasIdleBook, IsBook, IsIdle, IsStill}
+use Rattle.sql_tables.specs.Statements.{AreStored, HasIdleTables, IsTabled, IsIdle, IsStill}
 use Rattle.shelves.specs.Shelves.{Shelf}
 use Rattle.ledger.specs.Lists.{EachIn}
 use Rattle.reserving.specs.Rows.{AreApart}
@@ -145,7 +145,7 @@ pub record SweepsAccounts (names : Names) (text : BookText) (shelf : Shelf) (t :
 pub record MakesSweep (names : Names) (text : BookText) (shelf : Shelf) (t : Moment)
     (old new : State) : Type 0 where
   pub sweeps : SweepsAccounts names text shelf t old.now.trees new.now.trees
-  pub book : IsBook new
+  pub book : IsTabled new
   pub shows : Shows old new new.now old.committed true
 
 pub record CommitsSweep (names : Names) (text : BookText) (shelf : Shelf) (t : Moment)
@@ -161,7 +161,7 @@ pub record TransactsSweep {A E : Type 0} (names : Names) (text : BookText) (shel
     pub done : HasCleanDisk new → OnOk result
         (IsTrue old.is_open × IsTrue new.is_open × CommitsSweep names text shelf t old new)
     pub kept : HasCleanDisk new → IsTrue new.is_open → OnErr result (IsStill old new)
-    pub idle : HasIdleBook new
+    pub idle : HasIdleTables new
     pub survives : Survives old new
         (λ db. IsTrue old.is_open × SweepsAccounts names text shelf t old.now.trees db)
 

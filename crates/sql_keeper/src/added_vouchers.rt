@@ -3,7 +3,8 @@
 ghost use Rattle.std.specs.Prelude.{◌≡◌, false, true};
 ghost use Rattle.keepers.specs.Change.{with_voucher};
 ghost use Rattle.sql_rows.specs.Makes.{Makes};
-ghost use Rattle.sql_tables.specs.Statements.{Attempts, HasBook, HasIdleBook, HasRules, IsInside};
+ghost use Rattle.sql_tables.specs.Statements.{Attempts, HasTables, HasIdleTables, HasRules};
+ghost use Rattle.sql_tables.specs.Statements.{IsInside};
 ghost use Rattle.sql_keeper.specs.Additions.{BecomesAdded, with_addition_put};
 ghost use Rattle.sql_keeper.specs.Commits.{CommitsStanding, CommitsWhole, Transacts};
 ghost use Rattle.sql_keeper.specs.Seen.{Stands};
@@ -35,7 +36,7 @@ fn put_addition<S: Alter>(
     moment: Moment,
 ) -> Result<(), Error>
     requires open { IsInside (state S.Store tx.old.conn.now) }
-    requires book { HasBook (state S.Store tx.old.conn.now) }
+    requires tables { HasTables (state S.Store tx.old.conn.now) }
     requires rules { HasRules (state S.Store tx.old.conn.now) }
     ensures same_reference { tx.new.conn.ghost_name ≡ tx.old.conn.ghost_name }
     ensures makes { Attempts (Makes (with_addition_put is_there code.now terms moment))
@@ -55,7 +56,7 @@ fn write_addition<S: Alter>(
     moment: Moment,
 ) -> Result<(), Error>
     requires plain { conn.old.in_transaction ≡ false }
-    requires idle { HasIdleBook (state S.Store conn.old) }
+    requires idle { HasIdleTables (state S.Store conn.old) }
     ensures plain { conn.new.in_transaction ≡ false }
     ensures transacts { Transacts (with_addition_put is_there code.now terms moment)
         (state S.Store conn.old) (state S.Store conn.new) result }
@@ -80,7 +81,7 @@ fn make_addition<S: Alter>(
     moment: Moment,
 ) -> Result<(), ReadFault>
     requires plain { conn.old.in_transaction ≡ false }
-    requires idle { HasIdleBook (state S.Store conn.old) }
+    requires idle { HasIdleTables (state S.Store conn.old) }
     requires is_there { is_later ≡ true →
         Stands is_there (meta_at text.now moment) (state S.Store conn.old) }
     ensures plain { conn.new.in_transaction ≡ false }
@@ -110,7 +111,7 @@ fn ask_to_add<S: Alter>(
     moment: Moment,
 ) -> Result<(), ReadFault>
     requires plain { conn.old.in_transaction ≡ false }
-    requires idle { HasIdleBook (state S.Store conn.old) }
+    requires idle { HasIdleTables (state S.Store conn.old) }
     requires is_there { is_later ≡ true →
         Stands is_there (meta_at text.now moment) (state S.Store conn.old) }
     ensures plain { conn.new.in_transaction ≡ false }

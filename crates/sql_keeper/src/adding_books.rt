@@ -7,7 +7,7 @@ ghost use Rattle.units.specs.Words.{no_end};
 ghost use Rattle.tariffs.specs.Books.{Book};
 ghost use Rattle.shelves.specs.Shelves.{Shelf, count, with_book};
 ghost use Rattle.shelves.specs.Succession.{shelf_fault};
-ghost use Rattle.sql_tables.specs.Statements.{HasIdleBook};
+ghost use Rattle.sql_tables.specs.Statements.{HasIdleTables};
 ghost use Rattle.sql_keeper.specs.AddsBook.{AddsBook, AddsToAll, AreTakenBack, BecomesDated};
 ghost use Rattle.sql_keeper.specs.AddsBook.{IsBehind, IsOnBoth, IsTextFault, add_told, last_at};
 ghost use Rattle.sql_keeper.specs.AddsBook.{with_dated};
@@ -38,7 +38,7 @@ fn write_book<S: Alter>(
     text: &str,
 ) -> Result<(), Error>
     requires plain { conn.old.in_transaction ≡ false }
-    requires idle { HasIdleBook (state S.Store conn.old) }
+    requires idle { HasIdleTables (state S.Store conn.old) }
     ensures plain { conn.new.in_transaction ≡ false }
     ensures transacts { Transacts (with_dated number from text.now)
         (state S.Store conn.old) (state S.Store conn.new) result }
@@ -57,7 +57,7 @@ fn make_book<S: Alter>(
     text: &str,
 ) -> Result<(), ReadFault>
     requires plain { conn.old.in_transaction ≡ false }
-    requires idle { HasIdleBook (state S.Store conn.old) }
+    requires idle { HasIdleTables (state S.Store conn.old) }
     ensures plain { conn.new.in_transaction ≡ false }
     ensures commits { CommitsWhole (BecomesDated number from text.now)
         (state S.Store conn.old) (state S.Store conn.new) result }
@@ -177,7 +177,7 @@ fn write_last<S: Alter>(
     text: &str,
 ) -> Result<(), ReadFault>
     requires plain { conn.old.in_transaction ≡ false }
-    requires idle { HasIdleBook (state S.Store conn.old) }
+    requires idle { HasIdleTables (state S.Store conn.old) }
     requires shelf { 1 ≤ length shelf.old.later }
     requires own { 1 ≤ length own.old.later }
     ensures plain { conn.new.in_transaction ≡ false }
@@ -211,7 +211,7 @@ fn add_to_all<S: Alter>(
     books: TwoBooks,
 ) -> Result<Result<(), ShelfFault>, ReadFault>
     requires plain { conn.old.in_transaction ≡ false }
-    requires idle { HasIdleBook (state S.Store conn.old) }
+    requires idle { HasIdleTables (state S.Store conn.old) }
     requires last { HasCleanDisk (state S.Store conn.old) →
         IsTrue (state S.Store conn.old).is_open → last ≡ last_at (state S.Store conn.old) }
     requires same { books.given ≡ books.own }

@@ -4,7 +4,7 @@ ghost use Rattle.std.specs.Prelude.{◌≡◌, is_some};
 ghost use Rattle.sql_keeper.specs.Asks.{Asks};
 ghost use Rattle.sql_keeper.specs.Seen.{IsKnown};
 ghost use Rattle.sql_rows.specs.Content.{rows_in};
-ghost use Rattle.sql_tables.specs.Statements.{HasIdleBook, Reads};
+ghost use Rattle.sql_tables.specs.Statements.{HasIdleTables, Reads};
 ghost use Rattle.sqlite.specs.Held.{state};
 ghost use Rattle.sql_keeper.specs.Calls.{AsksTables};
 
@@ -22,7 +22,7 @@ use units::Moment;
 
 /// The last moment, which the keeper knows, if the connection can still be asked.
 fn ask_for_last<S: Alter>(conn: &mut Connection<S>, last: Moment) -> Result<Moment, ReadFault>
-    requires idle { HasIdleBook (state S.Store conn.old) }
+    requires idle { HasIdleTables (state S.Store conn.old) }
     ensures { Asks (λ _ t. t ≡ last) (state S.Store conn.old) (state S.Store conn.new) result }
 {
     still_open(conn)?;
@@ -30,7 +30,7 @@ fn ask_for_last<S: Alter>(conn: &mut Connection<S>, last: Moment) -> Result<Mome
 }
 
 fn is_opened<S: Alter>(conn: &mut Connection<S>, account: &AccountNumber) -> Result<bool, ReadFault>
-    requires idle { HasIdleBook (state S.Store conn.old) }
+    requires idle { HasIdleTables (state S.Store conn.old) }
     ensures { Reads (λ trees there. there ≡ is_some (rows_in trees account.now).head)
         (state S.Store conn.old) (state S.Store conn.new) result }
 {
@@ -42,7 +42,7 @@ fn ask_for_account<S: Alter>(
     conn: &mut Connection<S>,
     account: &AccountNumber,
 ) -> Result<bool, ReadFault>
-    requires idle { HasIdleBook (state S.Store conn.old) }
+    requires idle { HasIdleTables (state S.Store conn.old) }
     ensures { Asks (λ trees there. there ≡ is_some (rows_in trees account.now).head)
         (state S.Store conn.old) (state S.Store conn.new) result }
 {
@@ -56,7 +56,7 @@ fn is_known<S: Alter>(
     account: &AccountNumber,
     session: &SessionId,
 ) -> Result<bool, ReadFault>
-    requires idle { HasIdleBook (state S.Store conn.old) }
+    requires idle { HasIdleTables (state S.Store conn.old) }
     ensures { Reads (λ trees known. IsKnown (rows_in trees account.now) session.now known)
         (state S.Store conn.old) (state S.Store conn.new) result }
 {
@@ -70,7 +70,7 @@ fn ask_for_session<S: Alter>(
     account: &AccountNumber,
     session: &SessionId,
 ) -> Result<bool, ReadFault>
-    requires idle { HasIdleBook (state S.Store conn.old) }
+    requires idle { HasIdleTables (state S.Store conn.old) }
     ensures { Asks (λ trees known. IsKnown (rows_in trees account.now) session.now known)
         (state S.Store conn.old) (state S.Store conn.new) result }
 {

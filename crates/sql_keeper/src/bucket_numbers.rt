@@ -6,7 +6,7 @@ ghost use Rattle.sql_keeper.specs.LiveGroups.{Gathers};
 ghost use Rattle.sql_keeper.specs.Numbers.{AreFree, IsFree, first_bucket};
 ghost use Rattle.sql_keeper.specs.Seen.{AreSeen};
 ghost use Rattle.sql_rows.specs.Content.{rows_in};
-ghost use Rattle.sql_tables.specs.Statements.{HasIdleBook};
+ghost use Rattle.sql_tables.specs.Statements.{HasIdleTables};
 ghost use Rattle.sqlite.specs.Held.{state};
 
 use crate::seen::SeenAccount;
@@ -35,7 +35,7 @@ fn test_bucket<S: Alter>(
     first: u64,
     bucket: &Bucket,
 ) -> Result<(), ReadFault>
-    requires idle { HasIdleBook (state S.Store conn.old) }
+    requires idle { HasIdleTables (state S.Store conn.old) }
     ensures { Gathers (λ trees done. IsFree first (rows_in trees account.now) bucket.now)
         (state S.Store conn.old) (state S.Store conn.new) result }
 {
@@ -57,7 +57,7 @@ fn test_buckets<S: Alter>(
     first: u64,
     rows: &[Bucket],
 ) -> Result<(), ReadFault>
-    requires idle { HasIdleBook (state S.Store conn.old) }
+    requires idle { HasIdleTables (state S.Store conn.old) }
     ensures { Gathers (λ trees done. AreFree first (rows_in trees account.now) rows.now)
         (state S.Store conn.old) (state S.Store conn.new) result }
 {
@@ -79,7 +79,7 @@ pub(crate) fn test_bucket_numbers<S: Alter>(
     account: &AccountNumber,
     rows: &[Bucket],
 ) -> Result<(), ReadFault>
-    requires idle { HasIdleBook (state S.Store conn.old) }
+    requires idle { HasIdleTables (state S.Store conn.old) }
     requires seen { AreSeen seen.now (state S.Store conn.old) }
     ensures { Gathers (λ trees done.
         AreFree (first_bucket (rows_in trees account.now).head) (rows_in trees account.now) rows.now)

@@ -8,7 +8,7 @@ ghost use Rattle.sql_keeper.specs.Content.{charge_of};
 ghost use Rattle.sql_keeper.specs.LiveGroups.{Gathers};
 ghost use Rattle.sql_rows.specs.Content.{rows_in};
 ghost use Rattle.sql_rows.specs.Lists.{NumbersRise, is_row_within};
-ghost use Rattle.sql_tables.specs.Statements.{HasIdleBook, Reads};
+ghost use Rattle.sql_tables.specs.Statements.{HasIdleTables, Reads};
 ghost use Rattle.sqlite.specs.Held.{state};
 
 use crate::faults::counted;
@@ -53,7 +53,7 @@ fn read_last_number<S: Alter>(
     conn: &mut Connection<S>,
     account: &AccountNumber,
 ) -> Result<u32, ReadFault>
-    requires idle { HasIdleBook (state S.Store conn.old) }
+    requires idle { HasIdleTables (state S.Store conn.old) }
     ensures { Reads (λ trees n. n ≡ last_number (rows_in trees account.now).head)
         (state S.Store conn.old) (state S.Store conn.new) result }
 {
@@ -70,7 +70,7 @@ fn read_told_within<S: Alter>(
     after: u32,
     last: u32,
 ) -> Result<Vec<ChargeRow>, ReadFault>
-    requires idle { HasIdleBook (state S.Store conn.old) }
+    requires idle { HasIdleTables (state S.Store conn.old) }
     ensures reads { Gathers (λ trees rows.
         AreTold (is_row_within after last) (rows_in trees account.now) rows.items)
         (state S.Store conn.old) (state S.Store conn.new) result }
@@ -89,7 +89,7 @@ fn read_page<S: Alter>(
     account: &AccountNumber,
     after: u32,
 ) -> Result<ChargePage, ReadFault>
-    requires idle { HasIdleBook (state S.Store conn.old) }
+    requires idle { HasIdleTables (state S.Store conn.old) }
     ensures { Gathers (λ trees page.
         IsPage (λ n. charge_of n (rows_in trees account.now)) after page)
         (state S.Store conn.old) (state S.Store conn.new) result }
@@ -112,7 +112,7 @@ fn ask_for_page<S: Alter>(
     account: &AccountNumber,
     after: u32,
 ) -> Result<ChargePage, ReadFault>
-    requires idle { HasIdleBook (state S.Store conn.old) }
+    requires idle { HasIdleTables (state S.Store conn.old) }
     ensures { Asks (λ trees page.
         IsPage (λ n. charge_of n (rows_in trees account.now)) after page)
         (state S.Store conn.old) (state S.Store conn.new) result }

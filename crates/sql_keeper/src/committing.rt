@@ -3,7 +3,7 @@
 ghost use Rattle.std.specs.Prelude.{◌≡◌, false, true, option_map};
 ghost use Rattle.sql_rows.specs.Content.{rows_in, tables_content};
 ghost use Rattle.sql_rows.specs.Texts.{kept_of};
-ghost use Rattle.sql_tables.specs.Statements.{HasIdleBook};
+ghost use Rattle.sql_tables.specs.Statements.{HasIdleTables};
 ghost use Rattle.sql_keeper.specs.Content.{shelf_names};
 ghost use Rattle.sql_keeper.specs.Commits.{Becomes, CommitsStanding, CommitsWhole, Transacts};
 ghost use Rattle.sql_keeper.specs.Inside.{names_in};
@@ -40,7 +40,7 @@ fn write_change<S: Alter>(
     texts: &Option<KeptTexts>,
 ) -> Result<(), Error>
     requires plain { conn.old.in_transaction ≡ false }
-    requires idle { HasIdleBook (state S.Store conn.old) }
+    requires idle { HasIdleTables (state S.Store conn.old) }
     ensures plain { conn.new.in_transaction ≡ false }
     ensures transacts { Transacts
         (with_change_put (shelf_names books.now) known.now change.now
@@ -73,7 +73,7 @@ fn make_change<S: Alter>(
     change: &Change,
 ) -> Result<(), ReadFault>
     requires plain { conn.old.in_transaction ≡ false }
-    requires idle { HasIdleBook (state S.Store conn.old) }
+    requires idle { HasIdleTables (state S.Store conn.old) }
     requires seen { AreSeen seen.now (state S.Store conn.old) }
     requires kept { AreKept (shelf_names books.now) kept.now (state S.Store conn.old) }
     requires is_there { is_later ≡ true →
@@ -115,7 +115,7 @@ fn ask_to_change<S: Alter>(
     change: &Change,
 ) -> Result<(), ReadFault>
     requires plain { conn.old.in_transaction ≡ false }
-    requires idle { HasIdleBook (state S.Store conn.old) }
+    requires idle { HasIdleTables (state S.Store conn.old) }
     requires seen { AreSeen seen.now (state S.Store conn.old) }
     requires kept { AreKept (shelf_names books.now) kept.now (state S.Store conn.old) }
     requires is_there { is_later ≡ true →

@@ -3,7 +3,7 @@
 ghost use Rattle.std.specs.Prelude.{◌≡◌, map, IfOk};
 ghost use Rattle.sql_rows.specs.Content.{with_rows};
 ghost use Rattle.sql_rows.specs.Makes.{Makes, MakesIfOpen};
-ghost use Rattle.sql_tables.specs.Statements.{Attempts, HasBook, IsInside};
+ghost use Rattle.sql_tables.specs.Statements.{Attempts, HasTables, IsInside};
 ghost use Rattle.sql_keeper.specs.Kinds.{counted_live};
 ghost use Rattle.sql_keeper.specs.Writes.{with_all_counted, with_all_counted_over, with_counted};
 ghost use Rattle.sql_keeper.specs.Writes.{with_counted_over, with_kind, with_scoped};
@@ -25,7 +25,7 @@ fn put_kind<S: Alter>(
     account: &AccountNumber,
     bucket: &Bucket,
 ) -> Result<(), Error>
-    requires book { HasBook (state S.Store tx.old.conn.now) }
+    requires tables { HasTables (state S.Store tx.old.conn.now) }
     ensures same_reference { tx.new.conn.ghost_name ≡ tx.old.conn.ghost_name }
     ensures makes { Attempts
         (Makes (with_rows account.now (with_kind bucket.now.kind bucket.now.number)))
@@ -44,7 +44,7 @@ fn put_scoped<S: Alter>(
     bucket: &Bucket,
 ) -> Result<(), Error>
     requires open { IsInside (state S.Store tx.old.conn.now) }
-    requires book { HasBook (state S.Store tx.old.conn.now) }
+    requires tables { HasTables (state S.Store tx.old.conn.now) }
     ensures same_reference { tx.new.conn.ghost_name ≡ tx.old.conn.ghost_name }
     ensures makes { Attempts (MakesIfOpen
         (with_scoped account.now bucket.now.scope bucket.now.kind bucket.now.number))
@@ -62,7 +62,7 @@ fn put_with_kind<S: Alter>(
     account: &AccountNumber,
     bucket: &Bucket,
 ) -> Result<(), Error>
-    requires book { HasBook (state S.Store tx.old.conn.now) }
+    requires tables { HasTables (state S.Store tx.old.conn.now) }
     ensures same_reference { tx.new.conn.ghost_name ≡ tx.old.conn.ghost_name }
     ensures makes { Attempts (Makes (with_counted account.now bucket.now))
         (state S.Store tx.old.conn.now) (state S.Store tx.new.conn.now) result }
@@ -81,7 +81,7 @@ pub(crate) fn put_counted<S: Alter>(
     rows: &[Bucket],
 ) -> Result<(), Error>
     requires open { IsInside (state S.Store tx.old.conn.now) }
-    requires book { HasBook (state S.Store tx.old.conn.now) }
+    requires tables { HasTables (state S.Store tx.old.conn.now) }
     ensures same_reference { tx.new.conn.ghost_name ≡ tx.old.conn.ghost_name }
     ensures makes { Attempts (MakesIfOpen (with_all_counted account.now rows.now))
         (state S.Store tx.old.conn.now) (state S.Store tx.new.conn.now) result }
@@ -99,7 +99,7 @@ fn put_counted_row<S: Alter>(
     kept: &Option<KeptRows>,
     bucket: &Bucket,
 ) -> Result<(), Error>
-    requires book { HasBook (state S.Store tx.old.conn.now) }
+    requires tables { HasTables (state S.Store tx.old.conn.now) }
     ensures same_reference { tx.new.conn.ghost_name ≡ tx.old.conn.ghost_name }
     ensures makes { Attempts (Makes (with_counted_over account.now kept.now bucket.now))
         (state S.Store tx.old.conn.now) (state S.Store tx.new.conn.now) result }
@@ -124,7 +124,7 @@ pub(crate) fn put_counted_over<S: Alter>(
     rows: &[Bucket],
 ) -> Result<(), Error>
     requires open { IsInside (state S.Store tx.old.conn.now) }
-    requires book { HasBook (state S.Store tx.old.conn.now) }
+    requires tables { HasTables (state S.Store tx.old.conn.now) }
     ensures same_reference { tx.new.conn.ghost_name ≡ tx.old.conn.ghost_name }
     ensures makes { Attempts
         (MakesIfOpen (with_all_counted_over account.now kept.now rows.now))

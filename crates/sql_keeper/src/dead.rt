@@ -6,7 +6,7 @@ ghost use Rattle.sql_keeper.specs.Dead.{AreDead};
 ghost use Rattle.sql_keeper.specs.Content.{told_buckets};
 ghost use Rattle.sql_keeper.specs.LiveGroups.{Gathers};
 ghost use Rattle.sql_rows.specs.Content.{rows_in};
-ghost use Rattle.sql_tables.specs.Statements.{HasIdleBook};
+ghost use Rattle.sql_tables.specs.Statements.{HasIdleTables};
 ghost use Rattle.sqlite.specs.Held.{state};
 ghost use Rattle.sql_keeper.specs.Calls.{AsksTables};
 
@@ -27,7 +27,7 @@ fn dead_of<S: Alter>(
     alloc: Global,
     account: &AccountNumber,
 ) -> Result<Vec<Bucket>, ReadFault>
-    requires idle { HasIdleBook (state S.Store conn.old) }
+    requires idle { HasIdleTables (state S.Store conn.old) }
     ensures { Gathers
         (λ trees found. AreDead (told_buckets (rows_in trees account.now)) found.items)
         (state S.Store conn.old) (state S.Store conn.new) result }
@@ -42,7 +42,7 @@ fn ask_for_dead<S: Alter>(
     alloc: Global,
     account: &AccountNumber,
 ) -> Result<Vec<Bucket>, ReadFault>
-    requires idle { HasIdleBook (state S.Store conn.old) }
+    requires idle { HasIdleTables (state S.Store conn.old) }
     ensures { Asks
         (λ trees found. AreDead (told_buckets (rows_in trees account.now)) found.items)
         (state S.Store conn.old) (state S.Store conn.new) result }

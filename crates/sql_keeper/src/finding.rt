@@ -8,7 +8,7 @@ ghost use Rattle.sql_keeper.specs.Asks.{Asks, text_fault};
 ghost use Rattle.sql_keeper.specs.Content.{answer_in, kept_in, texts_of_key};
 ghost use Rattle.sql_rows.specs.Content.{rows_in};
 ghost use Rattle.sql_rows.specs.Texts.{kept_of};
-ghost use Rattle.sql_tables.specs.Statements.{HasIdleBook, Reads};
+ghost use Rattle.sql_tables.specs.Statements.{HasIdleTables, Reads};
 ghost use Rattle.sqlite.specs.Held.{state};
 ghost use Rattle.sql_keeper.specs.Calls.{AsksTables};
 
@@ -74,7 +74,7 @@ fn texts_under<S: Alter>(
     account: &AccountNumber,
     key: &Key,
 ) -> Result<Option<KeptTexts>, ReadFault>
-    requires idle { HasIdleBook (state S.Store conn.old) }
+    requires idle { HasIdleTables (state S.Store conn.old) }
     ensures { Reads (λ trees o. option_map kept_of o ≡
         texts_of_key key.now (rows_in trees account.now))
         (state S.Store conn.old) (state S.Store conn.new) result }
@@ -108,7 +108,7 @@ fn answer_under<S: Alter>(
     account: &AccountNumber,
     key: &Key,
 ) -> Result<Option<KeptAnswer>, ReadFault>
-    requires idle { HasIdleBook (state S.Store conn.old) }
+    requires idle { HasIdleTables (state S.Store conn.old) }
     ensures { Reads (λ trees found. found ≡
         answer_in account.now key.now (rows_in trees account.now))
         (state S.Store conn.old) (state S.Store conn.new) result }
@@ -123,7 +123,7 @@ fn ask_for_answer<S: Alter>(
     account: &AccountNumber,
     key: &Key,
 ) -> Result<Option<KeptAnswer>, ReadFault>
-    requires idle { HasIdleBook (state S.Store conn.old) }
+    requires idle { HasIdleTables (state S.Store conn.old) }
     ensures { Asks (λ trees found. found ≡
         answer_in account.now key.now (rows_in trees account.now))
         (state S.Store conn.old) (state S.Store conn.new) result }

@@ -4,7 +4,7 @@ ghost use Rattle.std.specs.Prelude.{◌≡◌, IfOk, option_map};
 ghost use Rattle.sql_keeper.specs.Asks.{Asks};
 ghost use Rattle.sql_keeper.specs.Content.{voucher_in};
 ghost use Rattle.sql_rows.specs.Content.{tables_content};
-ghost use Rattle.sql_tables.specs.Statements.{HasIdleBook, Reads};
+ghost use Rattle.sql_tables.specs.Statements.{HasIdleTables, Reads};
 ghost use Rattle.sqlite.specs.Held.{state};
 ghost use Rattle.sql_keeper.specs.Calls.{AsksTables};
 
@@ -60,7 +60,7 @@ fn voucher_under<S: Alter>(
     alloc: Global,
     code: &VoucherCode,
 ) -> Result<Option<Voucher>, ReadFault>
-    requires idle { HasIdleBook (state S.Store conn.old) }
+    requires idle { HasIdleTables (state S.Store conn.old) }
     ensures { Reads (λ trees found. found ≡
         option_map voucher_in ((tables_content trees).vouchers code.now))
         (state S.Store conn.old) (state S.Store conn.new) result }
@@ -74,7 +74,7 @@ fn ask_for_voucher<S: Alter>(
     alloc: Global,
     code: &VoucherCode,
 ) -> Result<Option<Voucher>, ReadFault>
-    requires idle { HasIdleBook (state S.Store conn.old) }
+    requires idle { HasIdleTables (state S.Store conn.old) }
     ensures { Asks (λ trees found. found ≡
         option_map voucher_in ((tables_content trees).vouchers code.now))
         (state S.Store conn.old) (state S.Store conn.new) result }

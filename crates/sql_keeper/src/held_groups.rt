@@ -2,7 +2,7 @@
 
 ghost use Rattle.std.specs.Prelude.{◌≡◌, option_map};
 ghost use Rattle.reserving.specs.Sessions.{holds_in};
-ghost use Rattle.sql_tables.specs.Statements.{Attempts, HasBook, IsInside};
+ghost use Rattle.sql_tables.specs.Statements.{Attempts, HasTables, IsInside};
 ghost use Rattle.sql_rows.specs.Content.{with_group_row, with_rows};
 ghost use Rattle.sql_rows.specs.Each.{with_holds};
 ghost use Rattle.sql_rows.specs.Makes.{Makes, MakesIfOpen};
@@ -70,7 +70,7 @@ fn put_columns<S: Alter>(
     books: &TariffShelf,
     row: &SessionGroup,
 ) -> Result<(), Error>
-    requires book { HasBook (state S.Store tx.old.conn.now) }
+    requires tables { HasTables (state S.Store tx.old.conn.now) }
     ensures same_reference { tx.new.conn.ghost_name ≡ tx.old.conn.ghost_name }
     ensures makes { Attempts (Makes (with_rows account.now
         (with_group_row row.now.session row.now.group (columns_of (shelf_names books.now)
@@ -88,7 +88,7 @@ fn put_number<S: Alter>(
     account: &AccountNumber,
     row: &SessionGroup,
 ) -> Result<(), Error>
-    requires book { HasBook (state S.Store tx.old.conn.now) }
+    requires tables { HasTables (state S.Store tx.old.conn.now) }
     ensures same_reference { tx.new.conn.ghost_name ≡ tx.old.conn.ghost_name }
     ensures makes { Attempts (Makes (with_rows account.now
         (with_book_of row.now.session row.now.group row.now.reservation)))
@@ -110,7 +110,7 @@ fn put_held<S: Alter>(
     row: &SessionGroup,
 ) -> Result<(), Error>
     requires open { IsInside (state S.Store tx.old.conn.now) }
-    requires book { HasBook (state S.Store tx.old.conn.now) }
+    requires tables { HasTables (state S.Store tx.old.conn.now) }
     ensures same_reference { tx.new.conn.ghost_name ≡ tx.old.conn.ghost_name }
     ensures makes { Attempts (MakesIfOpen
         (with_holds account.now row.now.session row.now.group (holds_in row.now.reservation)))
@@ -133,7 +133,7 @@ fn put_held_group<S: Alter>(
     books: &TariffShelf,
     row: &SessionGroup,
 ) -> Result<(), Error>
-    requires book { HasBook (state S.Store tx.old.conn.now) }
+    requires tables { HasTables (state S.Store tx.old.conn.now) }
     ensures same_reference { tx.new.conn.ghost_name ≡ tx.old.conn.ghost_name }
     ensures makes { Attempts (Makes (with_held_group account.now (shelf_names books.now) row.now))
         (state S.Store tx.old.conn.now) (state S.Store tx.new.conn.now) result }
@@ -152,7 +152,7 @@ pub(crate) fn put_groups<S: Alter>(
     rows: &[SessionGroup],
 ) -> Result<(), Error>
     requires open { IsInside (state S.Store tx.old.conn.now) }
-    requires book { HasBook (state S.Store tx.old.conn.now) }
+    requires tables { HasTables (state S.Store tx.old.conn.now) }
     ensures same_reference { tx.new.conn.ghost_name ≡ tx.old.conn.ghost_name }
     ensures makes { Attempts
         (MakesIfOpen (with_groups account.now (shelf_names books.now) rows.now))
@@ -171,7 +171,7 @@ fn put_new_number<S: Alter>(
     row: &SessionGroup,
 ) -> Result<(), Error>
     requires open { IsInside (state S.Store tx.old.conn.now) }
-    requires book { HasBook (state S.Store tx.old.conn.now) }
+    requires tables { HasTables (state S.Store tx.old.conn.now) }
     ensures same_reference { tx.new.conn.ghost_name ≡ tx.old.conn.ghost_name }
     ensures makes { Attempts (MakesIfOpen
         (with_new_book account.now row.now.session row.now.group row.now.reservation))
@@ -193,7 +193,7 @@ fn add_columns<S: Alter>(
     books: &TariffShelf,
     row: &SessionGroup,
 ) -> Result<(), Error>
-    requires book { HasBook (state S.Store tx.old.conn.now) }
+    requires tables { HasTables (state S.Store tx.old.conn.now) }
     ensures same_reference { tx.new.conn.ghost_name ≡ tx.old.conn.ghost_name }
     ensures makes { Attempts (Makes (with_rows account.now
         (with_group_row row.now.session row.now.group (columns_of (shelf_names books.now)
@@ -212,7 +212,7 @@ fn put_new_group<S: Alter>(
     books: &TariffShelf,
     row: &SessionGroup,
 ) -> Result<(), Error>
-    requires book { HasBook (state S.Store tx.old.conn.now) }
+    requires tables { HasTables (state S.Store tx.old.conn.now) }
     ensures same_reference { tx.new.conn.ghost_name ≡ tx.old.conn.ghost_name }
     ensures makes { Attempts (Makes (with_new_group account.now (shelf_names books.now) row.now))
         (state S.Store tx.old.conn.now) (state S.Store tx.new.conn.now) result }
@@ -230,7 +230,7 @@ fn put_new_groups<S: Alter>(
     rows: &[SessionGroup],
 ) -> Result<(), Error>
     requires open { IsInside (state S.Store tx.old.conn.now) }
-    requires book { HasBook (state S.Store tx.old.conn.now) }
+    requires tables { HasTables (state S.Store tx.old.conn.now) }
     ensures same_reference { tx.new.conn.ghost_name ≡ tx.old.conn.ghost_name }
     ensures makes { Attempts
         (MakesIfOpen (with_new_groups account.now (shelf_names books.now) rows.now))
@@ -250,7 +250,7 @@ fn put_kept_group<S: Alter>(
     books: &TariffShelf,
     row: &SessionGroup,
 ) -> Result<(), Error>
-    requires book { HasBook (state S.Store tx.old.conn.now) }
+    requires tables { HasTables (state S.Store tx.old.conn.now) }
     ensures same_reference { tx.new.conn.ghost_name ≡ tx.old.conn.ghost_name }
     ensures makes { Attempts (Makes (with_kept_group account.now (shelf_names books.now) row.now))
         (state S.Store tx.old.conn.now) (state S.Store tx.new.conn.now) result }
@@ -268,7 +268,7 @@ fn put_group_over<S: Alter>(
     seen: &Option<SeenAccount>,
     row: &SessionGroup,
 ) -> Result<(), Error>
-    requires book { HasBook (state S.Store tx.old.conn.now) }
+    requires tables { HasTables (state S.Store tx.old.conn.now) }
     ensures same_reference { tx.new.conn.ghost_name ≡ tx.old.conn.ghost_name }
     ensures makes { Attempts
         (Makes (with_group_over account.now (shelf_names books.now) seen.now row.now))
@@ -290,7 +290,7 @@ fn put_groups_over<S: Alter>(
     rows: &[SessionGroup],
 ) -> Result<(), Error>
     requires open { IsInside (state S.Store tx.old.conn.now) }
-    requires book { HasBook (state S.Store tx.old.conn.now) }
+    requires tables { HasTables (state S.Store tx.old.conn.now) }
     ensures same_reference { tx.new.conn.ghost_name ≡ tx.old.conn.ghost_name }
     ensures makes { Attempts
         (MakesIfOpen (with_groups_over account.now (shelf_names books.now) seen.now rows.now))
@@ -313,7 +313,7 @@ pub(crate) fn put_groups_of<S: Alter>(
     rows: &[SessionGroup],
 ) -> Result<(), Error>
     requires open { IsInside (state S.Store tx.old.conn.now) }
-    requires book { HasBook (state S.Store tx.old.conn.now) }
+    requires tables { HasTables (state S.Store tx.old.conn.now) }
     ensures same_reference { tx.new.conn.ghost_name ≡ tx.old.conn.ghost_name }
     ensures makes { Attempts
         (MakesIfOpen

@@ -4,7 +4,7 @@ ghost use Rattle.std.specs.Prelude.{◌≡◌, ◌==◌, length};
 ghost use Rattle.sql_keeper.specs.Content.{shelf_names};
 ghost use Rattle.sql_keeper.specs.LiveGroups.{AreLiveGroups, AreOpenSessions, Gathers};
 ghost use Rattle.sql_rows.specs.Content.{rows_in};
-ghost use Rattle.sql_tables.specs.Statements.{HasIdleBook};
+ghost use Rattle.sql_tables.specs.Statements.{HasIdleTables};
 ghost use Rattle.sqlite.specs.Held.{state};
 
 use crate::rebuilding_groups::groups_of;
@@ -35,7 +35,7 @@ fn read_live_groups<S: Alter>(
     books: &TariffShelf,
     purse: &Purse,
 ) -> Result<Vec<SessionGroup>, ReadFault>
-    requires idle { HasIdleBook (state S.Store conn.old) }
+    requires idle { HasIdleTables (state S.Store conn.old) }
     ensures { Gathers
         (λ trees xs. AreLiveGroups (shelf_names books.now) (rows_in trees account.now) xs.items)
         (state S.Store conn.old) (state S.Store conn.new) result }
@@ -66,7 +66,7 @@ pub(crate) fn read_open_sessions<S: Alter>(
     books: &TariffShelf,
     purse: &Purse,
 ) -> Result<OpenSessions, ReadFault>
-    requires idle { HasIdleBook (state S.Store conn.old) }
+    requires idle { HasIdleTables (state S.Store conn.old) }
     ensures { Gathers (λ trees x. AreOpenSessions (shelf_names books.now)
         (rows_in trees account.now) x.sessions.items x.groups.items)
         (state S.Store conn.old) (state S.Store conn.new) result }

@@ -11,7 +11,7 @@ ghost use Rattle.sql_keeper.specs.LiveRows.{account_with, AreLiveBuckets};
 ghost use Rattle.sql_keeper.specs.LiveRows.{AreLiveRows, IsReadAccount, IsLiveAccount};
 ghost use Rattle.reserving.specs.Restored.{in_key_order, FindsSame};
 ghost use Rattle.sql_rows.specs.Content.{TableRows, rows_in};
-ghost use Rattle.sql_tables.specs.Statements.{HasIdleBook};
+ghost use Rattle.sql_tables.specs.Statements.{HasIdleTables};
 ghost use Rattle.sqlite.specs.Held.{state};
 ghost use Rattle.shelves.specs.Shelves.{Shelf};
 
@@ -77,7 +77,7 @@ fn read_purse<S: Alter>(
     alloc: Global,
     account: &AccountNumber,
 ) -> Result<Purse, ReadFault>
-    requires idle { HasIdleBook (state S.Store conn.old) }
+    requires idle { HasIdleTables (state S.Store conn.old) }
     ensures { Gathers (λ trees purse. AreLiveBuckets (rows_in trees account.now) purse)
         (state S.Store conn.old) (state S.Store conn.new) result }
 {
@@ -168,7 +168,7 @@ fn read_cycles<S: Alter>(
     book: &TariffBook,
     moment: Moment,
 ) -> Result<FirstRows, ReadFault>
-    requires idle { HasIdleBook (state S.Store conn.old) }
+    requires idle { HasIdleTables (state S.Store conn.old) }
     ensures { Gathers
         (λ trees x. IsFirst book.now moment (rows_in trees account.now) x.head x.counters.items)
         (state S.Store conn.old) (state S.Store conn.new) result }
@@ -191,7 +191,7 @@ fn read_never<S: Alter>(
     book: &TariffBook,
     moment: Moment,
 ) -> Result<FirstRows, ReadFault>
-    requires idle { HasIdleBook (state S.Store conn.old) }
+    requires idle { HasIdleTables (state S.Store conn.old) }
     requires none { has_cycles book.now ≡ false }
     ensures { Gathers
         (λ trees x. IsFirst book.now moment (rows_in trees account.now) x.head x.counters.items)
@@ -214,7 +214,7 @@ fn read_first<S: Alter>(
     book: &TariffBook,
     moment: Moment,
 ) -> Result<FirstRows, ReadFault>
-    requires idle { HasIdleBook (state S.Store conn.old) }
+    requires idle { HasIdleTables (state S.Store conn.old) }
     ensures { Gathers
         (λ trees x. IsFirst book.now moment (rows_in trees account.now) x.head x.counters.items)
         (state S.Store conn.old) (state S.Store conn.new) result }
@@ -234,7 +234,7 @@ fn read_live_rows<S: Alter>(
     account: &AccountNumber,
     names: &TariffShelf,
 ) -> Result<LiveRows, ReadFault>
-    requires idle { HasIdleBook (state S.Store conn.old) }
+    requires idle { HasIdleTables (state S.Store conn.old) }
     ensures { Gathers (λ trees x. AreLiveRows (shelf_names names.now) (rows_in trees account.now)
         x.purse x.sessions.items x.groups.items)
         (state S.Store conn.old) (state S.Store conn.new) result }
@@ -259,7 +259,7 @@ fn live_rows_of<S: Alter>(
     names: &TariffShelf,
     kept: &Option<KeptRows>,
 ) -> Result<LiveRows, ReadFault>
-    requires idle { HasIdleBook (state S.Store conn.old) }
+    requires idle { HasIdleTables (state S.Store conn.old) }
     requires kept { AreKept (shelf_names names.now) kept.now (state S.Store conn.old) }
     ensures { Gathers (λ trees. AreOf (shelf_names names.now) (rows_in trees account.now))
         (state S.Store conn.old) (state S.Store conn.new) result }
@@ -280,7 +280,7 @@ fn read_rows_at<S: Alter>(
     shelf: &TariffShelf,
     moment: Moment,
 ) -> Result<Option<ReadRows>, ReadFault>
-    requires idle { HasIdleBook (state S.Store conn.old) }
+    requires idle { HasIdleTables (state S.Store conn.old) }
     requires kept { AreKept (shelf_names names.now) kept.now (state S.Store conn.old) }
     ensures { Gathers (λ trees o. IsReadAccount (shelf_names names.now) shelf.now moment
         (rows_in trees account.now) o)
@@ -359,7 +359,7 @@ pub(crate) fn read_live_account<S: Alter>(
     shelf: &TariffShelf,
     moment: Moment,
 ) -> Result<Option<StoredAccount>, ReadFault>
-    requires idle { HasIdleBook (state S.Store conn.old) }
+    requires idle { HasIdleTables (state S.Store conn.old) }
     requires kept { AreKept (shelf_names names.now) kept.now (state S.Store conn.old) }
     ensures { Gathers (λ trees o. IsLiveAccount (shelf_names names.now) shelf.now moment
         (rows_in trees account.now) o)

@@ -6,7 +6,7 @@ ghost use Rattle.sql_keeper.specs.LiveGroups.{AreLiveGroups, AreOpenSessions};
 ghost use Rattle.sql_keeper.specs.LiveRows.{AreLiveBuckets, AreLiveRows, IsLiveUncounted};
 ghost use Rattle.sql_keeper.specs.LiveRows.{IsReadUncounted};
 ghost use Rattle.sql_rows.specs.Content.{rows_in};
-ghost use Rattle.sql_tables.specs.Statements.{HasBook, HasRules, ReadsWithin};
+ghost use Rattle.sql_tables.specs.Statements.{HasTables, HasRules, ReadsWithin};
 ghost use Rattle.sqlite.specs.Held.{state};
 
 use crate::live_groups::{OpenSessions, is_none};
@@ -29,7 +29,7 @@ fn read_purse_within<S: Alter>(
     alloc: Global,
     account: &AccountNumber,
 ) -> Result<Purse, ReadFault>
-    requires book { HasBook (state S.Store tx.old.conn.now) }
+    requires tables { HasTables (state S.Store tx.old.conn.now) }
     requires rules { HasRules (state S.Store tx.old.conn.now) }
     ensures same_reference { tx.new.conn.ghost_name ≡ tx.old.conn.ghost_name }
     ensures reads { ReadsWithin (λ trees purse. AreLiveBuckets (rows_in trees account.now) purse)
@@ -48,7 +48,7 @@ fn read_groups_within<S: Alter>(
     books: &TariffShelf,
     purse: &Purse,
 ) -> Result<Vec<SessionGroup>, ReadFault>
-    requires book { HasBook (state S.Store tx.old.conn.now) }
+    requires tables { HasTables (state S.Store tx.old.conn.now) }
     requires rules { HasRules (state S.Store tx.old.conn.now) }
     ensures same_reference { tx.new.conn.ghost_name ≡ tx.old.conn.ghost_name }
     ensures reads { ReadsWithin
@@ -68,7 +68,7 @@ fn read_sessions_within<S: Alter>(
     books: &TariffShelf,
     purse: &Purse,
 ) -> Result<OpenSessions, ReadFault>
-    requires book { HasBook (state S.Store tx.old.conn.now) }
+    requires tables { HasTables (state S.Store tx.old.conn.now) }
     requires rules { HasRules (state S.Store tx.old.conn.now) }
     ensures same_reference { tx.new.conn.ghost_name ≡ tx.old.conn.ghost_name }
     ensures reads { ReadsWithin (λ trees x. AreOpenSessions (shelf_names books.now)
@@ -93,7 +93,7 @@ fn read_live_within<S: Alter>(
     account: &AccountNumber,
     names: &TariffShelf,
 ) -> Result<LiveRows, ReadFault>
-    requires book { HasBook (state S.Store tx.old.conn.now) }
+    requires tables { HasTables (state S.Store tx.old.conn.now) }
     requires rules { HasRules (state S.Store tx.old.conn.now) }
     ensures same_reference { tx.new.conn.ghost_name ≡ tx.old.conn.ghost_name }
     ensures reads { ReadsWithin (λ trees x. AreLiveRows (shelf_names names.now)
@@ -119,7 +119,7 @@ fn read_rows_within<S: Alter>(
     account: &AccountNumber,
     names: &TariffShelf,
 ) -> Result<Option<ReadRows>, ReadFault>
-    requires book { HasBook (state S.Store tx.old.conn.now) }
+    requires tables { HasTables (state S.Store tx.old.conn.now) }
     requires rules { HasRules (state S.Store tx.old.conn.now) }
     ensures same_reference { tx.new.conn.ghost_name ≡ tx.old.conn.ghost_name }
     ensures reads { ReadsWithin
@@ -150,7 +150,7 @@ pub(crate) fn read_uncounted_within<S: Alter>(
     account: &AccountNumber,
     names: &TariffShelf,
 ) -> Result<Option<StoredAccount>, ReadFault>
-    requires book { HasBook (state S.Store tx.old.conn.now) }
+    requires tables { HasTables (state S.Store tx.old.conn.now) }
     requires rules { HasRules (state S.Store tx.old.conn.now) }
     ensures same_reference { tx.new.conn.ghost_name ≡ tx.old.conn.ghost_name }
     ensures reads { ReadsWithin

@@ -9,7 +9,7 @@ ghost use Rattle.sql_keeper.specs.KeptRows.{AreKept, Keeps};
 ghost use Rattle.sql_keeper.specs.LiveGroups.{Gathers};
 ghost use Rattle.sql_keeper.specs.LiveRows.{IsAccountOf, IsLoadOf, IsLoadStored};
 ghost use Rattle.sql_rows.specs.Content.{rows_in};
-ghost use Rattle.sql_tables.specs.Statements.{HasIdleBook};
+ghost use Rattle.sql_tables.specs.Statements.{HasIdleTables};
 ghost use Rattle.sqlite.specs.Held.{state};
 ghost use Rattle.sqlite_trees.specs.Tree.{Trees};
 ghost use Rattle.sql_keeper.specs.Calls.{AsksTables};
@@ -93,7 +93,7 @@ fn load_of<'b, S: Alter>(
     account: &AccountNumber,
     moment: Moment,
 ) -> Result<Option<Loaded<'b>>, ReadFault>
-    requires idle { HasIdleBook (state S.Store conn.old) }
+    requires idle { HasIdleTables (state S.Store conn.old) }
     requires kept { AreKept (shelf_names names.now) kept.now (state S.Store conn.old) }
     ensures { Gathers (λ trees found. IsLoadStored (shelf_names names.now) shelf.now moment
         account.now (rows_in trees account.now) found)
@@ -112,7 +112,7 @@ fn ask_with_kept<'b, S: Alter>(
     account: &AccountNumber,
     moment: Moment,
 ) -> Result<Option<Loaded<'b>>, ReadFault>
-    requires idle { HasIdleBook (state S.Store conn.old) }
+    requires idle { HasIdleTables (state S.Store conn.old) }
     requires kept { AreKept (shelf_names names.now) kept.now (state S.Store conn.old) }
     ensures { Asks (λ trees found. IsLoadStored (shelf_names names.now) shelf.now moment
         account.now (rows_in trees account.now) found)
@@ -133,7 +133,7 @@ fn ask_to_load<'b, S: Alter>(
     account: &AccountNumber,
     moment: Moment,
 ) -> Result<Option<Loaded<'b>>, ReadFault>
-    requires idle { HasIdleBook (state S.Store conn.old) }
+    requires idle { HasIdleTables (state S.Store conn.old) }
     requires kept { AreKept (shelf_names names.now) kept.old (state S.Store conn.old) }
     ensures asks { Asks (λ trees found. IsLoadStored (shelf_names names.now) shelf.now moment
         account.now (rows_in trees account.now) found)

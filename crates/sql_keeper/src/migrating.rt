@@ -12,7 +12,7 @@ ghost use Rattle.sql_rows.specs.Ruled.{AreRuledBooks};
 ghost use Rattle.sql_rows.specs.Texts.{book_at, meta_of};
 ghost use Rattle.sql_tables.specs.Schema.{latest};
 ghost use Rattle.sql_tables.specs.Stages.{HasVersion, Migrates};
-ghost use Rattle.sql_tables.specs.Statements.{Attempts, HasBook, HasRules, IsInside, ReadsWithin};
+ghost use Rattle.sql_tables.specs.Statements.{Attempts, HasTables, HasRules, IsInside, ReadsWithin};
 ghost use Rattle.sql_keeper.specs.Finds.{IsMetaFound};
 ghost use Rattle.sql_keeper.specs.Migrates.{AreUnruledReserved, BringsToLatest, FindsAny, HasAt};
 ghost use Rattle.sql_keeper.specs.Migrates.{HasIdleAt, HasRuledRows, IsMigrated, IsNotMigrated};
@@ -38,7 +38,7 @@ use std::alloc::Global;
 /// Puts the first book's number for each of these reservations.
 fn put_numbers<S: Alter>(tx: &mut Transaction<'_, S>, rows: &[ReservedColumns]) -> Result<(), Error>
     requires open { IsInside (state S.Store tx.old.conn.now) }
-    requires book { HasBook (state S.Store tx.old.conn.now) }
+    requires tables { HasTables (state S.Store tx.old.conn.now) }
     ensures same_reference { tx.new.conn.ghost_name ≡ tx.old.conn.ghost_name }
     ensures makes { Attempts (MakesIfOpen (with_first_books rows.now))
         (state S.Store tx.old.conn.now) (state S.Store tx.new.conn.now) result }
@@ -52,7 +52,7 @@ fn put_numbers<S: Alter>(tx: &mut Transaction<'_, S>, rows: &[ReservedColumns]) 
 /// Puts the number of the first book for each reservation of a database that had no such numbers.
 fn put_first_numbers<S: Alter>(tx: &mut Transaction<'_, S>, alloc: Global) -> Result<(), ReadFault>
     requires open { IsInside (state S.Store tx.old.conn.now) }
-    requires book { HasBook (state S.Store tx.old.conn.now) }
+    requires tables { HasTables (state S.Store tx.old.conn.now) }
     requires rules { HasRules (state S.Store tx.old.conn.now) }
     ensures same_reference { tx.new.conn.ghost_name ≡ tx.old.conn.ghost_name }
     ensures makes { Attempts (MakesIfOpen (with_granted 1))
@@ -80,7 +80,7 @@ fn put_all_numbers<S: Alter>(
 ) -> Result<(), ReadFault>
     requires known { 1 ≤ version }
     requires open { IsInside (state S.Store tx.old.conn.now) }
-    requires book { HasBook (state S.Store tx.old.conn.now) }
+    requires tables { HasTables (state S.Store tx.old.conn.now) }
     requires rules { HasRules (state S.Store tx.old.conn.now) }
     ensures same_reference { tx.new.conn.ghost_name ≡ tx.old.conn.ghost_name }
     ensures makes { Attempts (MakesIfOpen (with_granted version))
@@ -115,7 +115,7 @@ pub(crate) fn kept_within<S: Alter>(
     tx: &mut Transaction<'_, S>,
     version: u32,
 ) -> Result<MetaColumns, OpenFault>
-    requires book { HasBook (state S.Store tx.old.conn.now) }
+    requires tables { HasTables (state S.Store tx.old.conn.now) }
     requires rules { HasRules (state S.Store tx.old.conn.now) }
     ensures same_reference { tx.new.conn.ghost_name ≡ tx.old.conn.ghost_name }
     ensures reads { ReadsWithin (λ trees m. (tables_content trees).meta ≡ Some (meta_of m))
@@ -134,7 +134,7 @@ pub(crate) fn books_within<S: Alter>(
     tx: &mut Transaction<'_, S>,
     alloc: Global,
 ) -> Result<Vec<BookColumns>, OpenFault>
-    requires book { HasBook (state S.Store tx.old.conn.now) }
+    requires tables { HasTables (state S.Store tx.old.conn.now) }
     requires rules { HasRules (state S.Store tx.old.conn.now) }
     ensures same_reference { tx.new.conn.ghost_name ≡ tx.old.conn.ghost_name }
     ensures reads { ReadsWithin (λ trees xs. AreBooks (tables_content trees) (map book_at xs.items))
@@ -158,7 +158,7 @@ fn put_latest<S: Alter>(
 ) -> Result<(), ReadFault>
     requires known { 1 ≤ version }
     requires open { IsInside (state S.Store tx.old.conn.now) }
-    requires book { HasBook (state S.Store tx.old.conn.now) }
+    requires tables { HasTables (state S.Store tx.old.conn.now) }
     requires rules { HasRules (state S.Store tx.old.conn.now) }
     ensures same_reference { tx.new.conn.ghost_name ≡ tx.old.conn.ghost_name }
     ensures makes { Attempts

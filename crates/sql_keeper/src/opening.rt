@@ -12,7 +12,7 @@ ghost use Rattle.sql_rows.specs.Lists.{AreBooks};
 ghost use Rattle.sql_rows.specs.Ruled.{AreRuledBooks};
 ghost use Rattle.sql_rows.specs.Texts.{book_at, meta_of};
 ghost use Rattle.sql_tables.specs.Schema.{latest};
-ghost use Rattle.sql_tables.specs.Statements.{HasIdleBook, Reads};
+ghost use Rattle.sql_tables.specs.Statements.{HasIdleTables, Reads};
 ghost use Rattle.sql_tables.specs.Texts.{stage};
 ghost use Rattle.sql_keeper.specs.Books.{IsBookText};
 ghost use Rattle.sql_keeper.specs.Creates.{CreatesBook};
@@ -45,7 +45,7 @@ pub(crate) fn keeper_of<S: Alter>(
     read: ReadBooks,
 ) -> (SqlKeeper<S>, TariffShelf)
     requires plain { connection.in_transaction ≡ false }
-    requires idle { HasIdleBook (state S.Store connection) }
+    requires idle { HasIdleTables (state S.Store connection) }
     requires open { HasCleanDisk (state S.Store connection) →
         IsTrue (state S.Store connection).is_open }
     requires read { HasCleanDisk (state S.Store connection) →
@@ -143,7 +143,7 @@ pub(crate) fn own_meta(read: Option<MetaColumns>) -> Result<MetaColumns, OpenFau
 /// What is kept once by the latest version. The version is looked at before the rest.
 // rule: database-migrated.older
 fn find_meta<S: Alter>(conn: &mut Connection<S>) -> Result<MetaColumns, OpenFault>
-    requires idle { HasIdleBook (state S.Store conn.old) }
+    requires idle { HasIdleTables (state S.Store conn.old) }
     ensures reads { Reads (λ trees m. (tables_content trees).meta ≡ Some (meta_of m))
         (state S.Store conn.old) (state S.Store conn.new) result }
     ensures finds { IsMetaFound latest (state S.Store conn.old) (state S.Store conn.new) result }
@@ -159,7 +159,7 @@ fn find_books<S: Alter>(
     conn: &mut Connection<S>,
     alloc: Global,
 ) -> Result<Vec<BookColumns>, OpenFault>
-    requires idle { HasIdleBook (state S.Store conn.old) }
+    requires idle { HasIdleTables (state S.Store conn.old) }
     ensures reads { Reads (λ trees xs. AreBooks (tables_content trees) (map book_at xs.items))
         (state S.Store conn.old) (state S.Store conn.new) result }
     ensures told { IfErr result IsNoVersion }
@@ -175,7 +175,7 @@ pub(crate) fn latest_books<S: Alter>(
     alloc: Global,
     conn: &mut Connection<S>,
 ) -> Result<ReadBooks, OpenFault>
-    requires idle { HasIdleBook (state S.Store conn.old) }
+    requires idle { HasIdleTables (state S.Store conn.old) }
     ensures mode { conn.old.in_transaction ≡ false → conn.new.in_transaction ≡ false }
     ensures reads { ReadsBooks (state S.Store conn.old) (state S.Store conn.new) result }
 {

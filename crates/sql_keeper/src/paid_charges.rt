@@ -3,7 +3,7 @@
 ghost use Rattle.std.specs.Prelude.{◌≡◌, map};
 ghost use Rattle.sql_rows.specs.Content.{tables_content};
 ghost use Rattle.sql_rows.specs.Makes.{Makes, MakesIfOpen};
-ghost use Rattle.sql_tables.specs.Statements.{Attempts, HasBook, IsInside};
+ghost use Rattle.sql_tables.specs.Statements.{Attempts, HasTables, IsInside};
 ghost use Rattle.sql_keeper.specs.Covered.{blocks_of, covered_charge};
 ghost use Rattle.sql_keeper.specs.Numbers.{LacksCharge, LacksCharges, WasSo};
 ghost use Rattle.sql_keeper.specs.Writes.{some_blocks, with_all_charged};
@@ -34,7 +34,7 @@ fn put_new_blocks<S: Alter>(
     blocks: Option<u64>,
 ) -> Result<(), Error>
     requires open { IsInside (state S.Store tx.old.conn.now) }
-    requires book { HasBook (state S.Store tx.old.conn.now) }
+    requires tables { HasTables (state S.Store tx.old.conn.now) }
     ensures same_reference { tx.new.conn.ghost_name ≡ tx.old.conn.ghost_name }
     ensures makes { Attempts (MakesIfOpen (with_new_blocks account.now number blocks))
         (state S.Store tx.old.conn.now) (state S.Store tx.new.conn.now) result }
@@ -63,7 +63,7 @@ fn put_charged<S: Alter>(
     account: &AccountNumber,
     charge: &ChargeRow,
 ) -> Result<(), Error>
-    requires book { HasBook (state S.Store tx.old.conn.now) }
+    requires tables { HasTables (state S.Store tx.old.conn.now) }
     ensures same_reference { tx.new.conn.ghost_name ≡ tx.old.conn.ghost_name }
     ensures makes { Attempts (Makes (with_charged account.now charge.now))
         (state S.Store tx.old.conn.now) (state S.Store tx.new.conn.now) result }
@@ -89,7 +89,7 @@ pub(crate) fn put_paid<S: Alter>(
     rows: &[ChargeRow],
 ) -> Result<(), Error>
     requires open { IsInside (state S.Store tx.old.conn.now) }
-    requires book { HasBook (state S.Store tx.old.conn.now) }
+    requires tables { HasTables (state S.Store tx.old.conn.now) }
     ensures same_reference { tx.new.conn.ghost_name ≡ tx.old.conn.ghost_name }
     ensures makes { Attempts (MakesIfOpen (with_all_charged account.now rows.now))
         (state S.Store tx.old.conn.now) (state S.Store tx.new.conn.now) result }

@@ -2,7 +2,7 @@
 
 ghost use Rattle.std.specs.Prelude.{◌≡◌, option_map};
 ghost use Rattle.commands.specs.Keys.{key_of};
-ghost use Rattle.sql_tables.specs.Statements.{Attempts, AttemptsOver, HasBook, HasRules};
+ghost use Rattle.sql_tables.specs.Statements.{Attempts, AttemptsOver, HasTables, HasRules};
 ghost use Rattle.sql_tables.specs.Statements.{IsInside};
 ghost use Rattle.sql_rows.specs.Content.{tables_content};
 ghost use Rattle.sql_rows.specs.Each.{with_sessions};
@@ -78,7 +78,7 @@ fn put_named_money<S: Alter>(
     kept: &Option<KeptRows>,
     rows: &NamedRows,
 ) -> Result<(), Error>
-    requires book { HasBook (state S.Store tx.old.conn.now) }
+    requires tables { HasTables (state S.Store tx.old.conn.now) }
     ensures same_reference { tx.new.conn.ghost_name ≡ tx.old.conn.ghost_name }
     ensures makes { Attempts (Makes (with_money account.now kept.now rows.now))
         (state S.Store tx.old.conn.now) (state S.Store tx.new.conn.now) result }
@@ -97,7 +97,7 @@ fn put_sessions_of<S: Alter>(
     rows: &[Session],
 ) -> Result<(), Error>
     requires open { IsInside (state S.Store tx.old.conn.now) }
-    requires book { HasBook (state S.Store tx.old.conn.now) }
+    requires tables { HasTables (state S.Store tx.old.conn.now) }
     ensures { AttemptsOver S.Store (MakesIfOpen (with_sessions account.now rows.now))
         tx.old.conn tx.new.conn result }
 {
@@ -115,7 +115,7 @@ fn put_named<S: Alter>(
     known: &Known<'_>,
     rows: &NamedRows,
 ) -> Result<(), Error>
-    requires book { HasBook (state S.Store tx.old.conn.now) }
+    requires tables { HasTables (state S.Store tx.old.conn.now) }
     ensures same_reference { tx.new.conn.ghost_name ≡ tx.old.conn.ghost_name }
     ensures makes { Attempts
         (Makes (with_named account.now (shelf_names books.now) known.now rows.now))
@@ -133,7 +133,7 @@ fn put_texts<S: Alter>(
     content: &Content,
     texts: &KeptTexts,
 ) -> Result<(), Error>
-    requires book { HasBook (state S.Store tx.old.conn.now) }
+    requires tables { HasTables (state S.Store tx.old.conn.now) }
     ensures same_reference { tx.new.conn.ghost_name ≡ tx.old.conn.ghost_name }
     ensures makes { Attempts
         (Makes (with_texts account.now (key_of content.now) (kept_of texts.now)))
@@ -155,7 +155,7 @@ fn put_kept<S: Alter>(
     texts: &Option<KeptTexts>,
 ) -> Result<(), Error>
     requires open { IsInside (state S.Store tx.old.conn.now) }
-    requires book { HasBook (state S.Store tx.old.conn.now) }
+    requires tables { HasTables (state S.Store tx.old.conn.now) }
     ensures same_reference { tx.new.conn.ghost_name ≡ tx.old.conn.ghost_name }
     ensures makes { Attempts (MakesIfOpen
         (with_kept account.now kept.now (option_map kept_of texts.now)))
@@ -177,7 +177,7 @@ fn put_rows<S: Alter>(
     known: &Known<'_>,
     change: &Change,
 ) -> Result<(), Error>
-    requires book { HasBook (state S.Store tx.old.conn.now) }
+    requires tables { HasTables (state S.Store tx.old.conn.now) }
     ensures same_reference { tx.new.conn.ghost_name ≡ tx.old.conn.ghost_name }
     ensures makes { Attempts
         (Makes (with_changed_rows (shelf_names books.now) known.now change.now))
@@ -201,7 +201,7 @@ pub(crate) fn put_moment<S: Alter>(
     is_there: bool,
 ) -> Result<(), Error>
     requires open { IsInside (state S.Store tx.old.conn.now) }
-    requires book { HasBook (state S.Store tx.old.conn.now) }
+    requires tables { HasTables (state S.Store tx.old.conn.now) }
     requires rules { HasRules (state S.Store tx.old.conn.now) }
     ensures same_reference { tx.new.conn.ghost_name ≡ tx.old.conn.ghost_name }
     ensures makes { Attempts (MakesIfOpen (with_moment_put is_there moment))
@@ -229,7 +229,7 @@ pub(crate) fn put_change<S: Alter>(
     texts: &Option<KeptTexts>,
 ) -> Result<(), Error>
     requires open { IsInside (state S.Store tx.old.conn.now) }
-    requires book { HasBook (state S.Store tx.old.conn.now) }
+    requires tables { HasTables (state S.Store tx.old.conn.now) }
     requires rules { HasRules (state S.Store tx.old.conn.now) }
     ensures same_reference { tx.new.conn.ghost_name ≡ tx.old.conn.ghost_name }
     ensures makes { Attempts (Makes

@@ -10,7 +10,7 @@ ghost use Rattle.sql_keeper.specs.Tests.{AreFound, IsChangeFound, IsFound, IsTes
 ghost use Rattle.sql_keeper.specs.Tests.{is_as, is_beside};
 ghost use Rattle.sql_rows.specs.Content.{rows_in};
 ghost use Rattle.sql_rows.specs.Texts.{group_at};
-ghost use Rattle.sql_tables.specs.Statements.{HasIdleBook};
+ghost use Rattle.sql_tables.specs.Statements.{HasIdleTables};
 ghost use Rattle.sqlite.specs.Held.{state};
 
 use crate::among::{has_group, has_session};
@@ -62,7 +62,7 @@ fn read_standing<S: Alter>(
     account: &AccountNumber,
     session: &SessionId,
 ) -> Result<Standing, ReadFault>
-    requires idle { HasIdleBook (state S.Store conn.old) }
+    requires idle { HasIdleTables (state S.Store conn.old) }
     ensures { Gathers (λ trees x. IsStanding (rows_in trees account.now) session.now x)
         (state S.Store conn.old) (state S.Store conn.new) result }
 {
@@ -78,7 +78,7 @@ fn find_standing<S: Alter>(
     seen: &Option<SeenAccount>,
     session: &SessionId,
 ) -> Result<Standing, ReadFault>
-    requires idle { HasIdleBook (state S.Store conn.old) }
+    requires idle { HasIdleTables (state S.Store conn.old) }
     requires seen { AreSeen seen.now (state S.Store conn.old) }
     ensures { Gathers (λ trees x. IsStanding (rows_in trees account.now) session.now x)
         (state S.Store conn.old) (state S.Store conn.new) result }
@@ -94,7 +94,7 @@ fn read_head<S: Alter>(
     conn: &mut Connection<S>,
     account: &AccountNumber,
 ) -> Result<Option<HeadColumns>, ReadFault>
-    requires idle { HasIdleBook (state S.Store conn.old) }
+    requires idle { HasIdleTables (state S.Store conn.old) }
     ensures { Gathers (λ trees o. o ≡ (rows_in trees account.now).head)
         (state S.Store conn.old) (state S.Store conn.new) result }
 {
@@ -107,7 +107,7 @@ pub(crate) fn find_head<S: Alter>(
     seen: &Option<SeenAccount>,
     account: &AccountNumber,
 ) -> Result<Option<HeadColumns>, ReadFault>
-    requires idle { HasIdleBook (state S.Store conn.old) }
+    requires idle { HasIdleTables (state S.Store conn.old) }
     requires seen { AreSeen seen.now (state S.Store conn.old) }
     ensures { Gathers (λ trees o. o ≡ (rows_in trees account.now).head)
         (state S.Store conn.old) (state S.Store conn.new) result }
@@ -183,7 +183,7 @@ fn find_session<S: Alter>(
     groups: &[SessionGroup],
     session: &Session,
 ) -> Result<NamedSessions, ReadFault>
-    requires idle { HasIdleBook (state S.Store conn.old) }
+    requires idle { HasIdleTables (state S.Store conn.old) }
     requires seen { AreSeen seen.now (state S.Store conn.old) }
     ensures { Gathers (λ trees x. IsFound groups.now (rows_in trees account.now) session.now x)
         (state S.Store conn.old) (state S.Store conn.new) result }
@@ -217,7 +217,7 @@ fn find_sessions<S: Alter>(
     groups: &[SessionGroup],
     sessions: &[Session],
 ) -> Result<NamedSessions, ReadFault>
-    requires idle { HasIdleBook (state S.Store conn.old) }
+    requires idle { HasIdleTables (state S.Store conn.old) }
     requires seen { AreSeen seen.now (state S.Store conn.old) }
     ensures { Gathers
         (λ trees x. AreFound sessions.now groups.now (rows_in trees account.now) x)
@@ -266,7 +266,7 @@ fn find_change<S: Alter>(
     seen: &Option<SeenAccount>,
     change: &Change,
 ) -> Result<NamedSessions, ReadFault>
-    requires idle { HasIdleBook (state S.Store conn.old) }
+    requires idle { HasIdleTables (state S.Store conn.old) }
     requires seen { AreSeen seen.now (state S.Store conn.old) }
     ensures { Gathers (λ trees x.
         IsChangeFound (shelf_names books.now) change.now (rows_in trees change.now.number) x)
@@ -303,7 +303,7 @@ pub(crate) fn test_change<S: Alter>(
     seen: &Option<SeenAccount>,
     change: &Change,
 ) -> Result<bool, ReadFault>
-    requires idle { HasIdleBook (state S.Store conn.old) }
+    requires idle { HasIdleTables (state S.Store conn.old) }
     requires seen { AreSeen seen.now (state S.Store conn.old) }
     ensures { Gathers (λ trees new.
         IsTested (shelf_names books.now) change.now (rows_in trees change.now.number) new)

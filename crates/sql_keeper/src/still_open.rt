@@ -1,7 +1,7 @@
 //! Whether a connection can still be asked.
 
 ghost use Rattle.sql_keeper.specs.Asks.{IsStillOpen};
-ghost use Rattle.sql_tables.specs.Statements.{HasIdleBook};
+ghost use Rattle.sql_tables.specs.Statements.{HasIdleTables};
 ghost use Rattle.sqlite.specs.Held.{state};
 
 use sql_tables::ReadFault;
@@ -14,7 +14,7 @@ use sqlite::{Alter, Connection};
 /// `Store` where it is shut; lack of memory.
 // rule: stop-commit
 pub(crate) fn still_open<S: Alter>(conn: &mut Connection<S>) -> Result<(), ReadFault>
-    requires idle { HasIdleBook (state S.Store conn.old) }
+    requires idle { HasIdleTables (state S.Store conn.old) }
     ensures { IsStillOpen (state S.Store conn.old) (state S.Store conn.new) result }
 {
     let _plan = conn.prepare("SELECT 1")?;

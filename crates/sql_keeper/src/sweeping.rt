@@ -4,7 +4,8 @@ ghost use Rattle.std.specs.Prelude.{◌≡◌, false, true, IfOk, OnOk};
 ghost use Rattle.sql_rows.specs.Content.{tables_content};
 ghost use Rattle.sql_rows.specs.Makes.{Makes};
 ghost use Rattle.sql_rules.specs.Columns.{is_moment};
-ghost use Rattle.sql_tables.specs.Statements.{Attempts, HasBook, HasIdleBook, HasRules, IsInside};
+ghost use Rattle.sql_tables.specs.Statements.{Attempts, HasTables, HasIdleTables, HasRules};
+ghost use Rattle.sql_tables.specs.Statements.{IsInside};
 ghost use Rattle.sql_keeper.specs.Content.{shelf_names};
 ghost use Rattle.sql_keeper.specs.Commits.{CommitsStanding, CommitsWhole};
 ghost use Rattle.sql_keeper.specs.Sweeps.{BecomesSwept, MakesSweep, SweepsOne, TransactsSweep};
@@ -40,7 +41,7 @@ fn put_swept<S: Alter>(
     account: &SweptAccount,
 ) -> Result<(), Error>
     requires open { IsInside (state S.Store tx.old.conn.now) }
-    requires book { HasBook (state S.Store tx.old.conn.now) }
+    requires tables { HasTables (state S.Store tx.old.conn.now) }
     ensures same_reference { tx.new.conn.ghost_name ≡ tx.old.conn.ghost_name }
     ensures makes { Attempts (Makes (with_swept (shelf_names names.now) account.now))
         (state S.Store tx.old.conn.now) (state S.Store tx.new.conn.now) result }
@@ -66,7 +67,7 @@ fn sweep_account<S: Alter>(
     moment: Moment,
 ) -> Result<(), ReadFault>
     requires open { IsInside (state S.Store tx.old.conn.now) }
-    requires book { HasBook (state S.Store tx.old.conn.now) }
+    requires tables { HasTables (state S.Store tx.old.conn.now) }
     requires rules { HasRules (state S.Store tx.old.conn.now) }
     ensures same_reference { tx.new.conn.ghost_name ≡ tx.old.conn.ghost_name }
     ensures sweeps { Attempts
@@ -94,7 +95,7 @@ fn sweep_each<S: Alter>(
     shelf: &TariffShelf,
     moment: Moment,
 ) -> Result<u64, ReadFault>
-    requires book { HasBook (state S.Store tx.old.conn.now) }
+    requires tables { HasTables (state S.Store tx.old.conn.now) }
     ensures same_reference { tx.new.conn.ghost_name ≡ tx.old.conn.ghost_name }
     ensures makes { Attempts (MakesSweep (shelf_names names.now) text.now shelf.now moment)
         (state S.Store tx.old.conn.now) (state S.Store tx.new.conn.now) result }
@@ -123,7 +124,7 @@ fn write_sweep<S: Alter>(
     moment: Moment,
 ) -> Result<u64, ReadFault>
     requires plain { conn.old.in_transaction ≡ false }
-    requires idle { HasIdleBook (state S.Store conn.old) }
+    requires idle { HasIdleTables (state S.Store conn.old) }
     ensures plain { conn.new.in_transaction ≡ false }
     ensures transacts { TransactsSweep (shelf_names names.now) text.now shelf.now moment
         (state S.Store conn.old) (state S.Store conn.new) result }
@@ -150,7 +151,7 @@ fn make_sweep<S: Alter>(
     moment: Moment,
 ) -> Result<u64, ReadFault>
     requires plain { conn.old.in_transaction ≡ false }
-    requires idle { HasIdleBook (state S.Store conn.old) }
+    requires idle { HasIdleTables (state S.Store conn.old) }
     requires later { is_later ≡ true → IsUpTo moment (state S.Store conn.old) }
     ensures plain { conn.new.in_transaction ≡ false }
     ensures commits { CommitsWhole (BecomesSwept (shelf_names names.now) text.now shelf.now moment)
@@ -181,7 +182,7 @@ fn ask_to_sweep<S: Alter>(
     moment: Moment,
 ) -> Result<u64, ReadFault>
     requires plain { conn.old.in_transaction ≡ false }
-    requires idle { HasIdleBook (state S.Store conn.old) }
+    requires idle { HasIdleTables (state S.Store conn.old) }
     requires later { is_later ≡ true → IsUpTo moment (state S.Store conn.old) }
     ensures plain { conn.new.in_transaction ≡ false }
     ensures commits { CommitsStanding

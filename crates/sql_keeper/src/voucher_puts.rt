@@ -1,7 +1,7 @@
 //! Vouchers, put under their codes.
 
 ghost use Rattle.std.specs.Prelude.{◌≡◌};
-ghost use Rattle.sql_tables.specs.Statements.{Attempts, HasBook, IsInside};
+ghost use Rattle.sql_tables.specs.Statements.{Attempts, HasTables, IsInside};
 ghost use Rattle.sql_keeper.specs.Writes.{voucher_row, with_redeemed};
 ghost use Rattle.sql_rows.specs.Content.{with_voucher_row};
 ghost use Rattle.sql_rows.specs.Makes.{Makes, MakesIfOpen};
@@ -18,7 +18,7 @@ pub(crate) fn put_voucher<S: Alter>(
     code: &VoucherCode,
     voucher: &Voucher,
 ) -> Result<(), Error>
-    requires book { HasBook (state S.Store tx.old.conn.now) }
+    requires tables { HasTables (state S.Store tx.old.conn.now) }
     ensures same_reference { tx.new.conn.ghost_name ≡ tx.old.conn.ghost_name }
     ensures makes { Attempts (Makes (with_voucher_row code.now (voucher_row voucher.now)))
         (state S.Store tx.old.conn.now) (state S.Store tx.new.conn.now) result }
@@ -36,7 +36,7 @@ pub(crate) fn put_redeemed<S: Alter>(
     redeemed: &Option<Redeemed>,
 ) -> Result<(), Error>
     requires open { IsInside (state S.Store tx.old.conn.now) }
-    requires book { HasBook (state S.Store tx.old.conn.now) }
+    requires tables { HasTables (state S.Store tx.old.conn.now) }
     ensures same_reference { tx.new.conn.ghost_name ≡ tx.old.conn.ghost_name }
     ensures makes { Attempts (MakesIfOpen (with_redeemed redeemed.now))
         (state S.Store tx.old.conn.now) (state S.Store tx.new.conn.now) result }

@@ -6,7 +6,7 @@ use Rattle.sqlite_value.specs.Order.{Row}
 use Rattle.sqlite_trees.specs.Objects.{catalog_tree}
 use Rattle.sqlite_trees.specs.Tree.{Trees}
 use Rattle.sqlite.specs.State.{State, ExecutesInside, HasCleanDisk, Shows}
-use Rattle.sql_tables.specs.Statements.{AreStored, Attempts, IsBook, IsIdle}
+use Rattle.sql_tables.specs.Statements.{AreStored, Attempts, IsTabled, IsIdle}
 use Rattle.sql_rows.specs.Content.{TablesContent, tables_content}
 use Rattle.sql_rows.specs.Plain.{ArePlain}
 
@@ -26,7 +26,7 @@ pub record HasRun (text : List ℕ) (params : Row) (old new : State) : Type 0 wh
 -- inside a transaction
 pub record Makes (change : TablesContent → TablesContent) (old new : State) : Type 0 where
   pub turns : Turns change old.now.trees new.now.trees
-  pub book : IsBook new
+  pub book : IsTabled new
   pub shows : Shows old new new.now old.committed true
 
 -- the connection was open if it is, and if it was, the change is made: a list of no rows asks

@@ -5,7 +5,7 @@ ghost use Rattle.sql_rows.specs.Content.{has_account, tables_content, rows_in, w
 ghost use Rattle.sql_rows.specs.Values.{head_cells, head_key, head_values};
 ghost use Rattle.sql_rows.specs.Lists.{IsNextAccount};
 ghost use Rattle.sql_rows.specs.Makes.{Makes, ReplacesIfSome};
-ghost use Rattle.sql_tables.specs.Statements.{Attempts, HasBook, HasIdleBook, HasRules, Reads};
+ghost use Rattle.sql_tables.specs.Statements.{Attempts, HasTables, HasIdleTables, HasRules, Reads};
 ghost use Rattle.sql_tables.specs.Statements.{AttemptsOver, ReadsWithin};
 ghost use Rattle.sql_tables.specs.Selects.{one_or_none};
 ghost use Rattle.sqlite.specs.Held.{state};
@@ -53,7 +53,7 @@ fn replace_account<S: Alter>(
     account: &AccountNumber,
     head: &HeadColumns,
 ) -> Result<bool, Error>
-    requires book { HasBook (state S.Store tx.old.conn.now) }
+    requires tables { HasTables (state S.Store tx.old.conn.now) }
     ensures same_reference { tx.new.conn.ghost_name ≡ tx.old.conn.ghost_name }
     ensures replaces { ReplacesIfSome (has_account account.now) (with_account account.now head.now)
         (state S.Store tx.old.conn.now) (state S.Store tx.new.conn.now) result }
@@ -80,7 +80,7 @@ fn insert_account<S: Alter>(
     account: &AccountNumber,
     head: &HeadColumns,
 ) -> Result<(), Error>
-    requires book { HasBook (state S.Store tx.old.conn.now) }
+    requires tables { HasTables (state S.Store tx.old.conn.now) }
     ensures same_reference { tx.new.conn.ghost_name ≡ tx.old.conn.ghost_name }
     ensures makes { Attempts (Makes (with_account account.now head.now))
         (state S.Store tx.old.conn.now) (state S.Store tx.new.conn.now) result }
@@ -111,7 +111,7 @@ pub fn put_account<S: Alter>(
     account: &AccountNumber,
     head: &HeadColumns,
 ) -> Result<(), Error>
-    requires book { HasBook (state S.Store tx.old.conn.now) }
+    requires tables { HasTables (state S.Store tx.old.conn.now) }
     ensures same_reference { tx.new.conn.ghost_name ≡ tx.old.conn.ghost_name }
     ensures makes { Attempts (Makes (with_account account.now head.now))
         (state S.Store tx.old.conn.now) (state S.Store tx.new.conn.now) result }
@@ -134,7 +134,7 @@ pub fn read_account<S: Alter>(
     conn: &mut Connection<S>,
     account: &AccountNumber,
 ) -> Result<Option<HeadColumns>, ReadFault>
-    requires idle { HasIdleBook (state S.Store conn.old) }
+    requires idle { HasIdleTables (state S.Store conn.old) }
     ensures reads { Reads (λ trees o. o ≡ (rows_in trees account.now).head)
         (state S.Store conn.old) (state S.Store conn.new) result }
 {
@@ -157,7 +157,7 @@ pub fn read_account_within<S: Alter>(
     tx: &mut Transaction<'_, S>,
     account: &AccountNumber,
 ) -> Result<Option<HeadColumns>, ReadFault>
-    requires book { HasBook (state S.Store tx.old.conn.now) }
+    requires tables { HasTables (state S.Store tx.old.conn.now) }
     requires rules { HasRules (state S.Store tx.old.conn.now) }
     ensures same_reference { tx.new.conn.ghost_name ≡ tx.old.conn.ghost_name }
     ensures reads { ReadsWithin (λ trees o. o ≡ (rows_in trees account.now).head)
@@ -208,7 +208,7 @@ fn read_first_account<S: Alter>(
     tx: &mut Transaction<'_, S>,
     alloc: Global,
 ) -> Result<Option<AccountNumber>, ReadFault>
-    requires book { HasBook (state S.Store tx.old.conn.now) }
+    requires tables { HasTables (state S.Store tx.old.conn.now) }
     requires rules { HasRules (state S.Store tx.old.conn.now) }
     ensures same_reference { tx.new.conn.ghost_name ≡ tx.old.conn.ghost_name }
     ensures reads { ReadsWithin (λ trees o. IsNextAccount (tables_content trees) None o)
@@ -232,7 +232,7 @@ fn read_account_after<S: Alter>(
     alloc: Global,
     account: &AccountNumber,
 ) -> Result<Option<AccountNumber>, ReadFault>
-    requires book { HasBook (state S.Store tx.old.conn.now) }
+    requires tables { HasTables (state S.Store tx.old.conn.now) }
     requires rules { HasRules (state S.Store tx.old.conn.now) }
     ensures same_reference { tx.new.conn.ghost_name ≡ tx.old.conn.ghost_name }
     ensures reads { ReadsWithin
@@ -260,7 +260,7 @@ pub fn read_next_account<S: Alter>(
     alloc: Global,
     after: Option<&AccountNumber>,
 ) -> Result<Option<AccountNumber>, ReadFault>
-    requires book { HasBook (state S.Store tx.old.conn.now) }
+    requires tables { HasTables (state S.Store tx.old.conn.now) }
     requires rules { HasRules (state S.Store tx.old.conn.now) }
     ensures same_reference { tx.new.conn.ghost_name ≡ tx.old.conn.ghost_name }
     ensures reads { ReadsWithin

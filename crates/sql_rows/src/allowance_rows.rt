@@ -5,7 +5,7 @@ ghost use Rattle.sql_rows.specs.Content.{rows_in, with_allowance, with_rows, wit
 ghost use Rattle.sql_rows.specs.Lists.{AreAllowances, Ascends};
 ghost use Rattle.sql_rows.specs.Values.{number_cells};
 ghost use Rattle.sql_rows.specs.Makes.{Makes};
-ghost use Rattle.sql_tables.specs.Statements.{AttemptsOver, HasBook, HasIdleBook, Reads};
+ghost use Rattle.sql_tables.specs.Statements.{AttemptsOver, HasTables, HasIdleTables, Reads};
 ghost use Rattle.sqlite.specs.Held.{state};
 
 use crate::ascending::{InOrder, do_ascend};
@@ -24,7 +24,7 @@ pub fn put_allowance<S: Alter>(
     account: &AccountNumber,
     bucket: u32,
 ) -> Result<(), Error>
-    requires book { HasBook (state S.Store tx.old.conn.now) }
+    requires tables { HasTables (state S.Store tx.old.conn.now) }
     ensures { AttemptsOver S.Store (Makes (with_rows account.now (with_allowance bucket)))
         tx.old.conn tx.new.conn result }
 {
@@ -49,7 +49,7 @@ pub fn remove_allowance<S: Alter>(
     account: &AccountNumber,
     bucket: u32,
 ) -> Result<(), Error>
-    requires book { HasBook (state S.Store tx.old.conn.now) }
+    requires tables { HasTables (state S.Store tx.old.conn.now) }
     ensures { AttemptsOver S.Store (Makes (with_rows account.now (without_allowance bucket)))
         tx.old.conn tx.new.conn result }
 {
@@ -80,7 +80,7 @@ pub fn read_allowances<S: Alter>(
     alloc: Global,
     account: &AccountNumber,
 ) -> Result<Vec<u32>, ReadFault>
-    requires idle { HasIdleBook (state S.Store conn.old) }
+    requires idle { HasIdleTables (state S.Store conn.old) }
     ensures reads { Reads (λ trees xs. AreAllowances (rows_in trees account.now) xs.items)
         (state S.Store conn.old) (state S.Store conn.new) result }
     ensures order { IfOk result (λ xs. Ascends nat_lt xs.items) }

@@ -5,7 +5,7 @@ ghost use Rattle.sql_rows.specs.Content.{rows_in, with_answer, with_rows};
 ghost use Rattle.sql_rows.specs.Values.{answer_cells};
 ghost use Rattle.sql_rows.specs.Texts.{kept_of};
 ghost use Rattle.sql_rows.specs.Makes.{Makes};
-ghost use Rattle.sql_tables.specs.Statements.{HasBook, HasIdleBook, Reads, AttemptsOver};
+ghost use Rattle.sql_tables.specs.Statements.{HasTables, HasIdleTables, Reads, AttemptsOver};
 ghost use Rattle.sql_tables.specs.Selects.{one_or_none};
 ghost use Rattle.sqlite.specs.Held.{state};
 
@@ -38,7 +38,7 @@ pub fn put_answer<S: Alter>(
     number: u32,
     texts: &KeptTexts,
 ) -> Result<(), Error>
-    requires book { HasBook (state S.Store tx.old.conn.now) }
+    requires tables { HasTables (state S.Store tx.old.conn.now) }
     ensures { AttemptsOver S.Store (Makes (with_rows account.now (with_answer kind name.now number
         (kept_of texts.now)))) tx.old.conn tx.new.conn result }
 {
@@ -73,7 +73,7 @@ pub fn read_answer<S: Alter>(
     name: &str,
     number: u32,
 ) -> Result<Option<KeptTexts>, ReadFault>
-    requires idle { HasIdleBook (state S.Store conn.old) }
+    requires idle { HasIdleTables (state S.Store conn.old) }
     ensures reads { Reads (λ trees o.
         option_map kept_of o ≡ (rows_in trees account.now).answers kind name.now number)
         (state S.Store conn.old) (state S.Store conn.new) result }

@@ -7,7 +7,7 @@ ghost use Rattle.sql_rows.specs.Lists.{AreBooks, BookAt, book_at_cells};
 ghost use Rattle.sql_rows.specs.Ruled.{AreRuledBooks, IsRuledBook};
 ghost use Rattle.sql_rows.specs.Texts.{book_at};
 ghost use Rattle.sql_rows.specs.Makes.{Makes};
-ghost use Rattle.sql_tables.specs.Statements.{HasBook, HasIdleBook, HasRules, Reads};
+ghost use Rattle.sql_tables.specs.Statements.{HasTables, HasIdleTables, HasRules, Reads};
 ghost use Rattle.sql_tables.specs.Statements.{AttemptsOver};
 ghost use Rattle.sql_tables.specs.Statements.{ReadsWithin};
 ghost use Rattle.sqlite.specs.Held.{state};
@@ -54,7 +54,7 @@ pub fn put_book<S: Alter>(
     starts: Moment,
     content: &str,
 ) -> Result<(), Error>
-    requires book { HasBook (state S.Store tx.old.conn.now) }
+    requires tables { HasTables (state S.Store tx.old.conn.now) }
     ensures { AttemptsOver S.Store
         (Makes (with_book_row number (record { starts = starts; content = content.now })))
         tx.old.conn tx.new.conn result }
@@ -80,7 +80,7 @@ pub fn read_books<S: Alter>(
     conn: &mut Connection<S>,
     alloc: Global,
 ) -> Result<Vec<BookColumns>, ReadFault>
-    requires idle { HasIdleBook (state S.Store conn.old) }
+    requires idle { HasIdleTables (state S.Store conn.old) }
     ensures reads { Reads (λ trees xs. AreBooks (tables_content trees) (map book_at xs.items))
         (state S.Store conn.old) (state S.Store conn.new) result }
     // Rows that are in the rules are answered.
@@ -104,7 +104,7 @@ pub fn read_books_within<S: Alter>(
     tx: &mut Transaction<'_, S>,
     alloc: Global,
 ) -> Result<Vec<BookColumns>, ReadFault>
-    requires book { HasBook (state S.Store tx.old.conn.now) }
+    requires tables { HasTables (state S.Store tx.old.conn.now) }
     requires rules { HasRules (state S.Store tx.old.conn.now) }
     ensures same_reference { tx.new.conn.ghost_name ≡ tx.old.conn.ghost_name }
     ensures reads { ReadsWithin (λ trees xs. AreBooks (tables_content trees) (map book_at xs.items))

@@ -10,7 +10,7 @@ ghost use Rattle.sql_rows.specs.Texts.{ReadsBuckets, bucket_row};
 ghost use Rattle.sql_rows.specs.Each.{with_buckets};
 ghost use Rattle.sql_rows.specs.Makes.{Makes, MakesIfOpen, ReplacesIfSome};
 ghost use Rattle.sql_tables.specs.Selects.{one_or_none};
-ghost use Rattle.sql_tables.specs.Statements.{HasBook, HasIdleBook, IsInside};
+ghost use Rattle.sql_tables.specs.Statements.{HasTables, HasIdleTables, IsInside};
 ghost use Rattle.sql_tables.specs.Statements.{AttemptsOver, Reads};
 ghost use Rattle.sqlite.specs.Held.{state};
 ghost use Rattle.sqlite.specs.State.{ExecutesInside};
@@ -71,7 +71,7 @@ fn replace_bucket<S: Alter>(
     account: &AccountNumber,
     bucket: &Bucket,
 ) -> Result<bool, Error>
-    requires book { HasBook (state S.Store tx.old.conn.now) }
+    requires tables { HasTables (state S.Store tx.old.conn.now) }
     ensures same_reference { tx.new.conn.ghost_name ≡ tx.old.conn.ghost_name }
     ensures replaces { ReplacesIfSome (has_bucket account.now bucket.now.number)
         (with_rows account.now (with_bucket (plain_bucket bucket.now)))
@@ -97,7 +97,7 @@ fn insert_bucket<S: Alter>(
     account: &AccountNumber,
     bucket: &Bucket,
 ) -> Result<(), Error>
-    requires book { HasBook (state S.Store tx.old.conn.now) }
+    requires tables { HasTables (state S.Store tx.old.conn.now) }
     ensures { AttemptsOver S.Store
         (Makes (with_rows account.now (with_bucket (plain_bucket bucket.now))))
         tx.old.conn tx.new.conn result }
@@ -127,7 +127,7 @@ pub fn put_bucket<S: Alter>(
     account: &AccountNumber,
     bucket: &Bucket,
 ) -> Result<(), Error>
-    requires book { HasBook (state S.Store tx.old.conn.now) }
+    requires tables { HasTables (state S.Store tx.old.conn.now) }
     ensures { AttemptsOver S.Store
         (Makes (with_rows account.now (with_bucket (plain_bucket bucket.now))))
         tx.old.conn tx.new.conn result }
@@ -149,7 +149,7 @@ pub fn read_bucket<S: Alter>(
     account: &AccountNumber,
     number: u32,
 ) -> Result<Option<BucketColumns>, ReadFault>
-    requires idle { HasIdleBook (state S.Store conn.old) }
+    requires idle { HasIdleTables (state S.Store conn.old) }
     ensures reads { Reads (λ trees o.
         option_map bucket_row o ≡ (rows_in trees account.now).buckets number)
         (state S.Store conn.old) (state S.Store conn.new) result }
@@ -188,7 +188,7 @@ pub fn read_buckets_all<S: Alter>(
     alloc: Global,
     account: &AccountNumber,
 ) -> Result<Vec<BucketColumns>, ReadFault>
-    requires idle { HasIdleBook (state S.Store conn.old) }
+    requires idle { HasIdleTables (state S.Store conn.old) }
     ensures reads { ReadsBuckets (λ b. true) account.now
         (state S.Store conn.old) (state S.Store conn.new) result }
     ensures order { IfOk result (λ bs. BucketsRise (map bucket_row bs.items)) }
@@ -225,7 +225,7 @@ pub fn read_buckets_dead<S: Alter>(
     alloc: Global,
     account: &AccountNumber,
 ) -> Result<Vec<BucketColumns>, ReadFault>
-    requires idle { HasIdleBook (state S.Store conn.old) }
+    requires idle { HasIdleTables (state S.Store conn.old) }
     ensures reads { ReadsBuckets is_dead_bucket account.now
         (state S.Store conn.old) (state S.Store conn.new) result }
     ensures order { IfOk result (λ bs. BucketsRise (map bucket_row bs.items)) }
@@ -328,7 +328,7 @@ pub fn put_buckets<S: Alter>(
     rows: &[Bucket],
 ) -> Result<(), Error>
     requires open { IsInside (state S.Store tx.old.conn.now) }
-    requires book { HasBook (state S.Store tx.old.conn.now) }
+    requires tables { HasTables (state S.Store tx.old.conn.now) }
     ensures { AttemptsOver S.Store (MakesIfOpen (with_buckets account.now rows.now))
         tx.old.conn tx.new.conn result }
 {

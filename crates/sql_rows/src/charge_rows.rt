@@ -6,7 +6,8 @@ ghost use Rattle.sql_rows.specs.Values.{charge_cells, charge_values, plain_charg
 ghost use Rattle.sql_rows.specs.Lists.{AreChargeRows, NumbersRise, is_row_within};
 ghost use Rattle.sql_rows.specs.Each.{with_charges};
 ghost use Rattle.sql_rows.specs.Makes.{AddsIfNone, Makes, MakesIfOpen};
-ghost use Rattle.sql_tables.specs.Statements.{HasBook, HasIdleBook, IsInside, Reads, AttemptsOver};
+ghost use Rattle.sql_tables.specs.Statements.{HasTables, HasIdleTables, IsInside, Reads};
+ghost use Rattle.sql_tables.specs.Statements.{AttemptsOver};
 ghost use Rattle.sqlite.specs.Held.{state};
 ghost use Rattle.sqlite.specs.State.{ExecutesInside};
 
@@ -72,7 +73,7 @@ pub fn put_charge<S: Alter>(
     account: &AccountNumber,
     charge: &ChargeRow,
 ) -> Result<(), Error>
-    requires book { HasBook (state S.Store tx.old.conn.now) }
+    requires tables { HasTables (state S.Store tx.old.conn.now) }
     ensures { AttemptsOver S.Store
         (Makes (with_rows account.now (with_charge_row (plain_charge charge.now))))
         tx.old.conn tx.new.conn result }
@@ -102,7 +103,7 @@ pub fn add_charge<S: Alter>(
     account: &AccountNumber,
     charge: &ChargeRow,
 ) -> Result<bool, Error>
-    requires book { HasBook (state S.Store tx.old.conn.now) }
+    requires tables { HasTables (state S.Store tx.old.conn.now) }
     ensures same_reference { tx.new.conn.ghost_name ≡ tx.old.conn.ghost_name }
     ensures adds { AddsIfNone (has_charge account.now charge.now.number)
         (with_rows account.now (with_charge_row (plain_charge charge.now)))
@@ -131,7 +132,7 @@ pub fn read_charges_within<S: Alter>(
     after: u32,
     last: u32,
 ) -> Result<Vec<ChargeRow>, ReadFault>
-    requires idle { HasIdleBook (state S.Store conn.old) }
+    requires idle { HasIdleTables (state S.Store conn.old) }
     ensures reads { Reads (λ trees xs.
         AreChargeRows (is_row_within after last) (rows_in trees account.now) xs.items)
         (state S.Store conn.old) (state S.Store conn.new) result }
@@ -218,7 +219,7 @@ pub fn put_charges<S: Alter>(
     rows: &[ChargeRow],
 ) -> Result<(), Error>
     requires open { IsInside (state S.Store tx.old.conn.now) }
-    requires book { HasBook (state S.Store tx.old.conn.now) }
+    requires tables { HasTables (state S.Store tx.old.conn.now) }
     ensures { AttemptsOver S.Store (MakesIfOpen (with_charges account.now rows.now))
         tx.old.conn tx.new.conn result }
 {

@@ -5,7 +5,7 @@ ghost use Rattle.sql_rows.specs.Content.{has_counter, rows_in, with_counter_row,
 ghost use Rattle.sql_rows.specs.Each.{with_counters};
 ghost use Rattle.sql_rows.specs.Values.{counter_cells, counter_values};
 ghost use Rattle.sql_rows.specs.Makes.{Makes, MakesIfOpen, ReplacesIfSome};
-ghost use Rattle.sql_tables.specs.Statements.{HasBook, HasIdleBook, IsInside, Reads};
+ghost use Rattle.sql_tables.specs.Statements.{HasTables, HasIdleTables, IsInside, Reads};
 ghost use Rattle.sql_tables.specs.Statements.{AttemptsOver};
 ghost use Rattle.sql_tables.specs.Selects.{one_or_none};
 ghost use Rattle.sqlite.specs.Held.{state};
@@ -51,7 +51,7 @@ fn replace_counter<S: Alter>(
     account: &AccountNumber,
     counter: &Counter,
 ) -> Result<bool, Error>
-    requires book { HasBook (state S.Store tx.old.conn.now) }
+    requires tables { HasTables (state S.Store tx.old.conn.now) }
     ensures same_reference { tx.new.conn.ghost_name ≡ tx.old.conn.ghost_name }
     ensures replaces { ReplacesIfSome (has_counter account.now counter.now.group counter.now.cycle)
         (with_rows account.now (with_counter_row counter.now))
@@ -76,7 +76,7 @@ fn insert_counter<S: Alter>(
     account: &AccountNumber,
     counter: &Counter,
 ) -> Result<(), Error>
-    requires book { HasBook (state S.Store tx.old.conn.now) }
+    requires tables { HasTables (state S.Store tx.old.conn.now) }
     ensures { AttemptsOver S.Store (Makes (with_rows account.now (with_counter_row counter.now)))
         tx.old.conn tx.new.conn result }
 {
@@ -103,7 +103,7 @@ pub fn put_counter<S: Alter>(
     account: &AccountNumber,
     counter: &Counter,
 ) -> Result<(), Error>
-    requires book { HasBook (state S.Store tx.old.conn.now) }
+    requires tables { HasTables (state S.Store tx.old.conn.now) }
     ensures { AttemptsOver S.Store (Makes (with_rows account.now (with_counter_row counter.now)))
         tx.old.conn tx.new.conn result }
 {
@@ -124,7 +124,7 @@ pub fn read_counter<S: Alter>(
     group: u32,
     cycle: u32,
 ) -> Result<Option<Counter>, ReadFault>
-    requires idle { HasIdleBook (state S.Store conn.old) }
+    requires idle { HasIdleTables (state S.Store conn.old) }
     ensures reads { Reads (λ trees o. o ≡ (rows_in trees account.now).counters group cycle)
         (state S.Store conn.old) (state S.Store conn.new) result }
 {
@@ -174,7 +174,7 @@ pub fn put_counters<S: Alter>(
     rows: &[Counter],
 ) -> Result<(), Error>
     requires open { IsInside (state S.Store tx.old.conn.now) }
-    requires book { HasBook (state S.Store tx.old.conn.now) }
+    requires tables { HasTables (state S.Store tx.old.conn.now) }
     ensures { AttemptsOver S.Store (MakesIfOpen (with_counters account.now rows.now))
         tx.old.conn tx.new.conn result }
 {

@@ -5,7 +5,7 @@ ghost use Rattle.sql_rows.specs.Content.{rows_in, with_covered, with_rows, witho
 ghost use Rattle.sql_rows.specs.Lists.{AreCovered, Ascends, covered_before};
 ghost use Rattle.sql_rows.specs.Values.{covered_cells};
 ghost use Rattle.sql_rows.specs.Makes.{Makes};
-ghost use Rattle.sql_tables.specs.Statements.{HasBook, HasIdleBook, Reads, AttemptsOver};
+ghost use Rattle.sql_tables.specs.Statements.{HasTables, HasIdleTables, Reads, AttemptsOver};
 ghost use Rattle.sqlite.specs.Held.{state};
 
 use crate::ascending::{InOrder, do_ascend};
@@ -37,7 +37,7 @@ pub fn put_covered<S: Alter>(
     charge: u32,
     covered: Blocks,
 ) -> Result<(), Error>
-    requires book { HasBook (state S.Store tx.old.conn.now) }
+    requires tables { HasTables (state S.Store tx.old.conn.now) }
     ensures { AttemptsOver S.Store (Makes (with_rows account.now
         (with_covered (record { number = charge; blocks = covered.0 })))) tx.old.conn tx.new.conn
         result }
@@ -63,7 +63,7 @@ pub fn remove_covered<S: Alter>(
     account: &AccountNumber,
     charge: u32,
 ) -> Result<(), Error>
-    requires book { HasBook (state S.Store tx.old.conn.now) }
+    requires tables { HasTables (state S.Store tx.old.conn.now) }
     ensures { AttemptsOver S.Store (Makes (with_rows account.now (without_covered charge)))
         tx.old.conn tx.new.conn result }
 {
@@ -98,7 +98,7 @@ pub fn read_covered_within<S: Alter>(
     after: u32,
     last: u32,
 ) -> Result<Vec<CoveredColumns>, ReadFault>
-    requires idle { HasIdleBook (state S.Store conn.old) }
+    requires idle { HasIdleTables (state S.Store conn.old) }
     ensures reads { Reads (λ trees xs.
         AreCovered after last (rows_in trees account.now) xs.items)
         (state S.Store conn.old) (state S.Store conn.new) result }

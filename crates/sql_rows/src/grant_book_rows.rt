@@ -4,7 +4,7 @@ ghost use Rattle.std.specs.Prelude.{◌≡◌, map, IfOk};
 ghost use Rattle.sql_rows.specs.Content.{rows_in, with_grant_book, with_rows, without_grant_book};
 ghost use Rattle.sql_rows.specs.Lists.{AreGrantBooks, Ascends, grant_book_before, grant_book_cells};
 ghost use Rattle.sql_rows.specs.Makes.{Makes};
-ghost use Rattle.sql_tables.specs.Statements.{HasBook, HasIdleBook, Reads, AttemptsOver};
+ghost use Rattle.sql_tables.specs.Statements.{HasTables, HasIdleTables, Reads, AttemptsOver};
 ghost use Rattle.sqlite.specs.Held.{state};
 
 use crate::ascending::{InOrder, do_ascend};
@@ -35,7 +35,7 @@ pub fn put_grant_book<S: Alter>(
     group: u32,
     book: u32,
 ) -> Result<(), Error>
-    requires book { HasBook (state S.Store tx.old.conn.now) }
+    requires tables { HasTables (state S.Store tx.old.conn.now) }
     ensures { AttemptsOver S.Store
         (Makes (with_rows account.now (with_grant_book session.now group book)))
         tx.old.conn tx.new.conn result }
@@ -64,7 +64,7 @@ pub fn remove_grant_book<S: Alter>(
     session: &SessionId,
     group: u32,
 ) -> Result<(), Error>
-    requires book { HasBook (state S.Store tx.old.conn.now) }
+    requires tables { HasTables (state S.Store tx.old.conn.now) }
     ensures { AttemptsOver S.Store
         (Makes (with_rows account.now (without_grant_book session.now group)))
         tx.old.conn tx.new.conn result }
@@ -99,7 +99,7 @@ pub fn read_grant_books<S: Alter>(
     account: &AccountNumber,
     session: &SessionId,
 ) -> Result<Vec<GrantBook>, ReadFault>
-    requires idle { HasIdleBook (state S.Store conn.old) }
+    requires idle { HasIdleTables (state S.Store conn.old) }
     ensures reads { Reads (λ trees xs.
         AreGrantBooks (rows_in trees account.now) session.now xs.items)
         (state S.Store conn.old) (state S.Store conn.new) result }

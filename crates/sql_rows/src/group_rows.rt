@@ -7,7 +7,7 @@ ghost use Rattle.sql_rows.specs.Content.{has_group, rows_in, with_group_row, wit
 ghost use Rattle.sql_rows.specs.Lists.{AreGroups, Ascends, group_at_before, group_at_cells};
 ghost use Rattle.sql_rows.specs.Texts.{ArePeriods, group_at, names_put};
 ghost use Rattle.sql_rows.specs.Makes.{Adds, Makes};
-ghost use Rattle.sql_tables.specs.Statements.{HasBook, HasIdleBook, Reads, AttemptsOver};
+ghost use Rattle.sql_tables.specs.Statements.{HasTables, HasIdleTables, Reads, AttemptsOver};
 ghost use Rattle.sqlite.specs.Held.{state};
 ghost use Rattle.sqlite.specs.Values.{bound_value, or_null};
 
@@ -115,7 +115,7 @@ pub fn put_group<S: Alter>(
     used: u64,
     periods: Option<PutNames<'_>>,
 ) -> Result<(), Error>
-    requires book { HasBook (state S.Store tx.old.conn.now) }
+    requires tables { HasTables (state S.Store tx.old.conn.now) }
     ensures { AttemptsOver S.Store (Makes (with_rows account.now (with_group_row session.now group
         (record { used = used; periods = option_map names_put periods.entry }))))
         tx.old.conn tx.new.conn result }
@@ -155,7 +155,7 @@ pub fn add_group<S: Alter>(
     used: u64,
     periods: Option<PutNames<'_>>,
 ) -> Result<(), Error>
-    requires book { HasBook (state S.Store tx.old.conn.now) }
+    requires tables { HasTables (state S.Store tx.old.conn.now) }
     ensures { AttemptsOver S.Store (Adds (has_group account.now session.now group)
         (with_rows account.now (with_group_row session.now group
         (record { used = used; periods = option_map names_put periods.entry }))))
@@ -190,7 +190,7 @@ pub fn read_groups<S: Alter>(
     account: &AccountNumber,
     session: &SessionId,
 ) -> Result<Vec<GroupColumns>, ReadFault>
-    requires idle { HasIdleBook (state S.Store conn.old) }
+    requires idle { HasIdleTables (state S.Store conn.old) }
     ensures reads { Reads (λ trees xs.
         AreGroups (rows_in trees account.now) session.now (map group_at xs.items))
         (state S.Store conn.old) (state S.Store conn.new) result }

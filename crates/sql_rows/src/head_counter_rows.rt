@@ -7,7 +7,7 @@ ghost use Rattle.sql_rows.specs.Content.{rows_in};
 ghost use Rattle.sql_rows.specs.Lists.{AreCountersAmong, AreCountersIn, Ascends, IsHeadAmong};
 ghost use Rattle.sql_rows.specs.Lists.{counter_part, head_part, of_part};
 ghost use Rattle.sql_rows.specs.Values.{nat};
-ghost use Rattle.sql_tables.specs.Statements.{HasIdleBook, Reads};
+ghost use Rattle.sql_tables.specs.Statements.{HasIdleTables, Reads};
 ghost use Rattle.sqlite.specs.Held.{state};
 ghost use Rattle.sqlite_value.specs.Order.{column};
 
@@ -53,7 +53,7 @@ pub fn read_head_counters<S: Alter>(
     account: &AccountNumber,
     cycle: u32,
 ) -> Result<HeadCounters, ReadFault>
-    requires idle { HasIdleBook (state S.Store conn.old) }
+    requires idle { HasIdleTables (state S.Store conn.old) }
     ensures reads { Reads (λ trees x. (x.head ≡ (rows_in trees account.now).head)
         × AreCountersIn cycle (rows_in trees account.now) x.counters.items)
         (state S.Store conn.old) (state S.Store conn.new) result }
@@ -108,7 +108,7 @@ pub fn read_head_cycles<S: Alter>(
     account: &AccountNumber,
     cycles: CycleNumbers,
 ) -> Result<HeadCycles, ReadFault>
-    requires idle { HasIdleBook (state S.Store conn.old) }
+    requires idle { HasIdleTables (state S.Store conn.old) }
     ensures reads { Reads (λ trees x. (x.head ≡ (rows_in trees account.now).head)
         × AreCountersIn cycles.never (rows_in trees account.now) x.never.items
         × AreCountersIn cycles.day (rows_in trees account.now) x.daily.items

@@ -5,7 +5,7 @@ ghost use Rattle.sql_rows.specs.Content.{rows_in, with_hold_row, with_rows, with
 ghost use Rattle.sql_rows.specs.Each.{with_holds};
 ghost use Rattle.sql_rows.specs.Lists.{AreHolds, Ascends, hold_before, hold_cells};
 ghost use Rattle.sql_rows.specs.Makes.{Makes, MakesIfOpen};
-ghost use Rattle.sql_tables.specs.Statements.{HasBook, HasIdleBook, IsInside, Reads};
+ghost use Rattle.sql_tables.specs.Statements.{HasTables, HasIdleTables, IsInside, Reads};
 ghost use Rattle.sql_tables.specs.Statements.{AttemptsOver};
 ghost use Rattle.sqlite.specs.Held.{state};
 
@@ -49,7 +49,7 @@ pub fn put_hold<S: Alter>(
     group: u32,
     hold: &HeldAmount,
 ) -> Result<(), Error>
-    requires book { HasBook (state S.Store tx.old.conn.now) }
+    requires tables { HasTables (state S.Store tx.old.conn.now) }
     ensures { AttemptsOver S.Store (Makes (with_rows account.now
         (with_hold_row session.now group hold.now.bucket hold.now.amount))) tx.old.conn tx.new.conn
         result }
@@ -79,7 +79,7 @@ pub fn remove_holds<S: Alter>(
     session: &SessionId,
     group: u32,
 ) -> Result<(), Error>
-    requires book { HasBook (state S.Store tx.old.conn.now) }
+    requires tables { HasTables (state S.Store tx.old.conn.now) }
     ensures { AttemptsOver S.Store (Makes (with_rows account.now (without_holds session.now group)))
         tx.old.conn tx.new.conn result }
 {
@@ -105,7 +105,7 @@ pub fn read_holds<S: Alter>(
     account: &AccountNumber,
     session: &SessionId,
 ) -> Result<Vec<HeldColumns>, ReadFault>
-    requires idle { HasIdleBook (state S.Store conn.old) }
+    requires idle { HasIdleTables (state S.Store conn.old) }
     ensures reads { Reads (λ trees xs.
         AreHolds (rows_in trees account.now) session.now xs.items)
         (state S.Store conn.old) (state S.Store conn.new) result }
@@ -161,7 +161,7 @@ pub fn put_holds<S: Alter>(
     rows: &[HeldAmount],
 ) -> Result<(), Error>
     requires open { IsInside (state S.Store tx.old.conn.now) }
-    requires book { HasBook (state S.Store tx.old.conn.now) }
+    requires tables { HasTables (state S.Store tx.old.conn.now) }
     ensures { AttemptsOver S.Store (MakesIfOpen (with_holds account.now session.now group rows.now))
         tx.old.conn tx.new.conn result }
 {

@@ -5,7 +5,8 @@ ghost use Rattle.buckets.specs.Row.{precedes};
 ghost use Rattle.sql_rows.specs.Content.{rows_in};
 ghost use Rattle.sql_rows.specs.Lists.{Ascends};
 ghost use Rattle.sql_rows.specs.Texts.{AreLive, bucket_row, columns_of, live_cells};
-ghost use Rattle.sql_tables.specs.Statements.{HasBook, HasIdleBook, HasRules, Reads, ReadsWithin};
+ghost use Rattle.sql_tables.specs.Statements.{HasTables, HasIdleTables, HasRules, Reads};
+ghost use Rattle.sql_tables.specs.Statements.{ReadsWithin};
 ghost use Rattle.sqlite.specs.Held.{state};
 
 use crate::ascending::{InOrder, do_ascend};
@@ -79,7 +80,7 @@ pub fn read_buckets_live<S: Alter>(
     alloc: Global,
     account: &AccountNumber,
 ) -> Result<Vec<LiveBucket>, ReadFault>
-    requires idle { HasIdleBook (state S.Store conn.old) }
+    requires idle { HasIdleTables (state S.Store conn.old) }
     ensures reads { Reads (λ trees xs. AreLive (rows_in trees account.now) xs.items)
         (state S.Store conn.old) (state S.Store conn.new) result }
     ensures order { IfOk result (λ xs. Ascends precedes (map bucket_row (columns_of xs.items))) }
@@ -112,7 +113,7 @@ pub fn read_buckets_live_within<S: Alter>(
     alloc: Global,
     account: &AccountNumber,
 ) -> Result<Vec<LiveBucket>, ReadFault>
-    requires book { HasBook (state S.Store tx.old.conn.now) }
+    requires tables { HasTables (state S.Store tx.old.conn.now) }
     requires rules { HasRules (state S.Store tx.old.conn.now) }
     ensures same_reference { tx.new.conn.ghost_name ≡ tx.old.conn.ghost_name }
     ensures reads { ReadsWithin (λ trees xs. AreLive (rows_in trees account.now) xs.items)

@@ -6,7 +6,7 @@ ghost use Rattle.sql_rows.specs.Ruled.{IsMetaRead, IsRefusedMeta, IsRuledMeta};
 ghost use Rattle.sql_rows.specs.Values.{Meta, meta_cells, nat};
 ghost use Rattle.sql_rows.specs.Texts.{meta_of};
 ghost use Rattle.sql_rows.specs.Makes.{Makes};
-ghost use Rattle.sql_tables.specs.Statements.{Attempts, HasBook, HasIdleBook, HasRules, Reads};
+ghost use Rattle.sql_tables.specs.Statements.{Attempts, HasTables, HasIdleTables, HasRules, Reads};
 ghost use Rattle.sql_tables.specs.Statements.{ReadsWithin};
 ghost use Rattle.sql_tables.specs.Selects.{one_or_none};
 ghost use Rattle.sqlite.specs.Held.{state};
@@ -41,7 +41,7 @@ pub fn put_meta<S: Alter>(
     book: &str,
     last: Moment,
 ) -> Result<(), Error>
-    requires book { HasBook (state S.Store tx.old.conn.now) }
+    requires tables { HasTables (state S.Store tx.old.conn.now) }
     ensures same_reference { tx.new.conn.ghost_name ≡ tx.old.conn.ghost_name }
     ensures makes { Attempts
         (Makes (with_meta (record { version = version; book = book.now; last = last })))
@@ -71,7 +71,7 @@ pub fn put_meta<S: Alter>(
 /// An error of the store. Then nothing is committed.
 // rule: statements-of-tables.tables-content
 pub fn put_last_moment<S: Alter>(tx: &mut Transaction<'_, S>, last: Moment) -> Result<(), Error>
-    requires book { HasBook (state S.Store tx.old.conn.now) }
+    requires tables { HasTables (state S.Store tx.old.conn.now) }
     requires rules { HasRules (state S.Store tx.old.conn.now) }
     ensures same_reference { tx.new.conn.ghost_name ≡ tx.old.conn.ghost_name }
     ensures makes { Attempts (Makes (with_last_moment last))
@@ -98,7 +98,7 @@ pub fn read_meta<S: Alter>(
     conn: &mut Connection<S>,
     version: u32,
 ) -> Result<Option<MetaColumns>, ReadFault>
-    requires idle { HasIdleBook (state S.Store conn.old) }
+    requires idle { HasIdleTables (state S.Store conn.old) }
     ensures reads { Reads (λ trees o. IsMetaRead version o (tables_content trees).meta)
         (state S.Store conn.old) (state S.Store conn.new) result }
     ensures version { IfOk result (λ o. IfSome o (λ m. m.version ≡ version)) }
@@ -123,7 +123,7 @@ pub fn read_meta_within<S: Alter>(
     tx: &mut Transaction<'_, S>,
     version: u32,
 ) -> Result<Option<MetaColumns>, ReadFault>
-    requires book { HasBook (state S.Store tx.old.conn.now) }
+    requires tables { HasTables (state S.Store tx.old.conn.now) }
     requires rules { HasRules (state S.Store tx.old.conn.now) }
     ensures same_reference { tx.new.conn.ghost_name ≡ tx.old.conn.ghost_name }
     ensures reads { ReadsWithin (λ trees o. IsMetaRead version o (tables_content trees).meta)

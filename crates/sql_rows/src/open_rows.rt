@@ -4,7 +4,8 @@
 ghost use Rattle.std.specs.Prelude.{◌≡◌, ◌≤◌, length, IfOk};
 ghost use Rattle.sql_rows.specs.Content.{rows_in};
 ghost use Rattle.sql_rows.specs.Texts.{AreOpenRows, DoOpenRowsRise, open_cells};
-ghost use Rattle.sql_tables.specs.Statements.{HasBook, HasIdleBook, HasRules, Reads, ReadsWithin};
+ghost use Rattle.sql_tables.specs.Statements.{HasTables, HasIdleTables, HasRules, Reads};
+ghost use Rattle.sql_tables.specs.Statements.{ReadsWithin};
 ghost use Rattle.sqlite.specs.Held.{state};
 
 use crate::decoding::is_of_part;
@@ -43,7 +44,7 @@ pub fn read_open_rows<S: Alter>(
     alloc: Global,
     account: &AccountNumber,
 ) -> Result<OpenRows, ReadFault>
-    requires idle { HasIdleBook (state S.Store conn.old) }
+    requires idle { HasIdleTables (state S.Store conn.old) }
     ensures reads { Reads (λ trees x. AreOpenRows (rows_in trees account.now) x)
         (state S.Store conn.old) (state S.Store conn.new) result }
     ensures order { IfOk result (λ x. DoOpenRowsRise x) }
@@ -73,7 +74,7 @@ pub fn read_open_rows_within<S: Alter>(
     alloc: Global,
     account: &AccountNumber,
 ) -> Result<OpenRows, ReadFault>
-    requires book { HasBook (state S.Store tx.old.conn.now) }
+    requires tables { HasTables (state S.Store tx.old.conn.now) }
     requires rules { HasRules (state S.Store tx.old.conn.now) }
     ensures same_reference { tx.new.conn.ghost_name ≡ tx.old.conn.ghost_name }
     ensures reads { ReadsWithin (λ trees x. AreOpenRows (rows_in trees account.now) x)

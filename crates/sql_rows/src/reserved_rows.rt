@@ -6,7 +6,7 @@ ghost use Rattle.sql_rows.specs.Content.{tables_content};
 ghost use Rattle.sql_rows.specs.Lists.{AreReserved, ReservedAt, reserved_cells};
 ghost use Rattle.sql_rows.specs.Ruled.{AreRuledReserved, IsRuledReserved};
 ghost use Rattle.sql_rows.specs.Texts.{reserved_at};
-ghost use Rattle.sql_tables.specs.Statements.{HasBook, HasRules, ReadsWithin};
+ghost use Rattle.sql_tables.specs.Statements.{HasTables, HasRules, ReadsWithin};
 ghost use Rattle.sqlite.specs.Held.{state};
 ghost use Rattle.sqlite.specs.State.{HasCleanDisk};
 
@@ -47,7 +47,7 @@ pub fn read_reserved_within<S: Alter>(
     tx: &mut Transaction<'_, S>,
     alloc: Global,
 ) -> Result<Vec<ReservedColumns>, ReadFault>
-    requires book { HasBook (state S.Store tx.old.conn.now) }
+    requires tables { HasTables (state S.Store tx.old.conn.now) }
     requires rules { HasRules (state S.Store tx.old.conn.now) }
     ensures same_reference { tx.new.conn.ghost_name ≡ tx.old.conn.ghost_name }
     ensures reads { ReadsWithin

@@ -7,7 +7,7 @@ ghost use Rattle.sql_rows.specs.Lists.{AreSessions, Ascends, HasNoGroups};
 ghost use Rattle.reserving.specs.Sessions.{is_open, session_before};
 ghost use Rattle.sql_rows.specs.Each.{with_sessions};
 ghost use Rattle.sql_rows.specs.Makes.{Adds, Makes, MakesIfOpen};
-ghost use Rattle.sql_tables.specs.Statements.{HasBook, HasIdleBook, HasRules, IsInside};
+ghost use Rattle.sql_tables.specs.Statements.{HasTables, HasIdleTables, HasRules, IsInside};
 ghost use Rattle.sql_tables.specs.Statements.{Reads, ReadsWithin, AttemptsOver};
 ghost use Rattle.sql_tables.specs.Selects.{one_or_none};
 ghost use Rattle.sqlite.specs.Held.{state};
@@ -65,7 +65,7 @@ pub fn put_session<S: Alter>(
     account: &AccountNumber,
     session: &Session,
 ) -> Result<(), Error>
-    requires book { HasBook (state S.Store tx.old.conn.now) }
+    requires tables { HasTables (state S.Store tx.old.conn.now) }
     ensures { AttemptsOver S.Store (Makes (with_rows account.now (with_session_row session.now)))
         tx.old.conn tx.new.conn result }
 {
@@ -92,7 +92,7 @@ pub fn add_session<S: Alter>(
     account: &AccountNumber,
     session: &Session,
 ) -> Result<(), Error>
-    requires book { HasBook (state S.Store tx.old.conn.now) }
+    requires tables { HasTables (state S.Store tx.old.conn.now) }
     ensures { AttemptsOver S.Store (Adds (has_session account.now session.now.id)
         (with_rows account.now (with_session_row session.now)))
         tx.old.conn tx.new.conn result }
@@ -130,7 +130,7 @@ pub fn read_session<S: Alter>(
     account: &AccountNumber,
     session: &SessionId,
 ) -> Result<Option<Session>, ReadFault>
-    requires idle { HasIdleBook (state S.Store conn.old) }
+    requires idle { HasIdleTables (state S.Store conn.old) }
     ensures reads { Reads (λ trees o. o ≡ (rows_in trees account.now).sessions session.now)
         (state S.Store conn.old) (state S.Store conn.new) result }
     ensures none { HasCleanDisk (state S.Store conn.new) → IfOk result (λ o. o ≡ None →
@@ -182,7 +182,7 @@ pub fn read_sessions_open<S: Alter>(
     alloc: Global,
     account: &AccountNumber,
 ) -> Result<Vec<Session>, ReadFault>
-    requires idle { HasIdleBook (state S.Store conn.old) }
+    requires idle { HasIdleTables (state S.Store conn.old) }
     ensures reads { Reads (λ trees xs.
         AreSessions (λ x. is_open x.state) (rows_in trees account.now) xs.items)
         (state S.Store conn.old) (state S.Store conn.new) result }
@@ -207,7 +207,7 @@ pub fn read_sessions_open_within<S: Alter>(
     alloc: Global,
     account: &AccountNumber,
 ) -> Result<Vec<Session>, ReadFault>
-    requires book { HasBook (state S.Store tx.old.conn.now) }
+    requires tables { HasTables (state S.Store tx.old.conn.now) }
     requires rules { HasRules (state S.Store tx.old.conn.now) }
     ensures same_reference { tx.new.conn.ghost_name ≡ tx.old.conn.ghost_name }
     ensures reads { ReadsWithin (λ trees xs.
@@ -250,7 +250,7 @@ pub fn put_sessions<S: Alter>(
     rows: &[Session],
 ) -> Result<(), Error>
     requires open { IsInside (state S.Store tx.old.conn.now) }
-    requires book { HasBook (state S.Store tx.old.conn.now) }
+    requires tables { HasTables (state S.Store tx.old.conn.now) }
     ensures { AttemptsOver S.Store (MakesIfOpen (with_sessions account.now rows.now))
         tx.old.conn tx.new.conn result }
 {
@@ -271,7 +271,7 @@ pub fn add_sessions<S: Alter>(
     rows: &[Session],
 ) -> Result<(), Error>
     requires open { IsInside (state S.Store tx.old.conn.now) }
-    requires book { HasBook (state S.Store tx.old.conn.now) }
+    requires tables { HasTables (state S.Store tx.old.conn.now) }
     ensures { AttemptsOver S.Store (MakesIfOpen (with_sessions account.now rows.now))
         tx.old.conn tx.new.conn result }
 {

@@ -6,7 +6,7 @@ ghost use Rattle.sqlite_value.specs.declared.value.Value.TheVariants.{Text};
 ghost use Rattle.sql_rows.specs.Content.{tables_content, with_voucher_row};
 ghost use Rattle.sql_rows.specs.Values.{voucher_cells};
 ghost use Rattle.sql_rows.specs.Makes.{Makes};
-ghost use Rattle.sql_tables.specs.Statements.{HasBook, HasIdleBook, Reads, AttemptsOver};
+ghost use Rattle.sql_tables.specs.Statements.{HasTables, HasIdleTables, Reads, AttemptsOver};
 ghost use Rattle.sql_tables.specs.Selects.{one_or_none};
 ghost use Rattle.sqlite.specs.Held.{state};
 ghost use Rattle.sqlite.specs.Values.{bound_value, or_null};
@@ -59,7 +59,7 @@ pub fn put_voucher<S: Alter>(
     scope: Option<u32>,
     account: Option<&AccountNumber>,
 ) -> Result<(), Error>
-    requires book { HasBook (state S.Store tx.old.conn.now) }
+    requires tables { HasTables (state S.Store tx.old.conn.now) }
     ensures { AttemptsOver S.Store (Makes (with_voucher_row code.now (record {
       amount = amount;
       days = days;
@@ -93,7 +93,7 @@ pub fn read_voucher<S: Alter>(
     alloc: Global,
     code: &str,
 ) -> Result<Option<VoucherColumns>, ReadFault>
-    requires idle { HasIdleBook (state S.Store conn.old) }
+    requires idle { HasIdleTables (state S.Store conn.old) }
     ensures reads { Reads (λ trees o. o ≡ (tables_content trees).vouchers code.now)
         (state S.Store conn.old) (state S.Store conn.new) result }
 {

@@ -19,7 +19,7 @@ use Rattle.sqlite_schema.specs.Rules.{Fits}
 use Rattle.sqlite_rules.specs.Lists.{Has}
 use Rattle.sqlite_rules.proofs.ListLemmas.{all_has}
 use Rattle.sql_tables.specs.Keyed.{look}
-use Rattle.sql_tables.specs.Schema.{accounts, allowance_buckets, answers, book_schema, books}
+use Rattle.sql_tables.specs.Schema.{accounts, allowance_buckets, answers, our_schema, books}
 use Rattle.sql_tables.specs.Schema.{buckets}
 use Rattle.sql_tables.specs.Schema.{charges, counters, covered, grant_books, holds, key_index}
 use Rattle.sql_tables.specs.Schema.{latest, meta, session_groups, sessions, vouchers}
@@ -124,7 +124,7 @@ record HasRows (shelf : Shelf) (trees : Trees) (at : ℕ) : Type 0 where
   pub stored : IsStored (trees (table_at at).tree)
   pub rows : AllByRecursion (λ r. IsTrue (rule_at shelf at r)) (trees (table_at at).tree)
 
-module _ (shelf : Shelf) (trees : Trees) (fits : Fits book_schema trees)
+module _ (shelf : Shelf) (trees : Trees) (fits : Fits our_schema trees)
     (all : AreRuled shelf latest trees) where
   abbrev last : ℕ
   last = last_kept trees
@@ -148,7 +148,7 @@ module _ (shelf : Shelf) (trees : Trees) (fits : Fits book_schema trees)
   one_meta =
       let so : HasRows shelf trees 0 = ruled 0 (omega arith) in
       alone (trees meta.tree) (λ r s h k.
-      one_row meta.primary book_schema meta (inl refl) (key_index meta) (inl refl) refl refl refl
+      one_row meta.primary our_schema meta (inl refl) (key_index meta) (inl refl) refl refl refl
       trees fits so.stored meta_key
       (λ x e. full_key meta.primary meta_key x (refl, tt) e) r s h k
       (meta_meets (column r 1) (and_parts (nat_eq 1 (nat_in (column r 1)))

@@ -21,7 +21,7 @@ use Rattle.sqlite_schema.specs.Rules.{Fits, are_present, guards, passes}
 use Rattle.sqlite_rules.specs.Lists.{Has}
 use Rattle.sqlite_rules.proofs.ListLemmas.{all_has}
 use Rattle.sql_tables.specs.Keyed.{entries_of, key_of, look, IsStored}
-use Rattle.sql_tables.specs.Schema.{book_schema, key_index, latest}
+use Rattle.sql_tables.specs.Schema.{our_schema, key_index, latest}
 use Rattle.sql_tables.specs.Statements.{AreStored}
 use Rattle.sql_tables.proofs.Selections.{full_key, meets, met_has, met_some, one_row}
 use Rattle.sql_rules.proofs.Lookups.{untimed}
@@ -53,10 +53,10 @@ front_full (c ∷ cs) place (suc m) row full low h =
 
 -- ---- one table
 
-module _ (table : Table) (tabled : Has book_schema.tables table)
-    (listed : Has book_schema.indexes (key_index table))
+module _ (table : Table) (tabled : Has our_schema.tables table)
+    (listed : Has our_schema.indexes (key_index table))
     (guarding : guards (key_index table) table ≡ true) (trees : Trees)
-    (fits : Fits book_schema trees) (stored : IsStored (trees table.tree)) (rule : Row → Bool)
+    (fits : Fits our_schema trees) (stored : IsStored (trees table.tree)) (rule : Row → Bool)
     (free : (r : Row) → rule (Null ∷ drop 1 r) ≡ rule r) where
   looked : (key : Row) → look table trees key
       ≡ look_in row_cmp key (entries_of table.primary (trees table.tree))
@@ -81,7 +81,7 @@ module _ (table : Table) (tabled : Has book_schema.tables table)
       let back = met_some table.primary key it.0 (trees table.tree) it.1 in
       let full' : AllByRecursion (λ v. is_null v ≡ false) key =
       all-map (λ v. is_null v ≡ false) (column r) table.primary full in
-      let same : back.0 ≡ r = one_row table.primary book_schema table tabled (key_index table)
+      let same : back.0 ≡ r = one_row table.primary our_schema table tabled (key_index table)
       listed guarding refl refl trees fits stored key
       (λ x e. full_key table.primary key x full' e) back.0 r back.1 has back.2 tie in
       looked key ∙ it.1 ∙ ap Some (back.3 ∙ ap (drop 1) same)
@@ -95,7 +95,7 @@ module _ (table : Table) (tabled : Has book_schema.tables table)
       let back = met_some table.primary key it.0 (trees table.tree) it.1 in
       let full' : AllByRecursion (λ v. is_null v ≡ false) key =
       all-map (λ v. is_null v ≡ false) (column r) table.primary full in
-      let same : back.0 ≡ r = one_row table.primary book_schema table tabled (key_index table)
+      let same : back.0 ≡ r = one_row table.primary our_schema table tabled (key_index table)
       listed guarding refl refl trees fits stored key
       (λ x e. full_key table.primary key x full' e) back.0 r back.1 has back.2 tie in
       sym (free r)
@@ -121,8 +121,8 @@ module _ (table : Table) (tabled : Has book_schema.tables table)
 
 -- what is read off a table
 pub record IsKeyed (table : Table) : Type 0 where
-  pub tabled : Has book_schema.tables table
-  pub listed : Has book_schema.indexes (key_index table)
+  pub tabled : Has our_schema.tables table
+  pub listed : Has our_schema.indexes (key_index table)
   pub guarding : guards (key_index table) table ≡ true
   pub front : ℕ
   pub primary : table.primary ≡ places_from 1 front
@@ -320,13 +320,13 @@ free_rule shelf last
     omega arith in
     ap (λ b. true && b) (untimed last _ (Null ∷ drop 1 r) high ∙ sym (untimed last _ r high))
 
-module _ (shelf : Shelf) (trees : Trees) (fits : Fits book_schema trees) where
+module _ (shelf : Shelf) (trees : Trees) (fits : Fits our_schema trees) where
   pub full_rows : (table : Table) → IsKeyed table → (r : Row) → Has (trees table.tree) r
       → AllByRecursion (λ p. is_null (column r p) ≡ false) table.primary
   full_rows table is r has =
       let rows = all_has (λ (t : Table).
-      AllByRecursion (λ row. passes NotNull book_schema trees t row ≡ true) (trees t.tree))
-      book_schema.tables table (fits.rules NotNull (λ e. cc)) is.tabled in
+      AllByRecursion (λ row. passes NotNull our_schema trees t row ≡ true) (trees t.tree))
+      our_schema.tables table (fits.rules NotNull (λ e. cc)) is.tabled in
       let there = all_has (λ row. are_present table.key 0 table.columns row ≡ true)
       (trees table.tree) r rows has in
       subst (AllByRecursion (λ p. is_null (column r p) ≡ false)) (sym is.primary)
@@ -345,7 +345,7 @@ module _ (shelf : Shelf) (trees : Trees) (fits : Fits book_schema trees) where
   mapped_ruled stored so at low =
       let is = keyed at low in
       let here : IsStored (trees (table_at at).tree) =
-      all_has (λ (t : Table). IsStored (trees t.tree)) book_schema.tables (table_at at) stored
+      all_has (λ (t : Table). IsStored (trees t.tree)) our_schema.tables (table_at at) stored
       is.tabled in
       record {
         stored = here;

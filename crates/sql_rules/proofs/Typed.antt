@@ -16,7 +16,7 @@ use Rattle.sqlite_schema.specs.declared.schema.Table.{Table}
 use Rattle.sqlite_schema.specs.Rules.{Fits, are_typed, is_of, passes, passes_checks, suits}
 use Rattle.sqlite_rules.specs.Lists.{Has}
 use Rattle.sqlite_rules.proofs.ListLemmas.{all_has}
-use Rattle.sql_tables.specs.Schema.{book_schema}
+use Rattle.sql_tables.specs.Schema.{our_schema}
 use Rattle.sql_rows.specs.Values.{nat, nat_in, text_in}
 use Rattle.sql_rows.proofs.rules.MetaRules.{right_at, text_of, whole_in}
 use Rattle.sql_rules.proofs.MappedRows.{IsKeyed}
@@ -57,23 +57,23 @@ column_after (v ∷ vs) k full = refl
 
 -- ---- a row of a table
 
-module _ (trees : Trees) (fits : Fits book_schema trees) (table : Table) (is : IsKeyed table)
+module _ (trees : Trees) (fits : Fits our_schema trees) (table : Table) (is : IsKeyed table)
     (r : Row) (has : Has (trees table.tree) r) (alone : table.key ≡ None) where
   kinds : are_typed None 0 table.columns (drop 1 r) ≡ true
   kinds =
       let rows = all_has (λ (t : Table).
-      AllByRecursion (λ row. passes Datatype book_schema trees t row ≡ true) (trees t.tree))
-      book_schema.tables table (fits.rules Datatype (λ e. cc)) is.tabled in
+      AllByRecursion (λ row. passes Datatype our_schema trees t row ≡ true) (trees t.tree))
+      our_schema.tables table (fits.rules Datatype (λ e. cc)) is.tabled in
       subst (λ k. are_typed k 0 table.columns (drop 1 r) ≡ true) alone
       (and_parts (are_typed table.key 0 table.columns (drop 1 r)) _
-      (all_has (λ row. passes Datatype book_schema trees table row ≡ true) (trees table.tree) r rows
+      (all_has (λ row. passes Datatype our_schema trees table row ≡ true) (trees table.tree) r rows
       has)).0
 
   checks : passes_checks table r ≡ true
   checks =
       let rows = all_has (λ (t : Table).
-      AllByRecursion (λ row. passes Check book_schema trees t row ≡ true) (trees t.tree))
-      book_schema.tables table (fits.rules Check (λ e. cc)) is.tabled in
+      AllByRecursion (λ row. passes Check our_schema trees t row ≡ true) (trees t.tree))
+      our_schema.tables table (fits.rules Check (λ e. cc)) is.tabled in
       all_has (λ row. passes_checks table row ≡ true) (trees table.tree) r rows has
 
   -- a column that isn't NULL

@@ -23,7 +23,7 @@ use Rattle.sqlite_schema.specs.Rules.{Fits, is_of, passes_checks, suits}
 use Rattle.sqlite_rules.specs.Lists.{Has}
 use Rattle.sqlite_rules.proofs.ListLemmas.{all_has}
 use Rattle.sql_tables.specs.Keyed.{IsStored, entries_of, key_of, look}
-use Rattle.sql_tables.specs.Schema.{answers, at_least_zero, book_schema}
+use Rattle.sql_tables.specs.Schema.{answers, at_least_zero, our_schema}
 use Rattle.sql_tables.specs.Schema.{books, buckets, charges, counters, covered, grant_books, holds}
 use Rattle.sql_tables.specs.Schema.{latest, meta, number, sessions, vouchers}
 use Rattle.sql_tables.specs.Statements.{AreStored}
@@ -105,7 +105,7 @@ number_one k e = grind (arith, nat_tests, e)
 
 -- ---- the rows of the tables
 
-module _ (shelf : Shelf) (trees : Trees) (fits : Fits book_schema trees) where
+module _ (shelf : Shelf) (trees : Trees) (fits : Fits our_schema trees) where
   abbrev pub Stands : ℕ → Row → Type 0
   Stands at r = Has (trees (table_at at).tree) r
 
@@ -291,7 +291,7 @@ module _ (shelf : Shelf) (trees : Trees) (fits : Fits book_schema trees) where
     stands at low r has =
         let is = keyed at low in
         under_key (table_at at) is.tabled is.listed is.guarding trees fits
-        (all_has (λ (t : Table). IsStored (trees t.tree)) book_schema.tables (table_at at) stored
+        (all_has (λ (t : Table). IsStored (trees t.tree)) our_schema.tables (table_at at) stored
         is.tabled) (λ x. true) (λ x. refl) r has (full at low r has)
 
     -- what the content has of a row
@@ -412,7 +412,7 @@ module _ (shelf : Shelf) (trees : Trees) (fits : Fits book_schema trees) where
       -- rule: rows-ruled.in-rules
       pub rows_ruled : AreRuled shelf latest trees
       rows_ruled at low = record {
-        stored = all_has (λ (t : Table). IsStored (trees t.tree)) book_schema.tables (table_at at)
+        stored = all_has (λ (t : Table). IsStored (trees t.tree)) our_schema.tables (table_at at)
             stored (keyed at low).tabled;
         rows = all_from (λ r. IsTrue (passes_at shelf (last_kept trees) at r))
             (trees (table_at at).tree)

@@ -7,7 +7,7 @@ use Rattle.sqlite_schema.specs.Rules.{Fits}
 use Rattle.sqlite_schema.specs.declared.schema.Table.{Table}
 use Rattle.sqlite_trees.specs.Tree.{Trees}
 use Rattle.shelves.specs.Shelves.{Shelf}
-use Rattle.sql_tables.specs.Schema.{book_schema, latest}
+use Rattle.sql_tables.specs.Schema.{our_schema, latest}
 use Rattle.sql_tables.specs.Statements.{AreStored, Changes, Ends}
 use Rattle.sql_rows.specs.Content.{tables_content}
 use Rattle.sql_rows.specs.Plain.{ArePlain}
@@ -17,23 +17,23 @@ use Rattle.sql_rules.specs.Tables.{AreRuled}
 
 -- where each row is in its rules, so is what the tables hold
 abbrev pub RuledRowsAreTold : Type 0
-RuledRowsAreTold = (shelf : Shelf) (trees : Trees) → Fits book_schema trees
+RuledRowsAreTold = (shelf : Shelf) (trees : Trees) → Fits our_schema trees
     → AreRuled shelf latest trees → IsInRules shelf (tables_content trees)
 
 -- where what they hold is, so are the rows, if they are as the statements write them
 abbrev pub ContentIsOfRuledRows : Type 0
-ContentIsOfRuledRows = (shelf : Shelf) (trees : Trees) → Fits book_schema trees → AreStored trees
+ContentIsOfRuledRows = (shelf : Shelf) (trees : Trees) → Fits our_schema trees → AreStored trees
     → ArePlain trees → IsTrue (is_some (tables_content trees).meta)
     → IsInRules shelf (tables_content trees) → AreRuled shelf latest trees
 
 -- where each row is in its rules, so is what is under each key
 abbrev pub RuledRowsAreMapped : Type 0
-RuledRowsAreMapped = (shelf : Shelf) (trees : Trees) → Fits book_schema trees
+RuledRowsAreMapped = (shelf : Shelf) (trees : Trees) → Fits our_schema trees
     → AreRuled shelf latest trees → AreMapped shelf trees
 
 -- and back, as long as no rowid comes twice
 abbrev pub MappedRowsAreRuled : Type 0
-MappedRowsAreRuled = (shelf : Shelf) (trees : Trees) → Fits book_schema trees → AreStored trees
+MappedRowsAreRuled = (shelf : Shelf) (trees : Trees) → Fits our_schema trees → AreStored trees
     → AreMapped shelf trees → AreRuled shelf latest trees
 
 -- a row that is put in its rules leaves its table in its rules

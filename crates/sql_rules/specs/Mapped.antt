@@ -8,7 +8,7 @@ use Rattle.sqlite_value.specs.Order.{Row}
 use Rattle.sqlite_trees.specs.Tree.{Trees}
 use Rattle.sqlite_schema.specs.declared.schema.Table.{Table}
 use Rattle.sql_tables.specs.Keyed.{look}
-use Rattle.sql_tables.specs.Schema.{book_schema}
+use Rattle.sql_tables.specs.Schema.{our_schema}
 use Rattle.sql_rules.specs.Rules.{passes_at}
 use Rattle.sql_rules.specs.Tables.{last_kept, table_at}
 
@@ -22,5 +22,5 @@ IsMapped rule table trees =
 -- in each table of the latest version
 -- rule: rows-ruled.mapped
 abbrev pub AreMapped : Shelf → Trees → Type 0
-AreMapped shelf trees = (at : ℕ) → at < length book_schema.tables
+AreMapped shelf trees = (at : ℕ) → at < length our_schema.tables
     → IsMapped (passes_at shelf (last_kept trees) at) (table_at at) trees

@@ -19,7 +19,7 @@ use Rattle.sqlite.proofs.Callers.{command_of}
 use Rattle.sqlite.specs.State.{State, HasCleanDisk, IsUnchanged, Survives}
 use Rattle.sql_rows.specs.Content.{tables_content}
 use Rattle.sql_tables.specs.Keyed.{IsStored}
-use Rattle.sql_tables.specs.Schema.{book_schema, meta, schema_at}
+use Rattle.sql_tables.specs.Schema.{our_schema, meta, schema_at}
 use Rattle.sql_tables.specs.Statements.{Spares}
 use Rattle.sql_tables.specs.declared.fault.OpenFault.{OpenFault}
 use Rattle.sql_tables.specs.declared.fault.OpenFault.TheVariants.{Foreign, Version, Rules, Older}
@@ -30,7 +30,7 @@ use Rattle.sql_rules.specs.Ruled.{last_in}
 
 -- the table at a place among those of all versions
 abbrev pub table_at : ℕ → Table
-table_at at = slice_index_or book_schema.tables at meta
+table_at at = slice_index_or our_schema.tables at meta
 
 -- no rowid comes twice in the table at this place, and each row is in its rules and timely
 pub record IsRuledAt (shelf : Shelf) (last : Moment) (at : ℕ) (trees : Trees) : Type 0 where

@@ -2,7 +2,7 @@
 
 ghost use Rattle.std.specs.Prelude.{◌≡◌, ◌<◌, length, IfOk};
 ghost use Rattle.sqlite_value.specs.Order.{column};
-ghost use Rattle.sql_tables.specs.Schema.{book_schema};
+ghost use Rattle.sql_tables.specs.Schema.{our_schema};
 ghost use Rattle.sql_rules.specs.Columns.{is_end, is_moment, is_next, is_numbering, is_small};
 ghost use Rattle.sql_rules.specs.Columns.{number_at};
 ghost use Rattle.sql_rules.specs.Rules.{are_periods, is_answer_key, is_period, is_ruled_account};
@@ -204,7 +204,7 @@ fn is_ruled_covered(row: &Row) -> bool
 /// Lack of memory, for the texts that are kept of a command alone.
 // rule: rows-ruled
 fn is_ruled(alloc: Global, shelf: &TariffShelf, at: usize, row: &Row) -> Result<bool, AllocError>
-    requires { at < length book_schema.tables }
+    requires { at < length our_schema.tables }
     ensures { IfOk result (λ b. b ≡ rule_at shelf.now at row.now) }
 {
     match at {
@@ -262,7 +262,7 @@ pub(crate) fn passes(
     at: usize,
     row: &Row,
 ) -> Result<bool, AllocError>
-    requires { at < length book_schema.tables }
+    requires { at < length our_schema.tables }
     ensures { IfOk result (λ b. b ≡ passes_at shelf.now last at row.now) }
 {
     let is_ruled = is_ruled(alloc, shelf, at, row)?;

@@ -8,7 +8,7 @@ ghost use Rattle.sqlite.specs.Given.{IsPlain};
 ghost use Rattle.sqlite.specs.Held.{Held, state};
 ghost use Rattle.sqlite.specs.Listing.{understood};
 ghost use Rattle.sqlite.specs.State.{HasCleanDisk, IsUnchanged, Shown, Survives};
-ghost use Rattle.sql_tables.specs.Schema.{book_schema, schema_at};
+ghost use Rattle.sql_tables.specs.Schema.{our_schema, schema_at};
 ghost use Rattle.sql_tables.specs.Opens.{IsVersion};
 ghost use Rattle.sql_tables.specs.Rises.{IsAbove};
 ghost use Rattle.sql_tables.specs.Statements.{Spares};
@@ -80,7 +80,7 @@ fn with_row(
     walk: Walk,
     row: &Row,
 ) -> Result<Walk, Error>
-    requires { at < length book_schema.tables }
+    requires { at < length our_schema.tables }
     ensures { IfOk result (λ w. (given : List Values)
         → Walks (passes_at shelf.now last at) walk.passes walk.last given
         → Walks (passes_at shelf.now last at) w.passes w.last (given ++ row.now ∷ [])) }
@@ -104,7 +104,7 @@ fn do_pass<S: Alter>(
 ) -> Result<bool, Error>
     requires plain { HasCleanDisk (state S.Store conn.old) →
         IsPlain (understood conn.old.schema sql.now) }
-    requires place { at < length book_schema.tables }
+    requires place { at < length our_schema.tables }
     ensures walk { HasCleanDisk (state S.Store conn.new) →
         IfOk result (λ passes. (was : Held S) × (rows : List Values)
         × IsUnchanged (state S.Store conn.old) (state S.Store was)
@@ -153,7 +153,7 @@ pub(crate) fn table_passes<S: Alter>(
     at: usize,
 ) -> Result<(), OpenFault>
     requires known { IsVersion version }
-    requires place { at < length book_schema.tables }
+    requires place { at < length our_schema.tables }
     requires most { HasCleanDisk (state S.Store conn.old) →
         at < length (schema_at version).tables }
     requires ours { HasCleanDisk (state S.Store conn.old) → conn.old.schema ≡ schema_at version }

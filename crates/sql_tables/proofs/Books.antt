@@ -10,10 +10,10 @@ use Rattle.sqlite_schema.specs.declared.schema.Index.{Index}
 use Rattle.sqlite_rules.specs.Edit.{IsNoIndex}
 use Rattle.sql_tables.specs.Keyed.{IsStored}
 use Rattle.sql_tables.specs.Statements.{AreStored}
-use Rattle.sql_tables.specs.Schema.{book_schema}
+use Rattle.sql_tables.specs.Schema.{our_schema}
 
 abbrev is_no_index : ℕ → Bool
-is_no_index tree = list_all (λ (i : Index). not (i.tree == tree)) book_schema.indexes
+is_no_index tree = list_all (λ (i : Index). not (i.tree == tree)) our_schema.indexes
 
 no_index : (is : List Index) (tree : ℕ) → list_all (λ (i : Index). not (i.tree == tree)) is ≡ true →
     AllByRecursion (λ i. i.tree ≢ tree) is
@@ -32,20 +32,20 @@ no_index (i ∷ is) tree h = let both = and_parts _ _ h in (
         reflexive b e = let t : (b == b) ≡ true = eq-eqb b b refl in
             let f : false ≡ true = sym (ap not t) ∙ e in cc
 
-tables_free : list_all (λ (t : Table). is_no_index t.tree) book_schema.tables ≡ true
+tables_free : list_all (λ (t : Table). is_no_index t.tree) our_schema.tables ≡ true
 tables_free = refl
 
 catalog_free : is_no_index catalog_tree ≡ true
 catalog_free = refl
 
 module _ (table : Table) (db next : Trees) (stored : IsStored (next table.tree))
-    (kept : (t : ℕ) → t ≢ table.tree → IsNoIndex book_schema t → next t ≡ db t) where
+    (kept : (t : ℕ) → t ≢ table.tree → IsNoIndex our_schema t → next t ≡ db t) where
   same_tables : (ts : List Table) → list_all (λ (t : Table). is_no_index t.tree) ts ≡ true →
       AllByRecursion (λ (t : Table). t.tree ≢ table.tree → next t.tree ≡ db t.tree) ts
   same_tables [] h = tt
   same_tables (t ∷ ts) h = let both = and_parts _ _ h in (
     (λ other. kept t.tree other
-        (no_index book_schema.indexes t.tree both.0)),
+        (no_index our_schema.indexes t.tree both.0)),
     same_tables ts both.1,
   )
 
@@ -63,12 +63,12 @@ module _ (table : Table) (db next : Trees) (stored : IsStored (next table.tree))
           table.tree is in let f : true ≡ false = sym yes' ∙ e in cc))) h.0
 
   pub others : AllByRecursion (λ (t : Table). t.tree ≢ table.tree →
-      next t.tree ≡ db t.tree) book_schema.tables
-  others = same_tables book_schema.tables tables_free
+      next t.tree ≡ db t.tree) our_schema.tables
+  others = same_tables our_schema.tables tables_free
 
   pub stays_stored : AreStored db → AreStored next
-  stays_stored h = stored_tables book_schema.tables others h
+  stays_stored h = stored_tables our_schema.tables others h
 
   pub catalog_stays : catalog_tree ≢ table.tree → next catalog_tree ≡ db catalog_tree
   catalog_stays other =
-      kept catalog_tree other (no_index book_schema.indexes catalog_tree catalog_free)
+      kept catalog_tree other (no_index our_schema.indexes catalog_tree catalog_free)

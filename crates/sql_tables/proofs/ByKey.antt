@@ -13,7 +13,7 @@ use Rattle.sqlite_schema.specs.declared.schema.Table.{Table}
 use Rattle.sqlite_schema.specs.Rules.{Fits, guards}
 use Rattle.sqlite_rules.specs.Lists.{Has}
 use Rattle.sql_tables.specs.Keyed.{key_of, look, IsStored}
-use Rattle.sql_tables.specs.Schema.{book_schema, key_index}
+use Rattle.sql_tables.specs.Schema.{our_schema, key_index}
 use Rattle.sql_tables.specs.Selects.{Selects, passing, one_or_none}
 use Rattle.sql_tables.proofs.Keys.{keys_back}
 use Rattle.sql_tables.proofs.Selected.{AreAnswered, selected}
@@ -32,9 +32,9 @@ first_in : {X : Type 0} (o : Option X) → find (λ x. true) (one_or_none o) ≡
 first_in None = refl
 first_in (Some x) = refl
 
-module _ (table : Table) (tabled : Has book_schema.tables table)
-    (listed : Has book_schema.indexes (key_index table)) (guarding : guards (key_index table) table
-    ≡ true) (trees : Trees) (fits : Fits book_schema trees) (stored : IsStored (trees table.tree))
+module _ (table : Table) (tabled : Has our_schema.tables table)
+    (listed : Has our_schema.indexes (key_index table)) (guarding : guards (key_index table) table
+    ≡ true) (trees : Trees) (fits : Fits our_schema trees) (stored : IsStored (trees table.tree))
     {X : Type 0} (of : Row → X) (cells : X → Row) (columns : Row → Row)
     (test : Row → Bool) (key : Row) (full : AllByRecursion (λ v. is_null v ≡ false) key)
     (back : (x : X) (r : Row) → meets table.primary key r ≡ true → cells x ≡ columns r →
@@ -45,7 +45,7 @@ module _ (table : Table) (tabled : Has book_schema.tables table)
       → o ≡ option_map of (look table trees key)
   one_told means o selects =
       sym (first_in o)
-      ∙ selection_tells book_schema table tabled
+      ∙ selection_tells our_schema table tabled
       (key_index table) listed guarding refl refl trees fits stored
       (λ v. Some (of v)) cells columns test (one_or_none o)
       (selected test columns (trees table.tree) (map cells (one_or_none o)) selects)
@@ -67,7 +67,7 @@ module _ (table : Table) (tabled : Has book_schema.tables table)
       → (xs : List X) → AreAnswered test columns (trees table.tree) (map cells xs)
       → find is xs ≡ passing live (option_map of (look table trees key))
   answered_told is live front rest extra tests splits wanted lives told xs answered =
-      selection_tells book_schema table tabled
+      selection_tells our_schema table tabled
       (key_index table) listed guarding refl refl trees fits stored
       (λ v. Some (of v)) cells columns test xs answered key is live
       (λ r e. full_key table.primary key r full e) (λ x r w t same.

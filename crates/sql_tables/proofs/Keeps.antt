@@ -18,9 +18,9 @@ use Rattle.sqlite.specs.State.{Survives, CommitsShowing, IsTooLate}
 use Rattle.sqlite.proofs.Callers.{IsPlain, never_commits, unchanged_then}
 use Rattle.sqlite.proofs.StateLemmas.{survives_weaker}
 use Rattle.sqlite_trees.specs.Tree.{Trees}
-use Rattle.sql_tables.specs.Schema.{book_schema}
-use Rattle.sql_tables.specs.Statements.{Answers, IsBook, Spares, IsIdle, AreStored}
-use Rattle.sql_tables.specs.Statements.{IsStill, HasBook, HasIdleBook, OnlyReads, Attempts}
+use Rattle.sql_tables.specs.Schema.{our_schema}
+use Rattle.sql_tables.specs.Statements.{Answers, IsTabled, Spares, IsIdle, AreStored}
+use Rattle.sql_tables.specs.Statements.{IsStill, HasTables, HasIdleTables, OnlyReads, Attempts}
 
 keeps : (old new : State) → Spares old new → KeepsCommit old new
 keeps old new (inl u) = record { was_open = λ on. u.0.was_open; committed = λ on. u.0.committed_is }
@@ -129,7 +129,7 @@ still_itself s on = record { was_open = on; now_is = refl; committed_is = refl }
 
 -- a selection changes nothing, whether it answers or fails outside a transaction
 pub reads_still : {V : Type 0} (items : V → List Row) (sql : List ℕ) (params : Row)
-    (old new : State) (r : Result V Error) → IsPlain (understood book_schema sql)
+    (old new : State) (r : Result V Error) → IsPlain (understood our_schema sql)
     → (IsTrue old.is_open → IsIdle old) → IfOk r (λ v. Shown sql params old new (items v))
     → IfErr r (FailsToQuery sql params old new) → IsTrue new.is_open → IsStill old new
 reads_still items sql params old new (Ok v) plain idle ok err on =
@@ -142,7 +142,7 @@ reads_still items sql params old new (Err e) plain idle ok err on =
 
 -- a selection within a transaction changes nothing, or it keeps what was committed
 pub reads_within : {V : Type 0} (items : V → List Row) (sql : List ℕ) (params : Row)
-    (old new : State) (r : Result V Error) → IsPlain (understood book_schema sql) → HasBook old
+    (old new : State) (r : Result V Error) → IsPlain (understood our_schema sql) → HasTables old
     → Survives old new (λ _. ⊥)
     → (HasCleanDisk new → IfOk r (λ v. Shown sql params old new (items v)))
     → (HasCleanDisk new → IfErr r (λ e. FailsToQuery sql params old new e
@@ -171,8 +171,8 @@ reads_within {V} items sql params old new r plain book survives ok err = record 
 
 -- what a selection answers within a transaction
 pub answers_within : (sql : List ℕ) (params : Row) (old new : State) (rows : List Row)
-    → IsPlain (understood book_schema sql) → (IsTrue old.is_open → IsBook old)
-    → (IsTrue old.is_open → Fits book_schema old.now.trees)
+    → IsPlain (understood our_schema sql) → (IsTrue old.is_open → IsTabled old)
+    → (IsTrue old.is_open → Fits our_schema old.now.trees)
     → Shown sql params old new rows → Answers sql params old new rows
 answers_within sql params old new rows plain book rules shown =
     let on = was_shown sql params old new rows shown in
@@ -216,7 +216,7 @@ idle_still old new idle still = record {
 
 -- a selection commits nothing: what it may show as committed is that of an open connection
 pub reads_survive : (sql : List ℕ) (params : Row) (old new : State)
-    → IsPlain (understood book_schema sql) → HasIdleBook old
+    → IsPlain (understood our_schema sql) → HasIdleTables old
     → Survives old new (CommitsShowing sql params old) → Survives old new (λ _. old.is_open ≡ false)
 reads_survive sql params old new plain idle s =
     survives_weaker old new _ _
@@ -231,7 +231,7 @@ reads_survive sql params old new plain idle s =
 
 -- rule: statements-of-tables
 pub reads_only : {V : Type 0} (items : V → List Row) (sql : List ℕ) (params : Row) (old new : State)
-    (r : Result V Error) → IsPlain (understood book_schema sql) → HasIdleBook old
+    (r : Result V Error) → IsPlain (understood our_schema sql) → HasIdleTables old
     → Survives old new (CommitsShowing sql params old)
     → (old.in_transaction ≡ false → new.in_transaction ≡ false)
     → (HasCleanDisk new → IfOk r (λ v. Shown sql params old new (items v)))
@@ -280,25 +280,25 @@ only_reads_then a b c one two = record {
 -- ---- the rules of the tables
 
 -- of a database that is made whole
-pub sound_fits : (trees : Trees) → IsSound book_schema trees → Fits book_schema trees
+pub sound_fits : (trees : Trees) → IsSound our_schema trees → Fits our_schema trees
 sound_fits trees sound =
     record { rules = λ rule other. sound.obeys.rules rule; indexed = sound.obeys.indexed }
 
-pub fits_of : (old : State) → IsTrue old.is_open → IsBook old → IsLive old →
-    Fits book_schema old.now.trees
+pub fits_of : (old : State) → IsTrue old.is_open → IsTabled old → IsLive old →
+    Fits our_schema old.now.trees
 fits_of old on book live =
     sound_fits old.now.trees (subst (λ s. IsSound s old.now.trees) book.schema (live on).0)
 
 pub keys_from : (sql : List ℕ) (params : Row) (old new : State) (rows : List Row)
     → (IsTrue old.is_open → IsIdle old) → IsLive old → Shown sql params old new rows
-    → Keeps ForeignKey book_schema old.now.trees
+    → Keeps ForeignKey our_schema old.now.trees
 keys_from sql params old new rows idle live shown =
     let on = was_shown sql params old new rows shown in
     (subst (λ s. IsSound s old.now.trees) (idle on).book.schema (live on).0).obeys.rules ForeignKey
 
 -- rule: statements-of-tables
 pub answers_from : (sql : List ℕ) (params : Row) (old new : State) (rows : List Row)
-    → IsPlain (understood book_schema sql) → (IsTrue old.is_open → IsIdle old) → IsLive old
+    → IsPlain (understood our_schema sql) → (IsTrue old.is_open → IsIdle old) → IsLive old
     → Shown sql params old new rows → Answers sql params old new rows
 answers_from sql params old new rows plain idle live shown =
     let on = was_shown sql params old new rows shown in

@@ -23,7 +23,7 @@ use Rattle.sqlite_schema.specs.Rules.{parent_key, passes}
 use Rattle.sqlite_rules.specs.Lists.{Has}
 use Rattle.sqlite_rules.proofs.ListLemmas.{all_has, some_has, test_has}
 use Rattle.sql_tables.specs.Keyed.{key_of, entries_of, look}
-use Rattle.sql_tables.specs.Schema.{belongs, book_schema, grant_books, holds, session_groups}
+use Rattle.sql_tables.specs.Schema.{belongs, our_schema, grant_books, holds, session_groups}
 use Rattle.sql_tables.specs.Schema.{sessions}
 use Rattle.sql_tables.proofs.Selections.{full_key, meets, met_has, met_some, tied_parts}
 use Rattle.sql_tables.proofs.Ties.{agree_ties_at, equal_is}
@@ -104,23 +104,23 @@ abbrev to_group : Reference
 to_group = belongs (1 ∷ 2 ∷ 3 ∷ []) (codes "session_groups")
     (codes "account" ∷ codes "session" ∷ codes "rating_group" ∷ [])
 
-points_to_session : parent_key book_schema.tables to_session ≡
+points_to_session : parent_key our_schema.tables to_session ≡
     Some (sessions.tree, sessions.primary, plain)
 unfolding joined same_name
 points_to_session = refl
 
-points_to_group : parent_key book_schema.tables to_group ≡
+points_to_group : parent_key our_schema.tables to_group ≡
     Some (session_groups.tree, session_groups.primary, plain)
 unfolding joined same_name
 points_to_group = refl
 
-module _ (db : Trees) (keeps : Keeps ForeignKey book_schema db) (a s : List ℕ) (g : ℕ) where
+module _ (db : Trees) (keeps : Keeps ForeignKey our_schema db) (a s : List ℕ) (g : ℕ) where
   -- a group that is found is of a session that is found
   pub session_of_group : (v : Row) →
       look session_groups db (Text a ∷ Text s ∷ Int (pos g) ∷ []) ≡ Some v →
       is_some (look sessions db (Text a ∷ Text s ∷ [])) ≡ true
   session_of_group v found =
-      parent_there book_schema session_groups (inr (inr (inr (inr (inr (inl refl)))))) to_session
+      parent_there our_schema session_groups (inr (inr (inr (inr (inr (inl refl)))))) to_session
       (inl refl) sessions points_to_session db keeps (Text a ∷ Text s ∷ Int (pos g) ∷ []) v
       (Text a ∷ Text s ∷ []) found (λ r m.
       let all = full_key (1 ∷ 2 ∷ 3 ∷ []) (Text a ∷ Text s ∷ Int (pos g) ∷ []) r
@@ -134,7 +134,7 @@ module _ (db : Trees) (keeps : Keeps ForeignKey book_schema db) (a s : List ℕ)
       look holds db (Text a ∷ Text s ∷ Int (pos g) ∷ Int (pos n) ∷ []) ≡ Some v →
       is_some (look session_groups db (Text a ∷ Text s ∷ Int (pos g) ∷ [])) ≡ true
   group_of_hold n v found =
-      parent_there book_schema holds (inr (inr (inr (inr (inr (inr (inl refl))))))) to_group
+      parent_there our_schema holds (inr (inr (inr (inr (inr (inr (inl refl))))))) to_group
       (inl refl) session_groups points_to_group db keeps
       (Text a ∷ Text s ∷ Int (pos g) ∷ Int (pos n) ∷ []) v
       (Text a ∷ Text s ∷ Int (pos g) ∷ []) found (λ r m.
@@ -150,7 +150,7 @@ module _ (db : Trees) (keeps : Keeps ForeignKey book_schema db) (a s : List ℕ)
       look grant_books db (Text a ∷ Text s ∷ Int (pos g) ∷ []) ≡ Some v →
       is_some (look session_groups db (Text a ∷ Text s ∷ Int (pos g) ∷ [])) ≡ true
   group_of_book v found =
-      parent_there book_schema grant_books
+      parent_there our_schema grant_books
       (inr (inr (inr (inr (inr (inr (inr (inr (inr (inr (inr (inl refl)))))))))))) to_group
       (inl refl) session_groups points_to_group db keeps (Text a ∷ Text s ∷ Int (pos g) ∷ []) v
       (Text a ∷ Text s ∷ Int (pos g) ∷ []) found (λ r m. (

@@ -18,7 +18,7 @@ use Rattle.sqlite.specs.State.{State, Shown, Begins}
 use Rattle.sqlite.proofs.Callers.{IsPlain, command_of, reads_as, begins_as}
 use Rattle.sqlite_rules.specs.Lists.{Has}
 use Rattle.sqlite_rules.proofs.ListLemmas.{has_filtered, has_kept}
-use Rattle.sql_tables.specs.Schema.{book_schema}
+use Rattle.sql_tables.specs.Schema.{our_schema}
 use Rattle.sql_tables.specs.Statements.{Answers}
 use Rattle.sql_tables.specs.Selects.{Selects}
 use Rattle.sql_tables.proofs.Steps.{bare, permuted, mapped_from, mapped_to}
@@ -101,27 +101,27 @@ module _ (tree : ℕ) (terms project : List Term) (order : List (Term × Key)) (
 
 -- what a statement that is a selection answers
 module _ (text : List ℕ) (names : List (List ℕ)) (tree : ℕ) (terms project : List Term)
-    (order : List (Term × Key)) (is : (command_of (understood book_schema text) ≡ Select (record
+    (order : List (Term × Key)) (is : (command_of (understood our_schema text) ≡ Select (record
     { lets = []; body = select_from tree terms project order }) names) ×
-    (reads_listing book_schema text ≡ false)) (plain : IsPlain (understood book_schema text))
+    (reads_listing our_schema text ≡ false)) (plain : IsPlain (understood our_schema text))
     (params : Row) (test : Row → Bool) (columns : Row → Row)
     (tests : (r : Row) → list_all (holds (params ∷ r ∷ []))
     terms ≡ test r) (shows : (r : Row) → eval_all project (params ∷ r ∷ []) ≡ columns r) where
-  selects : (old new : State) (rows : List Row) → old.now.schema ≡ book_schema →
+  selects : (old new : State) (rows : List Row) → old.now.schema ≡ our_schema →
       Shown text params old new rows →
       Selects test columns (old.now.trees tree) rows
   selects old new rows has h =
       answered tree terms project order params test columns tests shows old.now.trees rows
-      ((reads_as text params old new book_schema has
+      ((reads_as text params old new our_schema has
       (Select (record { lets = []; body = select_from tree terms project order }) names)
       is.0 plain is.1 rows h).answer Null)
 
   -- the first rows of an answer
-  pub starts : (s : State) (rows : List Row) → s.now.schema ≡ book_schema →
+  pub starts : (s : State) (rows : List Row) → s.now.schema ≡ our_schema →
       Begins text params s rows →
       (tail : List Row) × Selects test columns (s.now.trees tree) (rows ++ tail)
   starts s rows has h =
-      let first = begins_as text params s s book_schema has
+      let first = begins_as text params s s our_schema has
       (Select (record { lets = []; body = select_from tree terms project order }) names)
       is.0 plain is.1 rows h in (
         first.1.0,

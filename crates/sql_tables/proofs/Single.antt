@@ -16,7 +16,7 @@ use Rattle.sqlite_schema.specs.Rules.{Fits, guards}
 use Rattle.sqlite_rules.specs.Lists.{Has}
 use Rattle.sqlite_rules.proofs.ListLemmas.{has_filtered}
 use Rattle.sql_tables.specs.Keyed.{key_of, IsStored}
-use Rattle.sql_tables.specs.Schema.{book_schema, key_index}
+use Rattle.sql_tables.specs.Schema.{our_schema, key_index}
 use Rattle.sql_tables.specs.Selects.{Selects}
 use Rattle.sql_tables.proofs.Keys.{keys_back}
 use Rattle.sql_tables.proofs.Selections.{full_key, one_row}
@@ -37,9 +37,9 @@ pub only_one : {X : Type 0} (x : X) (ys : List X) → IsPermutation (x ∷ []) y
 only_one x ys p =
     one_had x ys (length_permutation (x ∷ []) ys p) (permuted (x ∷ []) ys x p (inl refl))
 
-module _ (table : Table) (tabled : Has book_schema.tables table)
-    (listed : Has book_schema.indexes (key_index table)) (guarding : guards (key_index table) table
-    ≡ true) (trees : Trees) (fits : Fits book_schema trees)
+module _ (table : Table) (tabled : Has our_schema.tables table)
+    (listed : Has our_schema.indexes (key_index table)) (guarding : guards (key_index table) table
+    ≡ true) (trees : Trees) (fits : Fits our_schema trees)
     (stored : IsStored (trees table.tree)) (columns : Row → Row) (test : Row → Bool) (key : Row)
     (full : AllByRecursion (λ v. is_null v ≡ false) key)
     (means : (r : Row) → test r ≡ eq_by_cmp row_cmp (key_of table.primary r) key) (out : List Row)
@@ -73,7 +73,7 @@ module _ (table : Table) (tabled : Has book_schema.tables table)
           let second = has_filtered test (trees table.tree) s
           (subst (λ rs. Has rs s) (sym is) (inr (inl refl))) in
           let same : r ≡ s =
-          one_row table.primary book_schema table tabled (key_index table) listed guarding refl
+          one_row table.primary our_schema table tabled (key_index table) listed guarding refl
           refl trees fits stored key
           (λ x e. full_key table.primary key x full e) r s first.0 second.0
           (met r first.1) (met s second.1) in

@@ -13,7 +13,7 @@ use Rattle.sqlite.specs.State.{State, ExecutesInside}
 use Rattle.sqlite.specs.Steps.{IsEmpty}
 use Rattle.sqlite.proofs.StateLemmas.{survives_then}
 use Rattle.sql_tables.specs.Keyed.{IsStored}
-use Rattle.sql_tables.specs.Schema.{Piece, ATable, AnIndex, book_schema, latest, pieces_to}
+use Rattle.sql_tables.specs.Schema.{Piece, ATable, AnIndex, our_schema, latest, pieces_to}
 use Rattle.sql_tables.specs.Schema.{tables_of}
 use Rattle.sql_tables.specs.Statements.{Attempts}
 use Rattle.sql_tables.specs.Stages.{AreEmpty, HasStage, IsBlank, Adds, BuildsAll}
@@ -201,7 +201,7 @@ adds_all : (old new : State) → Adds 0 17 old new → BuildsAll old new
 adds_all old new all = record {
   book = record {
     schema = all.schema;
-    stored = none_stored book_schema.tables new.now.trees all.empty;
+    stored = none_stored our_schema.tables new.now.trees all.empty;
   };
   lists = all.sound.lists;
   empty = all.empty;

@@ -30,29 +30,29 @@ use Rattle.sqlite.specs.declared.error.Error.{Error}
 use Rattle.sqlite.specs.Listing.{understood}
 use Rattle.sqlite.specs.State.{State, ExecutesInside}
 use Rattle.sqlite.proofs.Callers.{IsPlain, command_of, statement_of, runs_as}
-use Rattle.sql_tables.specs.Schema.{book_schema}
+use Rattle.sql_tables.specs.Schema.{our_schema}
 use Rattle.sql_tables.specs.Keyed.{key_of, IsStored}
-use Rattle.sql_tables.specs.Statements.{IsBook, Puts}
+use Rattle.sql_tables.specs.Statements.{IsTabled, Puts}
 use Rattle.sql_tables.proofs.Counted.{counted}
 use Rattle.sql_tables.proofs.Upserts.{pick, puts_row}
 use Rattle.sql_tables.proofs.Swaps.{PutsRow, puts_key}
 use Rattle.sql_tables.proofs.Books.{others, stays_stored, catalog_stays}
 
-module _ (at : ℕ) (table : Table) (there : slice_get book_schema.tables at ≡ Some table)
-    (tabled : Has book_schema.tables table) (index : Index) (listed : Has book_schema.indexes index)
+module _ (at : ℕ) (table : Table) (there : slice_get our_schema.tables at ≡ Some table)
+    (tabled : Has our_schema.tables table) (index : Index) (listed : Has our_schema.indexes index)
     (guarding : guards index table ≡ true) (order : index.order ≡ plain)
     (columns : index.columns ≡ table.primary)
     (apart : catalog_tree ≢ table.tree) (uncounted : table.is_counted ≡ false)
     (text : List ℕ) (terms project : List Term) (width base : ℕ)
-    (is : command_of (understood book_schema text)
+    (is : command_of (understood our_schema text)
     ≡ InsertOr at Abort (Values terms width) (record {
       target = Some table.primary;
       update = Some
           (record { lets = []; body = pick table.tree base project });
     } ∷ []))
-    (plain_text : IsPlain (understood book_schema text)) (values : Row)
+    (plain_text : IsPlain (understood our_schema text)) (values : Row)
     (kept : (olds : List Row) (new : Row) →
-    works book_schema Enforced 0 table.tree olds (new ∷ []) ≡ [])
+    works our_schema Enforced 0 table.tree olds (new ∷ []) ≡ [])
     (again : (id : ℤ) → cast_row table (Int id ∷ values) ≡ Int id ∷ values)
     (unset : cast_row table (Null ∷ values) ≡ Null ∷ values)
     (shows : (id : ℤ) (met : Value) (r : Row) → eval_all project
@@ -65,31 +65,31 @@ module _ (at : ℕ) (table : Table) (there : slice_get book_schema.tables at ≡
     (full : (id : ℤ) →
     AllByRecursion (λ p. is_null (column (Int id ∷ values) p) ≡ false) table.primary)
     (meets : (id : ℤ) (other : Row) →
-    conflicts (Some table.primary) book_schema.indexes table (Int id ∷ values)
+    conflicts (Some table.primary) our_schema.indexes table (Int id ∷ values)
     other
     ≡ eq_by_cmp row_cmp (key_of table.primary other) (key_of table.primary (Int id ∷ values))) where
   pub puts_table : (old new : State) (r : Result ℕ Error) →
-      (IsTrue old.is_open → IsBook old) → OnOk r
+      (IsTrue old.is_open → IsTabled old) → OnOk r
       (ExecutesInside 0 text values old new r) → OnOk r (Puts table values old new)
   puts_table old new (Err e) book x = tt
   puts_table old new (Ok count) has x =
       let book = has x.1.was_open in
       let stored : IsStored (old.now.trees table.tree) =
       all_has (λ (t : Table). IsStored (old.now.trees t.tree))
-      book_schema.tables table book.stored tabled in
+      our_schema.tables table book.stored tabled in
       let command = InsertOr at Abort (Values terms width) (record {
         target = Some table.primary;
         update = Some (record { lets = []; body = pick table.tree base project });
       }
       ∷ []) in
-      let w = runs_as text values old new book_schema book.schema command is plain_text count x.0 in
-      let done = puts_row book_schema
+      let w = runs_as text values old new our_schema book.schema command is plain_text count x.0 in
+      let done = puts_row our_schema
       at table there values values base table.primary project
       (record { kept = kept; again = again; plain = unset; shows = shows; finds = finds })
       terms width uncounted supplied old new
-      (statement_of text (understood book_schema text)) count book.schema stored.1 w in
-      let p : PutsRow table.primary book_schema table values old.now.trees new.now.trees =
-      puts_key table.primary book_schema table tabled index listed guarding order columns
+      (statement_of text (understood our_schema text)) count book.schema stored.1 w in
+      let p : PutsRow table.primary our_schema table values old.now.trees new.now.trees =
+      puts_key table.primary our_schema table tabled index listed guarding order columns
       values old.now.trees new.now.trees stored keys full meets done.1 in
       record {
         changes = record {
@@ -103,6 +103,6 @@ module _ (at : ℕ) (table : Table) (there : slice_get book_schema.tables at ≡
               book.stored;
         };
         shows = x.1;
-        counts = counted table.primary book_schema table values old.now.trees new.now.trees stored
+        counts = counted table.primary our_schema table values old.now.trees new.now.trees stored
             keys meets done.1;
       }

@@ -13,7 +13,7 @@ use Rattle.sqlite_catalog.specs.Change.{KeepsRows}
 use Rattle.sqlite.specs.State.{State}
 use Rattle.sql_tables.specs.Keyed.{IsStored}
 use Rattle.sql_tables.specs.Opens.{IsVersion}
-use Rattle.sql_tables.specs.Schema.{book_schema, latest, pieces_to, schema_at, schema_of}
+use Rattle.sql_tables.specs.Schema.{our_schema, latest, pieces_to, schema_at, schema_of}
 use Rattle.sql_tables.specs.Schema.{tables_of}
 use Rattle.sql_tables.specs.Stages.{Adds, AreEmpty, BuildsAll, BuildsTo, HasStage, HasVersion}
 use Rattle.sql_tables.specs.Stages.{Migrates}

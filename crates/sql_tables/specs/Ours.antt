@@ -5,12 +5,12 @@ use Rattle.std.specs.List.{list_any}
 use Rattle.sqlite_schema.specs.Names.{same_name}
 use Rattle.sqlite_schema.specs.declared.schema.Table.{Table}
 use Rattle.sqlite_schema.specs.declared.schema.Schema.{Schema}
-use Rattle.sql_tables.specs.Schema.{book_schema}
+use Rattle.sql_tables.specs.Schema.{our_schema}
 
 -- whether a name is that of one of the tables, but for the case of its letters
 -- rule: tables
 abbrev pub is_ours : List ℕ → Bool
-is_ours name = list_any (λ (t : Table). same_name t.name name) book_schema.tables
+is_ours name = list_any (λ (t : Table). same_name t.name name) our_schema.tables
 
 -- rule: tables
 abbrev pub has_ours : Schema → Bool

@@ -335,5 +335,5 @@ abbrev pub schema_at : TablesVersion → Schema
 schema_at v = schema_of (pieces_to v)
 
 -- the schema that is made today
-abbrev pub book_schema : Schema
-book_schema = schema_at latest
+abbrev pub our_schema : Schema
+our_schema = schema_at latest

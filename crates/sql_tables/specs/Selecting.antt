@@ -9,7 +9,7 @@ use Rattle.sqlite.specs.Held.{Held, state}
 use Rattle.sqlite.specs.State.{HasCleanDisk, IsUnchanged, Survives}
 use Rattle.sqlite_schema.specs.Rules.{Keeps}
 use Rattle.sqlite_schema.specs.declared.schema.Constraint.TheVariants.{ForeignKey}
-use Rattle.sql_tables.specs.Schema.{book_schema}
+use Rattle.sql_tables.specs.Schema.{our_schema}
 use Rattle.sql_tables.specs.Statements.{Answers, Attempts, OnlyReads}
 use Rattle.sql_tables.specs.declared.reading.ReadFault.{ReadFault}
 use Rattle.sql_tables.specs.declared.reading.ReadFault.TheVariants.{Rules}
@@ -25,7 +25,7 @@ pub record SelectsRows {S : Type 0} (g : Ghosts S) (sql : List ℕ) (params : Ro
   pub fault : IfErr result (λ e. ¬ (e ≡ Rules))
   -- a row whose columns are a key of another table has a row there
   pub keys : HasCleanDisk (state g new) →
-      IfOk result (λ _. Keeps ForeignKey book_schema (state g old).now.trees)
+      IfOk result (λ _. Keeps ForeignKey our_schema (state g old).now.trees)
 
 -- so they are within a transaction, over a connection that stays the same one
 pub record SelectsRowsWithin {S : Type 0} (g : Ghosts S) (sql : List ℕ) (params : Row)

@@ -13,8 +13,8 @@ use Rattle.sqlite_catalog.specs.Listing.{IsSound, Lists}
 use Rattle.sqlite.specs.Held.{Held, state}
 use Rattle.sqlite.specs.State.{State, HasCleanDisk, Shows, Survives}
 use Rattle.sql_tables.specs.Keyed.{IsStored}
-use Rattle.sql_tables.specs.Schema.{book_schema, latest, pieces_to, schema_at, tables_of}
-use Rattle.sql_tables.specs.Statements.{AreStored, IsBook, IsIdle}
+use Rattle.sql_tables.specs.Schema.{our_schema, latest, pieces_to, schema_at, tables_of}
+use Rattle.sql_tables.specs.Statements.{AreStored, IsTabled, IsIdle}
 use Rattle.sql_tables.specs.Texts.{stage}
 
 abbrev pub AreEmpty : List Table → Trees → Type 0
@@ -49,15 +49,15 @@ pub record Adds (k m : ℕ) (old new : State) : Type 0 where
 -- inside a transaction: all tables and the indexes
 -- rule: tables
 pub record BuildsAll (old new : State) : Type 0 where
-  pub book : IsBook new
-  pub lists : Lists (new.now.trees catalog_tree) book_schema
-  pub empty : AreEmpty book_schema.tables new.now.trees
+  pub book : IsTabled new
+  pub lists : Lists (new.now.trees catalog_tree) our_schema
+  pub empty : AreEmpty our_schema.tables new.now.trees
   pub shows : Shows old new new.now old.committed true
 
 -- what is committed are all tables, empty
 pub record CommitsAll (new : State) : Type 0 where
   pub idle : IsIdle new
-  pub empty : AreEmpty book_schema.tables new.now.trees
+  pub empty : AreEmpty our_schema.tables new.now.trees
 
 -- outside a transaction: tables are made and committed, or the call answers an error and nothing is
 -- changed; a stop in it leaves what was there, or these tables without a row
@@ -96,8 +96,8 @@ pub record CommitsTo (v : TablesVersion) (new : State) : Type 0 where
 -- inside a transaction: the database of a version becomes one of the latest; the tables that were
 -- there keep their rows, and the new ones have none
 pub record Migrates (v : TablesVersion) (old new : State) : Type 0 where
-  pub schema : new.now.schema ≡ book_schema
-  pub sound : IsSound book_schema new.now.trees
+  pub schema : new.now.schema ≡ our_schema
+  pub sound : IsSound our_schema new.now.trees
   pub rows : KeepsRows (schema_at v).tables old.now.trees new.now.trees
   pub empty : AreEmpty (tables_between (length (pieces_to v)) (length (pieces_to latest)))
       new.now.trees

@@ -18,34 +18,34 @@ use Rattle.sqlite.specs.State.{State, HasCleanDisk, Shows, Shown, IsUnchanged, I
 use Rattle.sqlite.specs.State.{KeepsCommit, Survives}
 use Rattle.sqlite_schema.specs.Rules.{Fits}
 use Rattle.sql_tables.specs.Keyed.{key_of, table_of, Alike, IsStored, look}
-use Rattle.sql_tables.specs.Schema.{book_schema}
+use Rattle.sql_tables.specs.Schema.{our_schema}
 
 abbrev pub AreStored : Trees → Type 0
-AreStored trees = AllByRecursion (λ (t : Table). IsStored (trees t.tree)) book_schema.tables
+AreStored trees = AllByRecursion (λ (t : Table). IsStored (trees t.tree)) our_schema.tables
 
 -- the connection has the tables of the latest version
-pub record IsBook (s : State) : Type 0 where
-  pub schema : s.now.schema ≡ book_schema
+pub record IsTabled (s : State) : Type 0 where
+  pub schema : s.now.schema ≡ our_schema
   pub stored : AreStored s.now.trees
 
 -- unless its disk failed it, or an earlier failure shut it
-abbrev pub HasBook : State → Type 0
-HasBook s = HasCleanDisk s → IsTrue s.is_open → IsBook s
+abbrev pub HasTables : State → Type 0
+HasTables s = HasCleanDisk s → IsTrue s.is_open → IsTabled s
 
 -- the tables are there, and no transaction is open
 pub record IsIdle (s : State) : Type 0 where
-  pub book : IsBook s
+  pub book : IsTabled s
   pub settled : s.now ≡ s.committed
 
 -- unless its disk failed it, or an earlier failure shut it
-abbrev pub HasIdleBook : State → Type 0
-HasIdleBook s = HasCleanDisk s → IsTrue s.is_open → IsIdle s
+abbrev pub HasIdleTables : State → Type 0
+HasIdleTables s = HasCleanDisk s → IsTrue s.is_open → IsIdle s
 
 -- the rows of the tables obey their rules, unless the disk failed the connection, or an earlier
 -- failure shut it
 -- rule: statements-of-tables.reads-within
 abbrev pub HasRules : State → Type 0
-HasRules s = HasCleanDisk s → IsTrue s.is_open → Fits book_schema s.now.trees
+HasRules s = HasCleanDisk s → IsTrue s.is_open → Fits our_schema s.now.trees
 
 -- a connection that is open is in a transaction
 abbrev pub IsInside : State → Type 0
@@ -57,7 +57,7 @@ pub record Changes (table : Table) (values : Row) (old new : Trees) : Type 0 whe
       (insert (table_of table.primary (old table.tree))
       (key_of table.primary (Null ∷ values)) values)
   pub others : AllByRecursion (λ (t : Table). t.tree ≢ table.tree →
-      new t.tree ≡ old t.tree) book_schema.tables
+      new t.tree ≡ old t.tree) our_schema.tables
   pub catalog : new catalog_tree ≡ old catalog_tree
 
 -- the rows whose key begins with these values are gone, and the other tables stay
@@ -66,7 +66,7 @@ pub record Ends (table : Table) (wanted : Row) (old new : Trees) : Type 0 where
       ≡ cond (eq_by_cmp row_cmp (take (length wanted) key) wanted) None
       (get (table_of table.primary (old table.tree)) key)
   pub others : AllByRecursion (λ (t : Table). t.tree ≢ table.tree →
-      new t.tree ≡ old t.tree) book_schema.tables
+      new t.tree ≡ old t.tree) our_schema.tables
   pub catalog : new catalog_tree ≡ old catalog_tree
 
 -- inside a transaction
@@ -78,14 +78,14 @@ pub record Puts (table : Table) (values : Row) (old new : State) : Type 0 where
       ≡ (if is_some (look table old.now.trees (key_of table.primary (Null ∷ values)))
       then length (old.now.trees table.tree)
       else length (old.now.trees table.tree) + 1)
-  pub book : IsBook new
+  pub book : IsTabled new
   pub shows : Shows old new new.now old.committed true
 
 -- inside a transaction
 -- rule: statements-of-tables
 pub record Removes (table : Table) (wanted : Row) (old new : State) : Type 0 where
   pub changes : Ends table wanted old.now.trees new.now.trees
-  pub book : IsBook new
+  pub book : IsTabled new
   pub shows : Shows old new new.now old.committed true
 
 -- a refusal changes nothing, or it ends the transaction with what was last committed
@@ -110,7 +110,7 @@ pub record Attempts {A E : Type 0} (does : State → State → Type 0) (old new 
 -- outside a transaction: whether the call answers or not, it changes nothing
 pub record OnlyReads (old new : State) : Type 0 where
   pub still : HasCleanDisk new → IsTrue new.is_open → IsStill old new
-  pub idle : HasIdleBook new
+  pub idle : HasIdleTables new
   pub cleanness : HasCleanDisk new → HasCleanDisk old
   pub mode : old.in_transaction ≡ false → new.in_transaction ≡ false
   pub counts : old.faults ≤ new.faults
@@ -142,8 +142,8 @@ pub record ReadsWithin {A E : Type 0} (told : Trees → A → Type 0) (old new :
 pub record Answers (sql : List ℕ) (params : Row) (old new : State) (rows : List Row) : Type 0 where
   pub was_open : IsTrue old.is_open
   pub is_open : IsTrue new.is_open
-  pub book : IsBook old
-  pub fits : Fits book_schema old.now.trees
+  pub book : IsTabled old
+  pub fits : Fits our_schema old.now.trees
   pub shown : Shown sql params old new rows
 
 -- within a transaction, over a connection that stays the same one

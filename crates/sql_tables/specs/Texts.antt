@@ -4,7 +4,7 @@ use Rattle.std.specs.Prelude.{ℕ, List, [], ◌∷◌, codes, ◌++◌, map, ta
 use Rattle.sqlite_schema.specs.declared.schema.Column.{Column}
 use Rattle.sqlite_schema.specs.declared.schema.Schema.{Schema}
 use Rattle.sqlite_schema.specs.declared.schema.Table.{Table}
-use Rattle.sql_tables.specs.Schema.{book_schema, latest, pieces_to, schema_of}
+use Rattle.sql_tables.specs.Schema.{our_schema, latest, pieces_to, schema_of}
 
 abbrev pub meta_text : List ℕ
 meta_text =
@@ -226,7 +226,7 @@ rowids_text t = codes "SELECT rowid FROM " ++ (t.name ++ codes " ORDER BY rowid"
 
 -- the same, of the tables of all versions, in their order
 abbrev pub rowids_texts : List (List ℕ)
-rowids_texts = map rowids_text book_schema.tables
+rowids_texts = map rowids_text our_schema.tables
 
 -- the names of columns, each behind a comma
 abbrev pub names_text : List Column → List ℕ
@@ -241,4 +241,4 @@ rows_text t =
 
 -- the same, of the tables of all versions, in their order
 abbrev pub rows_texts : List (List ℕ)
-rows_texts = map rows_text book_schema.tables
+rows_texts = map rows_text our_schema.tables

@@ -4,7 +4,7 @@ ghost use Rattle.std.specs.Prelude.{◌≡◌, ◌≤◌, ◌<◌, ◌+◌, fals
 ghost use Rattle.sql_tables.specs.Stages.{Adds, BuildsAll, BuildsTo, CommitsAll};
 ghost use Rattle.sql_tables.specs.Stages.{CommitsTo, Creates, HasNoTable, HasStage, HasVersion};
 ghost use Rattle.sql_tables.specs.Stages.{Migrates};
-ghost use Rattle.sql_tables.specs.Schema.{book_schema, latest, pieces_to, schema_at};
+ghost use Rattle.sql_tables.specs.Schema.{our_schema, latest, pieces_to, schema_at};
 ghost use Rattle.sql_tables.specs.Statements.{Attempts, AttemptsOver};
 ghost use Rattle.sqlite.specs.Held.{state};
 ghost use Rattle.sqlite.specs.Steps.{over_memory};
@@ -108,7 +108,7 @@ pub fn create_since<S: Alter>(tx: &mut Transaction<'_, S>, version: u32) -> Resu
 pub fn create_tables<S: Alter>(conn: &mut Connection<S>) -> Result<(), Error>
     requires idle { conn.old.in_transaction ≡ false }
     requires blank { HasNoTable (state S.Store conn.old) }
-    ensures { Creates S.Store CommitsAll book_schema.tables conn.old conn.new result }
+    ensures { Creates S.Store CommitsAll our_schema.tables conn.old conn.new result }
 {
     let mut tx = conn.transaction();
     create_each(&mut tx)?;

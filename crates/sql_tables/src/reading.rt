@@ -2,9 +2,9 @@
 
 ghost use Rattle.std.specs.Prelude.{◌≡◌, ◌<◌, ◌^◌, ℕ, List, Option, IfSome};
 ghost use Rattle.std.specs.Prelude.{MatchResult, pos, length, option_map};
-ghost use Rattle.sql_tables.specs.Schema.{book_schema};
+ghost use Rattle.sql_tables.specs.Schema.{our_schema};
 ghost use Rattle.sql_tables.specs.Selects.{one_or_none};
-ghost use Rattle.sql_tables.specs.Statements.{HasBook, HasIdleBook, HasRules};
+ghost use Rattle.sql_tables.specs.Statements.{HasTables, HasIdleTables, HasRules};
 ghost use Rattle.sqlite.specs.Given.{IsPlain};
 ghost use Rattle.sqlite.specs.Held.{state};
 ghost use Rattle.sqlite.specs.Listing.{understood};
@@ -73,8 +73,8 @@ pub fn read<S: Alter>(
     sql: &str,
     params: &[ValueRef<'_>],
 ) -> Result<Vec<Row>, ReadFault>
-    requires plain { IsPlain (understood book_schema sql.now) }
-    requires idle { HasIdleBook (state S.Store conn.old) }
+    requires plain { IsPlain (understood our_schema sql.now) }
+    requires idle { HasIdleTables (state S.Store conn.old) }
     ensures { SelectsRows S.Store sql.now (bound params.now) conn.old conn.new result }
 {
     // For the prover alone: looking at the value makes known here what its type keeps.
@@ -91,8 +91,8 @@ pub fn read_within<S: Alter>(
     sql: &str,
     params: &[ValueRef<'_>],
 ) -> Result<Vec<Row>, ReadFault>
-    requires plain { IsPlain (understood book_schema sql.now) }
-    requires book { HasBook (state S.Store tx.old.conn.now) }
+    requires plain { IsPlain (understood our_schema sql.now) }
+    requires tables { HasTables (state S.Store tx.old.conn.now) }
     requires rules { HasRules (state S.Store tx.old.conn.now) }
     ensures { SelectsRowsWithin S.Store sql.now (bound params.now) tx.old.conn tx.new.conn result }
 {

@@ -19,7 +19,7 @@ use Rattle.sql_keeper.specs.Content.{last_in, tables_of, voucher_in, Names}
 use Rattle.sql_keeper.specs.Seen.{Stands}
 use Rattle.sql_keeper.specs.Tidy.{IsTidy}
 use Rattle.sql_keeper.specs.Writes.{meta_at, voucher_row}
-use Rattle.sql_tables.specs.Statements.{HasIdleBook}
+use Rattle.sql_tables.specs.Statements.{HasIdleTables}
 use Rattle.sql_keeper.proofs.reads.InTurn.{none_read}
 use Rattle.sql_keeper.proofs.puts.NewGroups.{kept_up_to, moment_put}
 use Rattle.sql_keeper.proofs.puts.Redeemed.{told_over}
@@ -113,6 +113,6 @@ module _ (change : TablesContent → TablesContent) (Become : Trees → Trees �
 
 -- what is refused before anything is asked
 pub refused_at_once : {A E : Type 0} (Become : Trees → Trees → Type 0) (s : State) (e : E)
-    → HasIdleBook s → CommitsWhole {A = A} {E = E} Become s s (Err e)
+    → HasIdleTables s → CommitsWhole {A = A} {E = E} Become s s (Err e)
 refused_at_once Become s e idle =
     let none = none_read s idle in refused Become s s e none.only none.survives

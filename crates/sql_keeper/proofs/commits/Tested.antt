@@ -19,7 +19,7 @@ use Rattle.reserving.proofs.Lists.{EachIn-found, find-passes, not_both, no_some,
 use Rattle.reserving.proofs.KeysFound.{is_none_is}
 use Rattle.reserving.proofs.LeftTests.{each_append}
 use Rattle.keepers.specs.declared.loaded.Change.{Change}
-use Rattle.sql_tables.specs.Statements.{HasIdleBook, Reads}
+use Rattle.sql_tables.specs.Statements.{HasIdleTables, Reads}
 use Rattle.sql_rows.specs.declared.head.HeadColumns.{HeadColumns}
 use Rattle.sql_rows.specs.Content.{TableRows, rows_in}
 use Rattle.sql_rows.specs.Lists.{AreCoveredBeside, AreGroups, GroupAt, HasNoGroups}
@@ -177,7 +177,7 @@ pub record HasFound (groups : List SessionGroup) (a : List ℕ) (xs : List Sessi
       AreUnknown (rows_in old.now.trees a) xs
   pub reads : HaveRead old new
 
-pub none_found : (groups : List SessionGroup) (a : List ℕ) (s : State) → HasIdleBook s →
+pub none_found : (groups : List SessionGroup) (a : List ℕ) (s : State) → HasIdleTables s →
     HasFound groups a [] true s s
 none_found groups a s idle =
     record { settled = λ clean on. tt; news = λ clean on t. tt; reads = none_read s idle }
@@ -349,7 +349,7 @@ change_found {E} names change o xs ys y z old mid new same_xs same_ys is one wri
     })
 
 -- covered blocks are beside a charge, since their key is one of charges
-pub beside_at : (s : State) → HasIdleBook s → IsLive s → (a : List ℕ) → HasCleanDisk s
+pub beside_at : (s : State) → HasIdleTables s → IsLive s → (a : List ℕ) → HasCleanDisk s
     → IsTrue s.is_open → AreCoveredBeside (rows_in s.now.trees a)
 beside_at s idle live a clean on =
     covered_beside s.now.trees
@@ -361,7 +361,7 @@ beside_at s idle live a clean on =
 pub tested : {E : Type 0} (names : Names) (change : Change) (xs : List BucketRow)
     (y : NamedSessions) (u : ⊤) (r : Result Bool E) (old mid new : State)
     → xs ≡ change.rows.buckets → IfOk r (λ b. IsTrue y.are_settled × (b ≡ y.are_new)) →
-    HasIdleBook old → IsLive old →
+    HasIdleTables old → IsLive old →
     Gathers {A = ⊤} {E = E} (λ trees done. AreFree
     (first_bucket (rows_in trees change.number).head) (rows_in trees change.number) xs) old mid
     (Ok u) →

@@ -9,7 +9,7 @@ use Rattle.sqlite.specs.State.{State, HasCleanDisk, IsRolledBack, KeepsCounts, S
 use Rattle.sqlite.specs.Steps.{FailsToCommit}
 use Rattle.sqlite.specs.declared.error.Error.{Error}
 use Rattle.sqlite.proofs.StateLemmas.{survives_then}
-use Rattle.sql_tables.specs.Statements.{AreStored, Attempts, HasIdleBook, IsIdle, IsStill}
+use Rattle.sql_tables.specs.Statements.{AreStored, Attempts, HasIdleTables, IsIdle, IsStill}
 use Rattle.sql_rows.specs.Content.{TablesContent}
 use Rattle.sql_rows.specs.Makes.{Commits, Makes, Turns}
 use Rattle.sql_tables.proofs.Keeps.{on_ok}
@@ -18,7 +18,7 @@ use Rattle.sql_keeper.specs.Numbers.{WasSo}
 
 module _ {S : Type 0} (g : Ghosts S) (change : TablesContent → TablesContent) (old begun : Held S)
     (mid new : State) (begins : begun ≡ record old { in_transaction = true })
-    (before : HasIdleBook (state g old)) {A : Type 0} (u : A)
+    (before : HasIdleTables (state g old)) {A : Type 0} (u : A)
     (put : Attempts {A = A} {E = Error} (Makes change) (state g begun) mid (Ok u))
     (ends : Survives mid new (λ db. db ≡ mid.now.trees)) where
   abbrev first : State

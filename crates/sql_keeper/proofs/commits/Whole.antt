@@ -7,7 +7,7 @@ use Rattle.sqlite.specs.State.{State, HasCleanDisk, IsLive, Survives}
 use Rattle.sqlite.proofs.StateLemmas.{survives_then, survives_weaker}
 use Rattle.sqlite_trees.specs.Tree.{Trees}
 use Rattle.sqlite_trees.specs.declared.store.Store.{Ghosts}
-use Rattle.sql_tables.specs.Statements.{HasIdleBook, HasRules, IsStill, OnlyReads}
+use Rattle.sql_tables.specs.Statements.{HasIdleTables, HasRules, IsStill, OnlyReads}
 use Rattle.sql_tables.proofs.Keeps.{fits_of}
 use Rattle.sql_rows.specs.Content.{TablesContent}
 use Rattle.sql_rows.specs.Makes.{Turns}
@@ -20,7 +20,7 @@ not_shut false on e = absurd (let no : false ≡ true = on in cc)
 
 -- the rows obey their rules where a transaction begins
 pub begun_rules : {S : Type 0} (g : Ghosts S) (old begun : Held S)
-    → begun ≡ record old { in_transaction = true } → HasIdleBook (state g old)
+    → begun ≡ record old { in_transaction = true } → HasIdleTables (state g old)
     → IsLive (state g old) → HasRules (state g begun)
 begun_rules g old begun is idle live =
     subst (λ h. HasRules (state g h)) (sym is)
@@ -39,7 +39,7 @@ survives_self s P = record {
 
 -- nothing is done where it is refused at once
 pub untouched : {A E : Type 0} (Become : Trees → Trees → Type 0) (s : State) (e : E)
-    → HasIdleBook s → CommitsWhole {A = A} {E = E} Become s s (Err e)
+    → HasIdleTables s → CommitsWhole {A = A} {E = E} Become s s (Err e)
 untouched Become s e idle = record {
   done = λ clean. tt;
   err = λ clean on. record { was_open = on; now_is = refl; committed_is = refl };
@@ -187,7 +187,7 @@ refused Become old new e only stops = record {
 abbrev pub IsSettled : State → Type 0
 IsSettled s = (db : Trees) → IsTrue s.is_open → s.may_leave db → db ≡ s.committed.trees
 
-pub settled_now : (s : State) → IsSettled s → HasIdleBook s → HasCleanDisk s → IsTrue s.is_open
+pub settled_now : (s : State) → IsSettled s → HasIdleTables s → HasCleanDisk s → IsTrue s.is_open
     → (db : Trees) → s.may_leave db → db ≡ s.now.trees
 settled_now s law idle clean on db may = law db on may
     ∙ ap (λ (d : Database). d.trees) (sym (idle clean on).settled)

@@ -18,7 +18,7 @@ use Rattle.keepers.specs.Tables.{Tables}
 use Rattle.keepers.specs.declared.loaded.Change.{Change}
 use Rattle.keepers.specs.declared.loaded.Loaded.{Loaded}
 use Rattle.sql_tables.specs.Keyed.{same_name}
-use Rattle.sql_tables.specs.Statements.{HasIdleBook, OnlyReads}
+use Rattle.sql_tables.specs.Statements.{HasIdleTables, OnlyReads}
 use Rattle.sql_rows.specs.Content.{TableRows, rows_in}
 use Rattle.sql_keeper.specs.Asks.{Asks}
 use Rattle.sql_keeper.specs.Commits.{Becomes, CommitsStanding}
@@ -59,7 +59,7 @@ kept_asked names told o p old new r kept asks to clean on =
 
 -- what is kept says it without a read
 pub told_kept : {A E : Type 0} (names : Names) (told : Trees → A → Type 0) (o : Option KeptRows)
-    (x : A) (s : State) → HasIdleBook s → AreKept names o s
+    (x : A) (s : State) → HasIdleTables s → AreKept names o s
     → ((trees : Trees) → Keeps names o trees → told trees x)
     → Gathers {A = A} {E = E} told s s (Ok x)
 told_kept {A} {E} names told o x s idle kept to =

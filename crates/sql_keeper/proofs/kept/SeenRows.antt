@@ -20,7 +20,7 @@ use Rattle.reserving.proofs.KeysFound.{is_none_is}
 use Rattle.keepers.specs.declared.loaded.Loaded.{Loaded}
 use Rattle.keepers.specs.Tables.{Head, head_of, held_at}
 use Rattle.sql_tables.specs.Keyed.{same_name}
-use Rattle.sql_tables.specs.Statements.{HasIdleBook, OnlyReads, Reads}
+use Rattle.sql_tables.specs.Statements.{HasIdleTables, OnlyReads, Reads}
 use Rattle.sql_tables.specs.declared.reading.ReadFault.{ReadFault}
 use Rattle.sql_rows.specs.declared.head.HeadColumns.{HeadColumns}
 use Rattle.sql_rows.specs.Content.{TableRows, rows_in, tables_content}
@@ -85,7 +85,7 @@ seen_asked told o p old new r seen asks to clean on =
 
 -- what was seen says it without a read
 pub told_seen : {A E : Type 0} (told : Trees → A → Type 0) (o : Option SeenAccount) (x : A)
-    (s : State) → HasIdleBook s → AreSeen o s
+    (s : State) → HasIdleTables s → AreSeen o s
     → ((trees : Trees) → Sees o trees → told trees x) → Gathers {A = A} {E = E} told s s (Ok x)
 told_seen {A} {E} told o x s idle seen to =
     gathers_from {A = A} {E = E} told s s (Ok x) (none_read s idle)

@@ -14,9 +14,10 @@ use Rattle.sqlite_trees.specs.Tree.{Trees}
 use Rattle.sqlite.specs.Effect.{Database}
 use Rattle.sqlite.specs.State.{State, HasCleanDisk, IsUnchanged, KeepsCommit, Survives}
 use Rattle.sqlite.proofs.StateLemmas.{survives_then}
-use Rattle.sql_tables.specs.Schema.{book_schema, latest, pieces_to, schema_at}
+use Rattle.sql_tables.specs.Schema.{our_schema, latest, pieces_to, schema_at}
 use Rattle.sql_tables.specs.Stages.{AreEmpty, AreStoredAt, Migrates, tables_between}
-use Rattle.sql_tables.specs.Statements.{AreStored, Attempts, HasBook, HasRules, IsBook, IsInside}
+use Rattle.sql_tables.specs.Statements.{AreStored, Attempts, HasTables, HasRules, IsInside}
+use Rattle.sql_tables.specs.Statements.{IsTabled}
 use Rattle.sql_tables.specs.Statements.{ReadsWithin}
 use Rattle.sql_tables.specs.declared.reading.ReadFault.{ReadFault}
 use Rattle.sql_tables.specs.declared.reading.ReadFault.TheVariants as reading
@@ -56,7 +57,7 @@ use Rattle.sql_keeper.proofs.shelf.Shelved.{shelf_ruled}
 pub record HasMade (v : ℕ) (old mid : State) : Type 0 where
   pub survives : Survives old mid (λ _. ⊥)
   pub made : HasCleanDisk mid → Migrates v old mid
-  pub book : HasCleanDisk mid → IsBook mid
+  pub book : HasCleanDisk mid → IsTabled mid
   pub at : HasCleanDisk mid → AreStoredAt v old.now.trees
 
 pub made_first : {A E : Type 0} (v : ℕ) (old mid : State) (u : A) → HasAt v old
@@ -79,7 +80,7 @@ migrates_still v old mid new m same =
     let now : new.now ≡ mid.now = same.0.now_is in
     record {
       schema = ap (λ (d : Database). d.schema) now ∙ m.schema;
-      sound = subst (λ (d : Database). IsSound book_schema d.trees) (sym now) m.sound;
+      sound = subst (λ (d : Database). IsSound our_schema d.trees) (sym now) m.sound;
       rows = subst (λ (d : Database). KeepsRows (schema_at v).tables old.now.trees d.trees)
           (sym now) m.rows;
       empty = subst (λ (d : Database). AreEmpty (tables_between (length (pieces_to v))
@@ -113,7 +114,7 @@ made_still v old mid new u has still = record {
 }
 
 module _ (v : ℕ) (old mid : State) (has : HasMade v old mid) where
-  pub made_book : HasBook mid
+  pub made_book : HasTables mid
   made_book clean on = has.book clean
 
   pub made_rules : HasRules mid

@@ -15,7 +15,7 @@ use Rattle.sqlite.specs.Effect.{Database}
 use Rattle.sqlite.specs.State.{State, HasCleanDisk, IsUnchanged, KeepsCommit}
 use Rattle.sqlite.proofs.StateLemmas.{survives_then}
 use Rattle.sql_tables.specs.Schema.{latest}
-use Rattle.sql_tables.specs.Statements.{AreStored, Attempts, HasBook, IsInside, ReadsWithin}
+use Rattle.sql_tables.specs.Statements.{AreStored, Attempts, HasTables, IsInside, ReadsWithin}
 use Rattle.sql_rows.specs.Makes.{Makes, MakesIfOpen}
 use Rattle.sql_tables.specs.declared.reading.ReadFault.{ReadFault}
 use Rattle.sql_rows.specs.Content.{TablesContent, TableRows, tables_content, with_grant_book}
@@ -93,7 +93,7 @@ granted_already v c low =
     subst (λ b. c ≡ (if b then c else record c { rows = λ a. granted_in (c.rows a) }))
     (sym (le-leb 2 v low)) refl
 
-pub grants_none : {A E : Type 0} (v : ℕ) (s : State) (u : A) → 2 ≤ v → IsInside s → HasBook s
+pub grants_none : {A E : Type 0} (v : ℕ) (s : State) (u : A) → 2 ≤ v → IsInside s → HasTables s
     → Attempts {A = A} {E = E} (MakesIfOpen (with_granted v)) s s (Ok u)
 grants_none v s u low inside book = record {
   done = λ clean. record {
@@ -216,8 +216,8 @@ grants_rows xs old mid new w u v same reads puts =
     puts
 
 -- the tables after what was only read
-pub still_book : {A E : Type 0} (old mid : State) (u : A) → HasBook old
-    → Attempts {A = A} {E = E} IsUnchanged old mid (Ok u) → HasBook mid
+pub still_book : {A E : Type 0} (old mid : State) (u : A) → HasTables old
+    → Attempts {A = A} {E = E} IsUnchanged old mid (Ok u) → HasTables mid
 still_book old mid u book still clean on =
     let same = still.done clean in
     let before = book (omega (arith, still.survives.clean, clean)) same.0.was_open in

@@ -14,7 +14,7 @@ use Rattle.shelves.specs.Shelves.{Shelf}
 use Rattle.reserving.specs.Left.{is_open_row}
 use Rattle.commands.specs.declared.key.Key.{Key}
 use Rattle.commands.specs.declared.key.Key.TheVariants.{Reference, Request}
-use Rattle.sql_tables.specs.Schema.{book_schema, latest, pieces_to, schema_at}
+use Rattle.sql_tables.specs.Schema.{our_schema, latest, pieces_to, schema_at}
 use Rattle.sql_tables.specs.Schema as table
 use Rattle.sql_tables.specs.Stages.{AreEmpty, tables_between}
 use Rattle.sql_rows.specs.Content.{TablesContent, TableRows, tables_content, with_meta}
@@ -42,7 +42,7 @@ AreKept v old new = KeepsRows (schema_at v).tables old new
 
 -- the tables that a version has keep their rows, and the others have none
 rows_at : (v : ℕ) (old new : Trees) → IsVersion v → v < latest → AreKept v old new →
-    KeepsRows book_schema.tables (trees_at v old) new
+    KeepsRows our_schema.tables (trees_at v old) new
 rows_at zero old new known less (k, e) = absurd (omega (arith, known.0))
 rows_at (suc zero) old new known less (k, e) =
     all-append (λ (t : Table). new t.tree ≡ trees_at 1 old t.tree) (schema_at 1).tables
@@ -205,12 +205,12 @@ with_latest v m c = with_meta (record m { version = latest }) (with_granted v c)
 
 module _ (v : ℕ) (known : IsVersion v) (less : v < latest) (old mid new : Trees) (m : Meta)
     (kept : tables_content mid ≡ content_at v old) (is : (tables_content old).meta ≡ Some m)
-    (lists : Lists (mid catalog_tree) book_schema) (turns : Turns (with_latest v m) mid new) where
+    (lists : Lists (mid catalog_tree) our_schema) (turns : Turns (with_latest v m) mid new) where
   after : tables_content new ≡ with_latest v m (content_at v old)
   after = turns.content ∙ ap (with_latest v m) kept
 
-  catalogued : Lists (new catalog_tree) book_schema
-  catalogued = subst (λ rows. Lists rows book_schema) (sym turns.catalog) lists
+  catalogued : Lists (new catalog_tree) our_schema
+  catalogued = subst (λ rows. Lists rows our_schema) (sym turns.catalog) lists
 
   books_stay : (tables_content new).books ≡ (content_at v old).books
   books_stay = ap (λ (c : TablesContent). c.books) after

@@ -13,7 +13,7 @@ use Rattle.sqlite_schema.specs.declared.schema.Table.{Table}
 use Rattle.sqlite_catalog.specs.Change.{KeepsRows}
 use Rattle.sql_tables.specs.Keyed.{IsStored, look}
 use Rattle.sql_tables.specs.Opens.{IsVersion}
-use Rattle.sql_tables.specs.Schema.{book_schema, latest, pieces_to, schema_at}
+use Rattle.sql_tables.specs.Schema.{our_schema, latest, pieces_to, schema_at}
 use Rattle.sql_tables.specs.Schema as table
 use Rattle.sql_tables.specs.Stages.{AreEmpty, tables_between}
 use Rattle.sql_rows.specs.Content.{TablesContent, TableRows, tables_content}
@@ -75,7 +75,7 @@ module _ (shelf : Shelf) (last : ℕ) (old mid : Trees) where
   }
 
   -- the tables of a version whose rows stay, and no row of those that are new
-  ruled_tables : (first later : List Table) → first ++ later ≡ book_schema.tables
+  ruled_tables : (first later : List Table) → first ++ later ≡ our_schema.tables
       → KeepsRows first old mid → AreEmpty later mid → AreRuledTo shelf last (length first) old
       → AreRuledTo shelf last (length (first ++ later)) mid
   ruled_tables first later is kept none all at low =
@@ -93,7 +93,7 @@ last_same old mid same =
 
 module _ (shelf : Shelf) (old mid : Trees) where
   -- the tables of a version, by the moment that it keeps
-  ruled_by_last : (first later : List Table) → first ++ later ≡ book_schema.tables
+  ruled_by_last : (first later : List Table) → first ++ later ≡ our_schema.tables
       → mid table.meta.tree ≡ old table.meta.tree
       → KeepsRows first old mid → AreEmpty later mid
       → AreRuledTo shelf (last_kept old) (length first) old
@@ -171,7 +171,7 @@ granted_meta false c = refl
 module _ (shelf : Shelf) (v : ℕ) (mid new : Trees) (m : Meta) (all : AreRuled shelf latest mid)
     (is : (tables_content mid).meta ≡ Some m) (turns : Turns (with_latest v m) mid new) where
   -- rule: database-migrated.ruled-version
-  pub latest_ruled : Fits book_schema mid → IsInRules shelf (tables_content new)
+  pub latest_ruled : Fits our_schema mid → IsInRules shelf (tables_content new)
   latest_ruled fits =
       let held = content_ruled shelf mid fits all in
       let given = with_granted v (tables_content mid) in

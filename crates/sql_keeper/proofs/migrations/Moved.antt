@@ -16,7 +16,7 @@ use Rattle.sqlite.specs.State.{Survives}
 use Rattle.sqlite.specs.Steps.{FailsToCommit}
 use Rattle.sqlite.proofs.StateLemmas.{survives_then, survives_weaker}
 use Rattle.sql_tables.specs.Schema.{latest, schema_at}
-use Rattle.sql_tables.specs.Statements.{AreStored, HasIdleBook, IsStill}
+use Rattle.sql_tables.specs.Statements.{AreStored, HasIdleTables, IsStill}
 use Rattle.sql_rows.specs.Content.{tables_content}
 use Rattle.sql_rows.specs.Values.{Meta}
 use Rattle.sql_rules.specs.Tables.{AreRuled, Tells, last_kept}
@@ -443,7 +443,7 @@ either_version v known = go (nat_lt v 3) refl known.1
     go true e high = inr (ltb-true v 3 e)
     go false e high = let least = ltb-false v 3 e in inl (omega (arith, least, high))
 
-pub any_idle : (old new : State) (r : ReadBooks) → FindsAny old new (Ok r) → HasIdleBook new
+pub any_idle : (old new : State) (r : ReadBooks) → FindsAny old new (Ok r) → HasIdleTables new
 any_idle old new r f = elim (either_version f.0 f.1) [
   | inl is ↦ (f.3 is).idle
   | inr less ↦ (f.4 less).idle

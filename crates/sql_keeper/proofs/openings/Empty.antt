@@ -14,7 +14,7 @@ use Rattle.sqlite_trees.specs.Objects.{catalog_tree}
 use Rattle.sqlite_trees.specs.Tree.{Trees}
 use Rattle.sqlite_catalog.specs.Listing.{Lists}
 use Rattle.sql_tables.specs.Keyed.{look, table_of}
-use Rattle.sql_tables.specs.Schema.{book_schema, latest}
+use Rattle.sql_tables.specs.Schema.{our_schema, latest}
 use Rattle.sql_tables.specs.Stages.{AreEmpty, BuildsAll}
 use Rattle.sql_tables.specs.Statements.{Attempts}
 use Rattle.sql_tables.specs.Schema as table
@@ -95,7 +95,7 @@ nothing_stored = λ i. record {
   count = 0;
 }
 
-empty_content : (trees : Trees) → AreEmpty book_schema.tables trees →
+empty_content : (trees : Trees) → AreEmpty our_schema.tables trees →
     tables_content trees ≡ no_content
 empty_content trees e = same_content (λ t. []) trees e ∙ nothing_stored
 
@@ -166,7 +166,7 @@ all_of_none : (test : Row → Bool) (t : Table) (trees : Trees) → trees t.tree
 all_of_none test t trees none key cells e = absurd (let clash : None ≡ Some cells =
     sym (none_stored t trees none key) ∙ e in cc)
 
-plain_empty : (trees : Trees) → AreEmpty book_schema.tables trees → ArePlain trees
+plain_empty : (trees : Trees) → AreEmpty our_schema.tables trees → ArePlain trees
 plain_empty trees e = record {
   heads = all_of_none is_plain_head table.accounts trees e.1.0;
   of_sessions = all_of_none is_plain_session table.sessions trees e.1.1.1.1.0;
@@ -174,11 +174,11 @@ plain_empty trees e = record {
 }
 
 -- the row of meta in tables without rows
-new_book : (text : List ℕ) (old new : Trees) → AreEmpty book_schema.tables old
-    → Lists (old catalog_tree) book_schema → Turns (with_meta (first_meta text)) old new
+new_book : (text : List ℕ) (old new : Trees) → AreEmpty our_schema.tables old
+    → Lists (old catalog_tree) our_schema → Turns (with_meta (first_meta text)) old new
     → IsNewBook text new
 new_book text old new e lists turns = record {
-  lists = subst (λ rows. Lists rows book_schema) (sym turns.catalog) lists;
+  lists = subst (λ rows. Lists rows our_schema) (sym turns.catalog) lists;
   stored = turns.stored;
   meta = ap (λ (c : TablesContent). c.meta) turns.content;
   tables = λ names.

@@ -15,7 +15,7 @@ use Rattle.sqlite_catalog.specs.Listing.{IsSound}
 use Rattle.sqlite_catalog.proofs.ReadLemmas.{lists_once}
 use Rattle.sqlite.specs.Effect.{Database}
 use Rattle.sqlite.specs.Held.{Held, state}
-use Rattle.sql_tables.specs.Schema.{book_schema}
+use Rattle.sql_tables.specs.Schema.{our_schema}
 use Rattle.keepers.specs.declared.loaded.Change.{Change}
 use Rattle.voucher_rules.specs.declared.terms.VoucherTerms.{VoucherTerms}
 use Rattle.sql_tables.specs.declared.fault.OpenFault.{OpenFault}
@@ -126,7 +126,7 @@ left_ruled_again = record {
 
 -- ---- it is found again
 
-no_row : (text : List ℕ) (db : Database) → IsLeftRuled text db.trees → Fits book_schema db.trees
+no_row : (text : List ℕ) (db : Database) → IsLeftRuled text db.trees → Fits our_schema db.trees
     → ¬ HasUnruledRow db
 no_row text db left fits h =
     let one : Some h.kept.row ≡ Some left.left.kept.row = sym h.kept.is ∙ left.left.kept.is in
@@ -143,7 +143,7 @@ pub found_again : {S : Type 0} (g : Ghosts S) (old new : Held S) (text : List �
     → IsFoundAgain g old new text fault
 found_again g old new text fault left sound clean refused =
     let db = (state g old).now in
-    let same : db.schema ≡ book_schema = lists_once _ _ _ sound.lists left.left.lists in
+    let same : db.schema ≡ our_schema = lists_once _ _ _ sound.lists left.left.lists in
     elim (refused.cause clean) [
       | inl is ↦ is
       | inr of_it ↦ elim of_it [

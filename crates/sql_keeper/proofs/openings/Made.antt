@@ -9,7 +9,7 @@ use Rattle.sqlite_trees.specs.Tree.{Trees}
 use Rattle.sqlite_catalog.specs.Listing.{Lists}
 use Rattle.sqlite.specs.Held.{Held, state}
 use Rattle.sqlite.specs.State.{HasCleanDisk, IsLive, State}
-use Rattle.sql_tables.specs.Statements.{HasIdleBook}
+use Rattle.sql_tables.specs.Statements.{HasIdleTables}
 use Rattle.sql_tables.proofs.Keeps.{fits_of}
 use Rattle.sql_rows.specs.Content.{tables_content}
 use Rattle.sql_rules.specs.Ruled.{IsInRules}
@@ -30,7 +30,7 @@ use Rattle.sql_keeper.proofs.rules.PlainRows.{rows_plain}
 use Rattle.sql_keeper.proofs.commits.Whole.{settled_now}
 
 module _ {S : Type 0} (g : Ghosts S) (law : AreSettled g) (h : Held S) (r : ReadBooks)
-    (plain : h.in_transaction ≡ false) (idle : HasIdleBook (state g h))
+    (plain : h.in_transaction ≡ false) (idle : HasIdleTables (state g h))
     (on : HasCleanDisk (state g h) → IsTrue (state g h).is_open)
     (read : HasCleanDisk (state g h) → IsReadRuled r (state g h).now.trees)
     (live : IsLive (state g h)) where

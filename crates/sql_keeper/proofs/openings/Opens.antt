@@ -15,9 +15,9 @@ use Rattle.sqlite.specs.Effect.{Database}
 use Rattle.sqlite.specs.Held.{Held, state}
 use Rattle.sqlite.specs.State.{State, HasCleanDisk, IsLive, Survives}
 use Rattle.sqlite.proofs.StateLemmas.{survives_then}
-use Rattle.sql_tables.specs.Schema.{book_schema, latest, schema_at}
+use Rattle.sql_tables.specs.Schema.{our_schema, latest, schema_at}
 use Rattle.sql_tables.specs.Stages.{AreStoredAt}
-use Rattle.sql_tables.specs.Statements.{HasIdleBook, IsStill, OnlyReads, Reads}
+use Rattle.sql_tables.specs.Statements.{HasIdleTables, IsStill, OnlyReads, Reads}
 use Rattle.sql_tables.proofs.Keeps.{only_reads_then}
 use Rattle.sql_tables.proofs.Telling.{survive_then}
 use Rattle.sql_tables.specs.Texts.{stage}
@@ -74,8 +74,9 @@ module _ {S : Type 0} (g : Ghosts S) (k : KeeperState S) (conn : Held S) (shelf 
   }
 
   -- the schema is the one that the database lists
-  listed : HasCleanDisk (state g conn) → IsTrue (state g conn).is_open → HasIdleBook (state g conn)
-      → Lists ((state g conn).now.trees catalog_tree) book_schema
+  listed : HasCleanDisk (state g conn) → IsTrue (state g conn).is_open
+      → HasIdleTables (state g conn)
+      → Lists ((state g conn).now.trees catalog_tree) our_schema
   listed clean on idle =
       subst (Lists ((state g conn).now.trees catalog_tree)) (idle clean on).book.schema
       (live on).0.lists
@@ -243,7 +244,7 @@ module _ (v : ℕ) (old mid new : State) (found : HasCleanDisk mid → IsFound v
 
 -- the tables that an opening asks for
 pub idle_book : (v : ℕ) (old mid : State) → v ≡ latest → (HasCleanDisk mid → IsFound v old mid)
-    → HasIdleBook mid
+    → HasIdleTables mid
 idle_book v old mid same found clean on =
     let it = found clean in
     record {

@@ -10,7 +10,7 @@ use Rattle.reserving.proofs.LeftTests.{each_append}
 use Rattle.sqlite_trees.specs.Tree.{Trees}
 use Rattle.sqlite.specs.Effect.{Database}
 use Rattle.sqlite.specs.State.{State, HasCleanDisk}
-use Rattle.sql_tables.specs.Statements.{HasIdleBook, Reads}
+use Rattle.sql_tables.specs.Statements.{HasIdleTables, Reads}
 use Rattle.sql_rows.specs.declared.head.HeadColumns.{HeadColumns}
 use Rattle.sql_rows.specs.Content.{rows_in}
 use Rattle.sql_rows.specs.Texts.{bucket_row}
@@ -27,7 +27,7 @@ module _ (a : List ℕ) (first : ℕ) (b : BucketRow) (n : ℕ) (is : n ≡ b.nu
   told trees done = IsFree first (rows_in trees a) b
 
   -- one that isn't new
-  pub not_new : {E : Type 0} (s : State) → HasIdleBook s → n < first
+  pub not_new : {E : Type 0} (s : State) → HasIdleTables s → n < first
       → Gathers {A = ⊤} {E = E} told s s (Ok tt)
   not_new {E} s idle below =
       gathers_from {A = ⊤} {E = E} told s s (Ok tt) (none_read s idle)
@@ -62,7 +62,7 @@ pub record HaveTested (a : List ℕ) (first : ℕ) (xs : List BucketRow) (old ne
     pub free : HasCleanDisk new → IsTrue new.is_open → AreFree first (rows_in old.now.trees a) xs
     pub reads : HaveRead old new
 
-pub none_tested : (a : List ℕ) (first : ℕ) (s : State) → HasIdleBook s
+pub none_tested : (a : List ℕ) (first : ℕ) (s : State) → HasIdleTables s
     → HaveTested a first [] s s
 none_tested a first s idle = record { free = λ clean on. tt; reads = none_read s idle }
 

@@ -4,7 +4,7 @@ use Rattle.std.proofs.Common.{true≢false}
 use Rattle.std.specs.Result.{IsErr}
 use Rattle.sqlite_trees.specs.Tree.{Trees}
 use Rattle.sqlite.specs.State.{State, HasCleanDisk, Survives}
-use Rattle.sql_tables.specs.Statements.{HasIdleBook, OnlyReads, Reads}
+use Rattle.sql_tables.specs.Statements.{HasIdleTables, OnlyReads, Reads}
 use Rattle.sql_tables.proofs.Keeps.{on_ok, only_reads_then}
 use Rattle.sql_tables.proofs.Telling.{survive_then}
 use Rattle.sql_keeper.specs.LiveGroups.{Gathers}
@@ -16,7 +16,7 @@ pub record HaveRead (old new : State) : Type 0 where
   pub stays : HasCleanDisk new → IsTrue old.is_open → IsTrue new.is_open
   pub survives : Survives old new (λ _. old.is_open ≡ false)
 
-pub none_read : (s : State) → HasIdleBook s → HaveRead s s
+pub none_read : (s : State) → HasIdleTables s → HaveRead s s
 none_read s idle = record {
   only = record {
     still = λ clean on. record { was_open = on; now_is = refl; committed_is = refl };

@@ -8,7 +8,7 @@ use Rattle.sqlite_trees.specs.Tree.{Trees}
 use Rattle.sqlite_trees.specs.Objects.{catalog_tree}
 use Rattle.sqlite_catalog.specs.Listing.{Lists}
 use Rattle.sqlite.specs.Effect.{Database}
-use Rattle.sql_tables.specs.Schema.{book_schema, latest}
+use Rattle.sql_tables.specs.Schema.{our_schema, latest}
 use Rattle.sql_tables.specs.Stages.{AreStoredAt}
 use Rattle.sql_tables.specs.Statements.{AreStored}
 use Rattle.sql_rows.specs.Ruled.{IsMetaOther}
@@ -32,7 +32,7 @@ left_by : (text : List ℕ) (old new : Trees) (row : Meta) → IsLeft text old
     → AreStored new → (tables_content new).meta ≡ Some row → row.version ≡ latest → row.book ≡ text
     → row.last ≤ 4_102_488_000 → HasShelf text (tables_content new).books → IsLeft text new
 left_by text old new row left catalog stored is version book last shelf = record {
-  lists = subst (λ rows. Lists rows book_schema) (sym catalog) left.lists;
+  lists = subst (λ rows. Lists rows our_schema) (sym catalog) left.lists;
   stored = stored;
   kept = record { row = row; is = is; version = version; book = book; last = last };
   utf8 = left.utf8;
@@ -100,7 +100,7 @@ left_again = record {
 -- what is left has none of these faults
 -- rule: database-opened.not-opened
 pub no_fault : (text : List ℕ) (db : Database) (fault : OpenFault) → IsLeft text db.trees
-    → db.schema ≡ book_schema → ¬ HasFault fault db
+    → db.schema ≡ our_schema → ¬ HasFault fault db
 no_fault text db Foreign left same h = h latest latest_known same
 no_fault text db Version left same h =
     let v = same_version h.version latest h.known latest_known (sym h.schema ∙ same) in

@@ -9,7 +9,7 @@ use Rattle.sqlite.specs.declared.error.Error.{Error}
 use Rattle.sqlite.specs.Effect.{Database}
 use Rattle.sqlite.specs.State.{State, HasCleanDisk, IsNotRun, IsUnchanged, Survives}
 use Rattle.sqlite.proofs.StateLemmas.{survives_then, survives_weaker}
-use Rattle.sql_tables.specs.Statements.{HasIdleBook, IsStill, OnlyReads, Reads, Spares}
+use Rattle.sql_tables.specs.Statements.{HasIdleTables, IsStill, OnlyReads, Reads, Spares}
 use Rattle.sql_tables.proofs.Keeps.{idle_still, only_reads_then, spares_still}
 use Rattle.sql_keeper.specs.Asks.{Asks, IsStillOpen}
 use Rattle.sql_keeper.specs.Commits.{CommitsStanding, CommitsWhole}
@@ -30,7 +30,7 @@ pub asked_spares : {A : Type 0} (P : A → Type 0) (sql : List ℕ) (old new : S
 asked_spares P sql old new (Ok x) ok err = inl ok.1
 asked_spares P sql old new (Err e) ok err = not_run sql [] old new e (err [])
 
-module _ (sql : List ℕ) (old new : State) (idle : HasIdleBook old)
+module _ (sql : List ℕ) (old new : State) (idle : HasIdleTables old)
     (survives : Survives old new (λ _. ⊥))
     (mode : old.in_transaction ≡ false → new.in_transaction ≡ false) where
   was_clean : HasCleanDisk new → HasCleanDisk old

@@ -17,7 +17,7 @@ use Rattle.reserving.specs.Rows.{AreApart}
 use Rattle.ledger.proofs.Holds.{same_itself as name_itself}
 use Rattle.reserving.proofs.LeftTests.{each_append}
 use Rattle.keepers.specs.Change.{IsSwept}
-use Rattle.sql_tables.specs.Statements.{Attempts, HasBook, HasRules, IsBook, IsInside}
+use Rattle.sql_tables.specs.Statements.{Attempts, HasTables, HasRules, IsTabled, IsInside}
 use Rattle.sql_rows.specs.Content.{TablesContent, TableRows, tables_content, rows_in, with_meta}
 use Rattle.sql_rows.specs.Each.{with_each}
 use Rattle.sql_rows.specs.Lists.{AreAccounts}
@@ -158,7 +158,7 @@ module _ (names : Names) (text : List ℕ) (shelf : Shelf) (t : ℕ) where
   -- the accounts of these numbers, within a transaction
   pub record MakesSweepOf (numbers : List (List ℕ)) (old new : State) : Type 0 where
     pub turns : SweepsEach names text shelf t numbers old.now.trees new.now.trees
-    pub book : IsBook new
+    pub book : IsTabled new
     pub shows : Shows old new new.now old.committed true
 
   -- the accounts so far
@@ -286,7 +286,7 @@ module _ (names : Names) (text : List ℕ) (shelf : Shelf) (t : ℕ) where
 
   -- what stays of the connection
   pub book_swept : (numbers : List (List ℕ)) (old now : State) → HasSweptEach numbers old now →
-      HasBook now
+      HasTables now
   book_swept numbers old now h clean on = (h.made clean).book
 
   pub inside_swept : (numbers : List (List ℕ)) (old now : State) → HasSweptEach numbers old now →

@@ -15,7 +15,7 @@ use Rattle.sqlite_sql.specs.Ops.{is_null}
 use Rattle.sqlite_schema.specs.Rules.{Fits}
 use Rattle.sqlite_rules.specs.Lists.{Has}
 use Rattle.sql_tables.specs.Keyed.{IsStored, same_name}
-use Rattle.sql_tables.specs.Schema.{accounts, book_schema, key_index}
+use Rattle.sql_tables.specs.Schema.{accounts, our_schema, key_index}
 use Rattle.sql_tables.specs.Selects.{Selects}
 use Rattle.sql_tables.proofs.Keys.{keys_back, text_last}
 use Rattle.sql_tables.proofs.Selected.{selected_to}
@@ -42,7 +42,7 @@ row_itself v = ap is_eq (self_turned (row_cmp v v) (row_cmp_total.antisymm v v))
 flips : (x y : Row) → eq_by_cmp row_cmp x y ≡ eq_by_cmp row_cmp y x
 flips x y = both_ways _ _ (keys_back x y) (keys_back y x)
 
-module _ (trees : Trees) (fits : Fits book_schema trees) (stored : IsStored (trees 2))
+module _ (trees : Trees) (fits : Fits our_schema trees) (stored : IsStored (trees 2))
     (keyed : (r : Row) → Has (trees 2) r → (a : List ℕ) × (head_key a ≡ columns r)) where
   differ : (r s : Row) → Has (trees 2) r → Has (trees 2) s
       → is_eq (value_cmp (rowid r) (rowid s)) ≡ false
@@ -55,7 +55,7 @@ module _ (trees : Trees) (fits : Fits book_schema trees) (stored : IsStored (tre
       go true e =
           let it = keyed r h in
           let same : r ≡ s =
-          one_row (1 ∷ []) book_schema accounts (inr (inl refl)) (key_index accounts)
+          one_row (1 ∷ []) our_schema accounts (inr (inl refl)) (key_index accounts)
           (inr (inl refl)) refl refl refl trees fits stored (columns r)
           (λ x m. full_key (1 ∷ []) (columns r) x
           (subst (λ (w : Row). AllByRecursion (λ v. is_null v ≡ false) w) it.1 (refl, tt)) m)
@@ -97,7 +97,7 @@ pub all_kept : (rows : List Row) → filter (λ r. true) rows ≡ rows
 all_kept [] = refl
 all_kept (r ∷ rows) = ap (λ rs. r ∷ rs) (all_kept rows)
 
-pub accounts_apart : (trees : Trees) → Fits book_schema trees → IsStored (trees 2)
+pub accounts_apart : (trees : Trees) → Fits our_schema trees → IsStored (trees 2)
     → (xs : List (List ℕ)) → Selects (λ r. true) columns (trees 2) (map head_key xs)
     → AreApart (λ x y. same_name y x) xs
 accounts_apart trees fits stored xs selects =

@@ -19,7 +19,7 @@ use Rattle.sqlite_trees.specs.Tree.{Trees}
 use Rattle.sqlite_rules.specs.Lists.{Has}
 use Rattle.sqlite_rules.proofs.ListLemmas.{all_has}
 use Rattle.sql_tables.specs.Keyed.{IsStored, same_name}
-use Rattle.sql_tables.specs.Schema.{accounts, book_schema}
+use Rattle.sql_tables.specs.Schema.{accounts, our_schema}
 use Rattle.sql_tables.specs.Selects.{Selects}
 use Rattle.sql_tables.proofs.ByKey.{listed_told, only_all}
 use Rattle.sql_tables.proofs.Found.{is_some_map}
@@ -45,7 +45,7 @@ typed (x ∷ v ∷ vs) kinds there =
     text_of v
     (and_parts (is_of kind.Text v) (are_typed None 1 (drop 1 accounts.columns) vs) kinds).0 there
 
-named : (trees : Trees) → Fits book_schema trees → (row : Row) → Has (trees 2) row
+named : (trees : Trees) → Fits our_schema trees → (row : Row) → Has (trees 2) row
     → columns row ≡ head_key (text_in (column row 1))
 named trees fits row has =
     ap (λ v. v ∷ []) (typed row
@@ -77,7 +77,7 @@ wanted a x r is = ap (λ (w : Row). is_eq (value_cmp (Text a) (column w 0))) (sy
 
 -- ---- all of them
 
-are_accounts : (trees : Trees) → Fits book_schema trees → IsStored (trees 2)
+are_accounts : (trees : Trees) → Fits our_schema trees → IsStored (trees 2)
     → (xs : List (List ℕ)) → Selects (λ r. true) columns (trees 2) (map head_key xs)
     → AreAccounts (tables_content trees) xs
 are_accounts trees fits stored xs selects = record {
@@ -95,7 +95,7 @@ are_accounts trees fits stored xs selects = record {
 
 -- the names of all rows of the table
 -- rule: statements-of-tables.tables-content
-pub all_accounts : (trees : Trees) → Fits book_schema trees → IsStored (trees 2)
+pub all_accounts : (trees : Trees) → Fits our_schema trees → IsStored (trees 2)
     → (xs : List (List ℕ)) × AreAccounts (tables_content trees) xs
 all_accounts trees fits stored =
     let it = listed head_key (λ a. Unit {0}) (map columns (trees 2)) row_in in (

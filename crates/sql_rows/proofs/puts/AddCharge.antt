@@ -17,8 +17,8 @@ use Rattle.sqlite.specs.State.{State, ExecutesInside, HasCleanDisk}
 use Rattle.sqlite.proofs.Callers.{IsPlain, command_of}
 use Rattle.ledger.specs.declared.charge.ChargeRow.{ChargeRow}
 use Rattle.sql_tables.specs.Keyed.{key_of, look}
-use Rattle.sql_tables.specs.Schema.{charges, book_schema, key_index}
-use Rattle.sql_tables.specs.Statements.{Attempts, HasBook, IsBook}
+use Rattle.sql_tables.specs.Schema.{charges, our_schema, key_index}
+use Rattle.sql_tables.specs.Statements.{Attempts, HasTables, IsTabled}
 use Rattle.sql_tables.proofs.Found.{is_some_map}
 use Rattle.sql_rows.specs.Values.{charge_values, charge_in_row}
 use Rattle.sql_rows.specs.Content.{TablesContent, tables_content, has_charge, with_charge_row}
@@ -38,12 +38,12 @@ add_charge_text =
 abbrev places : List ℕ
 places = 1 ∷ 2 ∷ []
 
-add_is : command_of (understood book_schema add_charge_text)
+add_is : command_of (understood our_schema add_charge_text)
     ≡ InsertOr 9 Abort (Values terms 10) (record { target = Some places; update = None } ∷ [])
 unfolding understood everything
 add_is = refl
 
-add_plain : IsPlain (understood book_schema add_charge_text)
+add_plain : IsPlain (understood our_schema add_charge_text)
 unfolding understood everything
 add_plain = (refl, refl)
 
@@ -51,7 +51,7 @@ module _ (a : List ℕ) (row : ChargeRow) (none : row.covered.0 ≡ 0) where
   abbrev values : Row
   values = charge_values a row
 
-  adds : (old new : State) (r : Result ℕ Error) → (IsTrue old.is_open → IsBook old)
+  adds : (old new : State) (r : Result ℕ Error) → (IsTrue old.is_open → IsTabled old)
       → OnOk r (ExecutesInside 0 add_charge_text values old new r)
       → IfOk r (AddsRow charges values old new)
   adds =
@@ -110,7 +110,7 @@ module _ (a : List ℕ) (row : ChargeRow) (none : row.covered.0 ≡ 0) where
             told = ap (λ n. n == 1) x.none ∙ ap not (sym standing);
           }
 
-  pub adds_charge : (old new : State) (count : ℕ) → HasBook old
+  pub adds_charge : (old new : State) (count : ℕ) → HasTables old
       → Attempts {A = ℕ} {E = Error}
       (λ old new. ExecutesInside 0 add_charge_text values old new (Ok count)) old new (Ok count)
       → AddsIfNone {E = Error} stands (with_rows a (with_charge_row row)) old new (Ok (count == 1))

@@ -5,7 +5,7 @@ use Rattle.std.proofs.lemmas.List.{drop_all, drop_more}
 use Rattle.sqlite.specs.State.{State, HasCleanDisk, Survives, Shows}
 use Rattle.sqlite.proofs.StateLemmas.{survives_then}
 use Rattle.sqlite_trees.specs.Objects.{catalog_tree}
-use Rattle.sql_tables.specs.Statements.{Attempts, IsBook}
+use Rattle.sql_tables.specs.Statements.{Attempts, IsTabled}
 use Rattle.sql_rows.specs.Content.{TablesContent, tables_content}
 use Rattle.sql_rows.specs.Each.{with_each}
 use Rattle.sql_rows.specs.Makes.{Makes, MakesIfOpen}
@@ -13,7 +13,7 @@ use Rattle.sql_rows.specs.Plain.{ArePlain}
 
 module _ {X : Type 0} (change : X → TablesContent → TablesContent) (all : List X) where
   pub record IsPut (rest : List X) (old now : State) : Type 0 where
-    pub book : IsBook now
+    pub book : IsTabled now
     pub shows : Shows old now now.now old.committed true
     pub catalog : now.now.trees catalog_tree ≡ old.now.trees catalog_tree
     pub plain : ArePlain old.now.trees → ArePlain now.now.trees

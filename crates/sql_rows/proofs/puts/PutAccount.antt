@@ -22,8 +22,8 @@ use Rattle.sqlite.specs.Listing.{understood}
 use Rattle.sqlite.specs.State.{State, ExecutesInside}
 use Rattle.sqlite.proofs.Callers.{IsPlain, command_of}
 use Rattle.sql_tables.specs.Keyed.{key_of, look, same_name}
-use Rattle.sql_tables.specs.Schema.{accounts, book_schema, key_index}
-use Rattle.sql_tables.specs.Statements.{Attempts, Changes, HasBook, HasRules, IsBook, Puts}
+use Rattle.sql_tables.specs.Schema.{accounts, our_schema, key_index}
+use Rattle.sql_tables.specs.Statements.{Attempts, Changes, HasTables, HasRules, IsTabled, Puts}
 use Rattle.sql_tables.proofs.Casts.{cast_int, cast_null}
 use Rattle.sql_tables.proofs.Found.{put_tells, is_some_map}
 use Rattle.sql_tables.proofs.Keys.{text_last}
@@ -57,7 +57,7 @@ project = col 1 0 ∷ col 1 0 ∷ col 0 7 ∷ col 0 8 ∷ col 0 9 ∷ col 0 10 �
 abbrev pub places : List ℕ
 places = 1 ∷ []
 
-put_is : command_of (understood book_schema put_account_text)
+put_is : command_of (understood our_schema put_account_text)
     ≡ InsertOr 1 Abort (Values terms 6)
     (record {
       target = Some places;
@@ -66,7 +66,7 @@ put_is : command_of (understood book_schema put_account_text)
 unfolding understood everything
 put_is = refl
 
-put_plain : IsPlain (understood book_schema put_account_text)
+put_plain : IsPlain (understood our_schema put_account_text)
 unfolding understood everything
 put_plain = (refl, refl)
 
@@ -88,7 +88,7 @@ module _ (a : List ℕ) (h : HeadColumns) where
   unset = simp (cast_int, cast_null)
 
   meets : (id : ℤ) (other : Row) →
-      conflicts (Some places) book_schema.indexes accounts (Int id ∷ values) other
+      conflicts (Some places) our_schema.indexes accounts (Int id ∷ values) other
       ≡ eq_by_cmp row_cmp (key_of places other) (key_of places (Int id ∷ values))
   meets id other = or_false (agree plain places other places (Int id ∷ values))
       ∙ agree_ties places other (Int id ∷ values) (refl, tt)
@@ -102,7 +102,7 @@ module _ (a : List ℕ) (h : HeadColumns) where
     ties = meets;
   }
 
-  puts : (old new : State) (r : Result ℕ Error) → (IsTrue old.is_open → IsBook old)
+  puts : (old new : State) (r : Result ℕ Error) → (IsTrue old.is_open → IsTabled old)
       → OnOk r (ExecutesInside 0 put_account_text values old new r)
       → OnOk r (Puts accounts values old new)
   puts =
@@ -130,7 +130,7 @@ module _ (a : List ℕ) (h : HeadColumns) where
             (sym (is_some_map head_in (look accounts old (head_key a))))) i;
       })
 
-  pub makes_account : (old new : State) (r : Result ⊤ Error) → HasBook old
+  pub makes_account : (old new : State) (r : Result ⊤ Error) → HasTables old
       → Attempts (HasRun put_account_text values) old new r
       → Attempts (Makes (with_account a h)) old new r
   makes_account = writes put_account_text values (Puts accounts values) (with_account a h) puts
@@ -139,7 +139,7 @@ module _ (a : List ℕ) (h : HeadColumns) where
       (plain_account a h old.now.trees new.now.trees p.changes)
       p.book p.shows) values refl
 
-  pub rules_account : (old new : State) (r : Result ⊤ Error) → HasBook old
+  pub rules_account : (old new : State) (r : Result ⊤ Error) → HasTables old
       → Attempts (HasRun put_account_text values) old new r
       → OnOk r (HasRules new)
   rules_account =

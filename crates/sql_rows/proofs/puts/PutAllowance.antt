@@ -23,8 +23,8 @@ use Rattle.sqlite.specs.Listing.{understood}
 use Rattle.sqlite.specs.State.{State, ExecutesInside}
 use Rattle.sqlite.proofs.Callers.{IsPlain, command_of}
 use Rattle.sql_tables.specs.Keyed.{key_of, same_name}
-use Rattle.sql_tables.specs.Schema.{allowance_buckets, book_schema, key_index}
-use Rattle.sql_tables.specs.Statements.{Attempts, Changes, HasBook, IsBook, Puts}
+use Rattle.sql_tables.specs.Schema.{allowance_buckets, our_schema, key_index}
+use Rattle.sql_tables.specs.Statements.{Attempts, Changes, HasTables, IsTabled, Puts}
 use Rattle.sql_tables.proofs.Casts.{cast_int, cast_null}
 use Rattle.sql_tables.proofs.Found.{put_tells, apart_if}
 use Rattle.sql_tables.proofs.Keys.{text_number}
@@ -54,7 +54,7 @@ project = col 1 0 ∷ col 1 0 ∷ col 0 4 ∷ col 0 5 ∷ []
 abbrev places : List ℕ
 places = 1 ∷ 2 ∷ []
 
-put_is : command_of (understood book_schema put_allowance_text)
+put_is : command_of (understood our_schema put_allowance_text)
     ≡ InsertOr 12 Abort (Values terms 3)
     (record {
       target = Some places;
@@ -63,7 +63,7 @@ put_is : command_of (understood book_schema put_allowance_text)
 unfolding understood everything
 put_is = refl
 
-put_plain : IsPlain (understood book_schema put_allowance_text)
+put_plain : IsPlain (understood our_schema put_allowance_text)
 unfolding understood everything
 put_plain = (refl, refl)
 
@@ -83,12 +83,12 @@ module _ (a : List ℕ) (n : ℕ) where
   unset = simp (cast_int, cast_null)
 
   meets : (id : ℤ) (other : Row) →
-      conflicts (Some places) book_schema.indexes allowance_buckets (Int id ∷ values) other
+      conflicts (Some places) our_schema.indexes allowance_buckets (Int id ∷ values) other
       ≡ eq_by_cmp row_cmp (key_of places other) (key_of places (Int id ∷ values))
   meets id other = or_false (agree plain places other places (Int id ∷ values))
       ∙ agree_ties places other (Int id ∷ values) (refl, (refl, tt))
 
-  puts : (old new : State) (r : Result ℕ Error) → (IsTrue old.is_open → IsBook old)
+  puts : (old new : State) (r : Result ℕ Error) → (IsTrue old.is_open → IsTabled old)
       → OnOk r (ExecutesInside 0 put_allowance_text values old new r)
       → OnOk r (Puts allowance_buckets values old new)
   puts =
@@ -113,7 +113,7 @@ module _ (a : List ℕ) (n : ℕ) where
       ∙ apart_if (same_name a x) (nat_eq n m) _ _))
 
   pub makes_allowance : (params : Row) → params ≡ values
-      → (old new : State) (r : Result ⊤ Error) → HasBook old
+      → (old new : State) (r : Result ⊤ Error) → HasTables old
       → Attempts (HasRun put_allowance_text params) old new r
       → Attempts (Makes (with_rows a (with_allowance n))) old new r
   makes_allowance =

@@ -22,8 +22,8 @@ use Rattle.sqlite.specs.Listing.{understood}
 use Rattle.sqlite.specs.State.{State, ExecutesInside}
 use Rattle.sqlite.proofs.Callers.{IsPlain, command_of}
 use Rattle.sql_tables.specs.Keyed.{key_of}
-use Rattle.sql_tables.specs.Schema.{books, book_schema, key_index}
-use Rattle.sql_tables.specs.Statements.{Attempts, Changes, HasBook, IsBook, Puts}
+use Rattle.sql_tables.specs.Schema.{books, our_schema, key_index}
+use Rattle.sql_tables.specs.Statements.{Attempts, Changes, HasTables, IsTabled, Puts}
 use Rattle.sql_tables.proofs.Casts.{cast_int, cast_null}
 use Rattle.sql_tables.proofs.Found.{put_tells}
 use Rattle.sql_tables.proofs.Keys.{number_last}
@@ -53,7 +53,7 @@ project = col 1 0 ∷ col 1 0 ∷ col 0 5 ∷ col 0 6 ∷ col 0 7 ∷ []
 abbrev places : List ℕ
 places = 1 ∷ []
 
-put_is : command_of (understood book_schema put_book_text)
+put_is : command_of (understood our_schema put_book_text)
     ≡ InsertOr 10 Abort (Values terms 4)
     (record {
       target = Some places;
@@ -62,7 +62,7 @@ put_is : command_of (understood book_schema put_book_text)
 unfolding understood everything
 put_is = refl
 
-put_plain : IsPlain (understood book_schema put_book_text)
+put_plain : IsPlain (understood our_schema put_book_text)
 unfolding understood everything
 put_plain = (refl, refl)
 
@@ -77,12 +77,12 @@ module _ (n : ℕ) (x : BookRow) where
   unset = simp (cast_int, cast_null)
 
   meets : (id : ℤ) (other : Row) →
-      conflicts (Some places) book_schema.indexes books (Int id ∷ values) other
+      conflicts (Some places) our_schema.indexes books (Int id ∷ values) other
       ≡ eq_by_cmp row_cmp (key_of places other) (key_of places (Int id ∷ values))
   meets id other = or_false (agree plain places other places (Int id ∷ values))
       ∙ agree_ties places other (Int id ∷ values) (refl, tt)
 
-  puts : (old new : State) (r : Result ℕ Error) → (IsTrue old.is_open → IsBook old)
+  puts : (old new : State) (r : Result ℕ Error) → (IsTrue old.is_open → IsTabled old)
       → OnOk r (ExecutesInside 0 put_book_text values old new r)
       → OnOk r (Puts books values old new)
   puts =
@@ -103,7 +103,7 @@ module _ (n : ℕ) (x : BookRow) where
 
   -- rule: book-rows
   pub makes_book : (params : Row) → params ≡ values
-      → (old new : State) (r : Result ⊤ Error) → HasBook old
+      → (old new : State) (r : Result ⊤ Error) → HasTables old
       → Attempts (HasRun put_book_text params) old new r
       → Attempts (Makes (with_book_row n x)) old new r
   makes_book =

@@ -25,8 +25,8 @@ use Rattle.sqlite.proofs.Callers.{IsPlain, command_of}
 use Rattle.buckets.specs.declared.kind.BucketKind.TheVariants.{Money}
 use Rattle.buckets.specs.Row.{BucketRow}
 use Rattle.sql_tables.specs.Keyed.{key_of, same_name}
-use Rattle.sql_tables.specs.Schema.{buckets, book_schema, key_index}
-use Rattle.sql_tables.specs.Statements.{Attempts, Changes, HasBook, IsBook, Puts}
+use Rattle.sql_tables.specs.Schema.{buckets, our_schema, key_index}
+use Rattle.sql_tables.specs.Statements.{Attempts, Changes, HasTables, IsTabled, Puts}
 use Rattle.sql_tables.proofs.Casts.{cast_int, cast_null, cast_or_null}
 use Rattle.sql_tables.proofs.Found.{put_tells, apart_if}
 use Rattle.sql_tables.proofs.Keys.{text_number}
@@ -64,7 +64,7 @@ project =
 abbrev places : List ℕ
 places = 1 ∷ 2 ∷ []
 
-put_is : command_of (understood book_schema put_bucket_text)
+put_is : command_of (understood our_schema put_bucket_text)
     ≡ InsertOr 2 Abort (Values terms 11)
     (record {
       target = Some places;
@@ -73,7 +73,7 @@ put_is : command_of (understood book_schema put_bucket_text)
 unfolding understood everything
 put_is = refl
 
-put_plain : IsPlain (understood book_schema put_bucket_text)
+put_plain : IsPlain (understood our_schema put_bucket_text)
 unfolding understood everything
 put_plain = (refl, refl)
 
@@ -98,7 +98,7 @@ module _ (a : List ℕ) (b : BucketRow) (counts : b.kind ≡ Money) where
   unset = simp (cast_int, cast_or_null, cast_null)
 
   meets : (id : ℤ) (other : Row) →
-      conflicts (Some places) book_schema.indexes buckets (Int id ∷ values) other
+      conflicts (Some places) our_schema.indexes buckets (Int id ∷ values) other
       ≡ eq_by_cmp row_cmp (key_of places other) (key_of places (Int id ∷ values))
   meets id other = or_false (agree plain places other places (Int id ∷ values))
       ∙ agree_ties places other (Int id ∷ values) (refl, (refl, tt))
@@ -112,7 +112,7 @@ module _ (a : List ℕ) (b : BucketRow) (counts : b.kind ≡ Money) where
     ties = meets;
   }
 
-  puts : (old new : State) (r : Result ℕ Error) → (IsTrue old.is_open → IsBook old)
+  puts : (old new : State) (r : Result ℕ Error) → (IsTrue old.is_open → IsTabled old)
       → OnOk r (ExecutesInside 0 put_bucket_text values old new r)
       → OnOk r (Puts buckets values old new)
   puts =
@@ -134,7 +134,7 @@ module _ (a : List ℕ) (b : BucketRow) (counts : b.kind ≡ Money) where
       (same_name a x && (nat_eq b.number n))
       (text_number a x b.number n) ∙ apart_if (same_name a x) (nat_eq b.number n) _ _))
 
-  pub makes_bucket : (old new : State) (r : Result ⊤ Error) → HasBook old
+  pub makes_bucket : (old new : State) (r : Result ⊤ Error) → HasTables old
       → Attempts (HasRun put_bucket_text values) old new r
       → Attempts (Makes (with_rows a (with_bucket b))) old new r
   makes_bucket =

@@ -23,8 +23,8 @@ use Rattle.sqlite.specs.State.{State, ExecutesInside}
 use Rattle.sqlite.proofs.Callers.{IsPlain, command_of}
 use Rattle.ledger.specs.declared.charge.ChargeRow.{ChargeRow}
 use Rattle.sql_tables.specs.Keyed.{key_of, same_name}
-use Rattle.sql_tables.specs.Schema.{charges, book_schema, key_index}
-use Rattle.sql_tables.specs.Statements.{Attempts, Changes, HasBook, IsBook, Puts}
+use Rattle.sql_tables.specs.Schema.{charges, our_schema, key_index}
+use Rattle.sql_tables.specs.Statements.{Attempts, Changes, HasTables, IsTabled, Puts}
 use Rattle.sql_tables.proofs.Casts.{cast_int, cast_null}
 use Rattle.sql_tables.proofs.Found.{put_tells, apart_if}
 use Rattle.sql_tables.proofs.Keys.{text_number}
@@ -61,7 +61,7 @@ project =
 abbrev places : List ℕ
 places = 1 ∷ 2 ∷ []
 
-put_is : command_of (understood book_schema put_charge_text)
+put_is : command_of (understood our_schema put_charge_text)
     ≡ InsertOr 9 Abort (Values terms 10)
     (record {
       target = Some places;
@@ -70,7 +70,7 @@ put_is : command_of (understood book_schema put_charge_text)
 unfolding understood everything
 put_is = refl
 
-put_plain : IsPlain (understood book_schema put_charge_text)
+put_plain : IsPlain (understood our_schema put_charge_text)
 unfolding understood everything
 put_plain = (refl, refl)
 
@@ -90,7 +90,7 @@ module _ (a : List ℕ) (row : ChargeRow) (none : row.covered.0 ≡ 0) where
   unset = simp (cast_int, cast_null)
 
   meets : (id : ℤ) (other : Row) →
-      conflicts (Some places) book_schema.indexes charges (Int id ∷ values) other
+      conflicts (Some places) our_schema.indexes charges (Int id ∷ values) other
       ≡ eq_by_cmp row_cmp (key_of places other) (key_of places (Int id ∷ values))
   meets id other = or_false (agree plain places other places (Int id ∷ values))
       ∙ agree_ties places other (Int id ∷ values) (refl, (refl, tt))
@@ -104,7 +104,7 @@ module _ (a : List ℕ) (row : ChargeRow) (none : row.covered.0 ≡ 0) where
     ties = meets;
   }
 
-  puts : (old new : State) (r : Result ℕ Error) → (IsTrue old.is_open → IsBook old)
+  puts : (old new : State) (r : Result ℕ Error) → (IsTrue old.is_open → IsTabled old)
       → OnOk r (ExecutesInside 0 put_charge_text values old new r)
       → OnOk r (Puts charges values old new)
   puts =
@@ -127,7 +127,7 @@ module _ (a : List ℕ) (row : ChargeRow) (none : row.covered.0 ≡ 0) where
       (same_name a x && (nat_eq row.number n))
       (text_number a x row.number n) ∙ apart_if (same_name a x) (nat_eq row.number n) _ _))
 
-  pub makes_charge : (old new : State) (r : Result ⊤ Error) → HasBook old
+  pub makes_charge : (old new : State) (r : Result ⊤ Error) → HasTables old
       → Attempts (HasRun put_charge_text values) old new r
       → Attempts (Makes (with_rows a (with_charge_row row))) old new r
   makes_charge =

@@ -23,8 +23,8 @@ use Rattle.sqlite.specs.State.{State, ExecutesInside}
 use Rattle.sqlite.proofs.Callers.{IsPlain, command_of}
 use Rattle.reserving.specs.declared.session.Counter.{Counter}
 use Rattle.sql_tables.specs.Keyed.{key_of, same_name}
-use Rattle.sql_tables.specs.Schema.{counters, book_schema, key_index}
-use Rattle.sql_tables.specs.Statements.{Attempts, Changes, HasBook, IsBook, Puts}
+use Rattle.sql_tables.specs.Schema.{counters, our_schema, key_index}
+use Rattle.sql_tables.specs.Statements.{Attempts, Changes, HasTables, IsTabled, Puts}
 use Rattle.sql_tables.proofs.Casts.{cast_int, cast_null}
 use Rattle.sql_tables.proofs.Found.{put_tells, apart_if}
 use Rattle.sql_tables.proofs.Keys.{text_number_number}
@@ -56,7 +56,7 @@ project = col 1 0 ∷ col 1 0 ∷ col 0 6 ∷ col 0 7 ∷ col 0 8 ∷ col 0 9 �
 abbrev places : List ℕ
 places = 1 ∷ 2 ∷ 3 ∷ []
 
-put_is : command_of (understood book_schema put_counter_text)
+put_is : command_of (understood our_schema put_counter_text)
     ≡ InsertOr 3 Abort (Values terms 5)
     (record {
       target = Some places;
@@ -65,7 +65,7 @@ put_is : command_of (understood book_schema put_counter_text)
 unfolding understood everything
 put_is = refl
 
-put_plain : IsPlain (understood book_schema put_counter_text)
+put_plain : IsPlain (understood our_schema put_counter_text)
 unfolding understood everything
 put_plain = (refl, refl)
 
@@ -80,7 +80,7 @@ module _ (a : List ℕ) (k : Counter) where
   unset = simp (cast_int, cast_null)
 
   meets : (id : ℤ) (other : Row) →
-      conflicts (Some places) book_schema.indexes counters (Int id ∷ values) other
+      conflicts (Some places) our_schema.indexes counters (Int id ∷ values) other
       ≡ eq_by_cmp row_cmp (key_of places other) (key_of places (Int id ∷ values))
   meets id other = or_false (agree plain places other places (Int id ∷ values))
       ∙ agree_ties places other (Int id ∷ values) (refl, (refl, (refl, tt)))
@@ -94,7 +94,7 @@ module _ (a : List ℕ) (k : Counter) where
     ties = meets;
   }
 
-  puts : (old new : State) (r : Result ℕ Error) → (IsTrue old.is_open → IsBook old)
+  puts : (old new : State) (r : Result ℕ Error) → (IsTrue old.is_open → IsTabled old)
       → OnOk r (ExecutesInside 0 put_counter_text values old new r)
       → OnOk r (Puts counters values old new)
   puts =
@@ -115,7 +115,7 @@ module _ (a : List ℕ) (k : Counter) where
       (same_name a x && (nat_eq k.group g && nat_eq k.cycle y)) (text_number_number a x k.group g
       k.cycle y) ∙ apart_if (same_name a x) (nat_eq k.group g && nat_eq k.cycle y) _ _)))
 
-  pub makes_counter : (old new : State) (r : Result ⊤ Error) → HasBook old
+  pub makes_counter : (old new : State) (r : Result ⊤ Error) → HasTables old
       → Attempts (HasRun put_counter_text values) old new r
       → Attempts (Makes (with_rows a (with_counter_row k))) old new r
   makes_counter =

@@ -22,8 +22,8 @@ use Rattle.sqlite.specs.Listing.{understood}
 use Rattle.sqlite.specs.State.{State, ExecutesInside}
 use Rattle.sqlite.proofs.Callers.{IsPlain, command_of}
 use Rattle.sql_tables.specs.Keyed.{key_of, same_name}
-use Rattle.sql_tables.specs.Schema.{grant_books, book_schema, key_index}
-use Rattle.sql_tables.specs.Statements.{Attempts, Changes, HasBook, IsBook, Puts}
+use Rattle.sql_tables.specs.Schema.{grant_books, our_schema, key_index}
+use Rattle.sql_tables.specs.Statements.{Attempts, Changes, HasTables, IsTabled, Puts}
 use Rattle.sql_tables.proofs.Casts.{cast_int, cast_null}
 use Rattle.sql_tables.proofs.Found.{put_tells, apart_if}
 use Rattle.sql_tables.proofs.Keys.{text_text_number}
@@ -54,7 +54,7 @@ project = col 1 0 ∷ col 1 0 ∷ col 0 6 ∷ col 0 7 ∷ col 0 8 ∷ col 0 9 �
 abbrev places : List ℕ
 places = 1 ∷ 2 ∷ 3 ∷ []
 
-put_is : command_of (understood book_schema put_grant_book_text)
+put_is : command_of (understood our_schema put_grant_book_text)
     ≡ InsertOr 11 Abort (Values terms 5)
     (record {
       target = Some places;
@@ -63,7 +63,7 @@ put_is : command_of (understood book_schema put_grant_book_text)
 unfolding understood everything
 put_is = refl
 
-put_plain : IsPlain (understood book_schema put_grant_book_text)
+put_plain : IsPlain (understood our_schema put_grant_book_text)
 unfolding understood everything
 put_plain = (refl, refl)
 
@@ -78,12 +78,12 @@ module _ (a s : List ℕ) (g n : ℕ) where
   unset = simp (cast_int, cast_null)
 
   meets : (id : ℤ) (other : Row) →
-      conflicts (Some places) book_schema.indexes grant_books (Int id ∷ values) other
+      conflicts (Some places) our_schema.indexes grant_books (Int id ∷ values) other
       ≡ eq_by_cmp row_cmp (key_of places other) (key_of places (Int id ∷ values))
   meets id other = or_false (agree plain places other places (Int id ∷ values))
       ∙ agree_ties places other (Int id ∷ values) (refl, (refl, (refl, tt)))
 
-  puts : (old new : State) (r : Result ℕ Error) → (IsTrue old.is_open → IsBook old)
+  puts : (old new : State) (r : Result ℕ Error) → (IsTrue old.is_open → IsTabled old)
       → OnOk r (ExecutesInside 0 put_grant_book_text values old new r)
       → OnOk r (Puts grant_books values old new)
   puts =
@@ -108,7 +108,7 @@ module _ (a s : List ℕ) (g n : ℕ) where
       ∙ apart_if (same_name a x) (same_name s t && nat_eq g h) _ _)))
 
   pub makes_grant_book : (params : Row) → params ≡ values
-      → (old new : State) (r : Result ⊤ Error) → HasBook old
+      → (old new : State) (r : Result ⊤ Error) → HasTables old
       → Attempts (HasRun put_grant_book_text params) old new r
       → Attempts (Makes (with_rows a (with_grant_book s g n))) old new r
   makes_grant_book =

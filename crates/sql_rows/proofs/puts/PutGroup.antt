@@ -23,8 +23,8 @@ use Rattle.sqlite.specs.Listing.{understood}
 use Rattle.sqlite.specs.State.{State, ExecutesInside}
 use Rattle.sqlite.proofs.Callers.{IsPlain, command_of}
 use Rattle.sql_tables.specs.Keyed.{key_of, same_name}
-use Rattle.sql_tables.specs.Schema.{session_groups, book_schema, key_index}
-use Rattle.sql_tables.specs.Statements.{Attempts, Changes, HasBook, IsBook, Puts}
+use Rattle.sql_tables.specs.Schema.{session_groups, our_schema, key_index}
+use Rattle.sql_tables.specs.Statements.{Attempts, Changes, HasTables, IsTabled, Puts}
 use Rattle.sql_tables.proofs.Casts.{cast_int, cast_null, cast_or_text}
 use Rattle.sql_tables.proofs.Found.{put_tells, apart_if}
 use Rattle.sql_tables.proofs.Keys.{text_text_number}
@@ -60,7 +60,7 @@ project = col 1 0 ∷ col 1 0 ∷ col 0 9 ∷ col 0 10 ∷ col 0 11 ∷ col 0 12
 abbrev places : List ℕ
 places = 1 ∷ 2 ∷ 3 ∷ []
 
-put_is : command_of (understood book_schema put_group_text)
+put_is : command_of (understood our_schema put_group_text)
     ≡ InsertOr 5 Abort (Values terms 8)
     (record {
       target = Some places;
@@ -69,7 +69,7 @@ put_is : command_of (understood book_schema put_group_text)
 unfolding understood everything
 put_is = refl
 
-put_plain : IsPlain (understood book_schema put_group_text)
+put_plain : IsPlain (understood our_schema put_group_text)
 unfolding understood everything
 put_plain = (refl, refl)
 
@@ -92,7 +92,7 @@ module _ (a s : List ℕ) (g : ℕ) (row : Group) where
   unset = simp (cast_int, cast_or_text, cast_null)
 
   meets : (id : ℤ) (other : Row) →
-      conflicts (Some places) book_schema.indexes session_groups (Int id ∷ values) other
+      conflicts (Some places) our_schema.indexes session_groups (Int id ∷ values) other
       ≡ eq_by_cmp row_cmp (key_of places other) (key_of places (Int id ∷ values))
   meets id other = or_false (agree plain places other places (Int id ∷ values))
       ∙ agree_ties places other (Int id ∷ values) (refl, (refl, (refl, tt)))
@@ -106,7 +106,7 @@ module _ (a s : List ℕ) (g : ℕ) (row : Group) where
     ties = meets;
   }
 
-  puts : (old new : State) (r : Result ℕ Error) → (IsTrue old.is_open → IsBook old)
+  puts : (old new : State) (r : Result ℕ Error) → (IsTrue old.is_open → IsTabled old)
       → OnOk r (ExecutesInside 0 put_group_text values old new r)
       → OnOk r (Puts session_groups values old new)
   puts =
@@ -131,7 +131,7 @@ module _ (a s : List ℕ) (g : ℕ) (row : Group) where
 
   -- rule: statements-of-tables.with-session-row
   pub makes_group : (params : Row) → params ≡ values
-      → (old new : State) (r : Result ⊤ Error) → HasBook old
+      → (old new : State) (r : Result ⊤ Error) → HasTables old
       → Attempts (HasRun put_group_text params) old new r
       → Attempts (Makes (with_rows a (with_group_row s g row))) old new r
   makes_group = writes put_group_text values (Puts session_groups values)

@@ -22,8 +22,8 @@ use Rattle.sqlite.specs.Listing.{understood}
 use Rattle.sqlite.specs.State.{State, ExecutesInside}
 use Rattle.sqlite.proofs.Callers.{IsPlain, command_of}
 use Rattle.sql_tables.specs.Keyed.{key_of, same_name}
-use Rattle.sql_tables.specs.Schema.{holds, book_schema, key_index}
-use Rattle.sql_tables.specs.Statements.{Attempts, Changes, HasBook, IsBook, Puts}
+use Rattle.sql_tables.specs.Schema.{holds, our_schema, key_index}
+use Rattle.sql_tables.specs.Statements.{Attempts, Changes, HasTables, IsTabled, Puts}
 use Rattle.sql_tables.proofs.Casts.{cast_int, cast_null}
 use Rattle.sql_tables.proofs.Found.{put_tells, apart_if}
 use Rattle.sql_tables.proofs.Keys.{text_text_number_number}
@@ -55,7 +55,7 @@ project = col 1 0 ∷ col 1 0 ∷ col 0 7 ∷ col 0 8 ∷ col 0 9 ∷ col 0 10 �
 abbrev places : List ℕ
 places = 1 ∷ 2 ∷ 3 ∷ 4 ∷ []
 
-put_is : command_of (understood book_schema put_hold_text)
+put_is : command_of (understood our_schema put_hold_text)
     ≡ InsertOr 6 Abort (Values terms 6)
     (record {
       target = Some places;
@@ -64,7 +64,7 @@ put_is : command_of (understood book_schema put_hold_text)
 unfolding understood everything
 put_is = refl
 
-put_plain : IsPlain (understood book_schema put_hold_text)
+put_plain : IsPlain (understood our_schema put_hold_text)
 unfolding understood everything
 put_plain = (refl, refl)
 
@@ -79,12 +79,12 @@ module _ (a s : List ℕ) (g n amount : ℕ) where
   unset = simp (cast_int, cast_null)
 
   meets : (id : ℤ) (other : Row) →
-      conflicts (Some places) book_schema.indexes holds (Int id ∷ values) other
+      conflicts (Some places) our_schema.indexes holds (Int id ∷ values) other
       ≡ eq_by_cmp row_cmp (key_of places other) (key_of places (Int id ∷ values))
   meets id other = or_false (agree plain places other places (Int id ∷ values))
       ∙ agree_ties places other (Int id ∷ values) (refl, (refl, (refl, (refl, tt))))
 
-  puts : (old new : State) (r : Result ℕ Error) → (IsTrue old.is_open → IsBook old)
+  puts : (old new : State) (r : Result ℕ Error) → (IsTrue old.is_open → IsTabled old)
       → OnOk r (ExecutesInside 0 put_hold_text values old new r)
       → OnOk r (Puts holds values old new)
   puts =
@@ -109,7 +109,7 @@ module _ (a s : List ℕ) (g n amount : ℕ) where
       ∙ apart_if (same_name a x) (same_name s t && (nat_eq g h && nat_eq n m)) _ _))))
 
   pub makes_hold : (params : Row) → params ≡ values
-      → (old new : State) (r : Result ⊤ Error) → HasBook old
+      → (old new : State) (r : Result ⊤ Error) → HasTables old
       → Attempts (HasRun put_hold_text params) old new r
       → Attempts (Makes (with_rows a (with_hold_row s g n amount))) old new r
   makes_hold =

@@ -30,8 +30,8 @@ use Rattle.sqlite.specs.Listing.{understood}
 use Rattle.sqlite.specs.State.{State, ExecutesInside, HasCleanDisk}
 use Rattle.sqlite.proofs.Callers.{IsPlain, command_of, statement_of, runs_as}
 use Rattle.sql_tables.specs.Keyed.{key_of, look, IsStored}
-use Rattle.sql_tables.specs.Schema.{meta, book_schema, key_index}
-use Rattle.sql_tables.specs.Statements.{Attempts, Changes, HasBook, HasRules, IsBook, AreStored}
+use Rattle.sql_tables.specs.Schema.{meta, our_schema, key_index}
+use Rattle.sql_tables.specs.Statements.{Attempts, Changes, HasTables, HasRules, IsTabled, AreStored}
 use Rattle.sql_tables.proofs.Books.{others, stays_stored, catalog_stays}
 use Rattle.sql_tables.proofs.Counted.{counted}
 use Rattle.sql_tables.proofs.Keeps.{done_as}
@@ -66,12 +66,12 @@ project = col 1 0 ∷ col 1 0 ∷ col 1 1 ∷ col 1 2 ∷ col 1 3 ∷ col 0 0 �
 abbrev places : List ℕ
 places = 1 ∷ []
 
-set_is : command_of (understood book_schema put_last_moment_text)
+set_is : command_of (understood our_schema put_last_moment_text)
     ≡ Update 0 (record { lets = []; body = select_from 0 terms project [] })
 unfolding understood everything
 set_is = refl
 
-set_plain : IsPlain (understood book_schema put_last_moment_text)
+set_plain : IsPlain (understood our_schema put_last_moment_text)
 unfolding understood everything
 set_plain = (refl, refl)
 
@@ -90,7 +90,7 @@ of_key n v is same =
     is ∙ ap nat (sym ((unsigned_Decides 1 n).0
     (sym (number_last 1 n) ∙ ap (λ w. eq_by_cmp row_cmp (w ∷ []) meta_key) (sym is) ∙ same)))
 
-meta_row : (db : Trees) → Fits book_schema db → IsStored (db 0) → (r : Row) → Has (db 0) r
+meta_row : (db : Trees) → Fits our_schema db → IsStored (db 0) → (r : Row) → Has (db 0) r
     → test r ≡ true → IsMetaRow r
 meta_row db fits stored r has same = record {
   id = int_is (rowid r) (all_has _ (db 0) r stored.1 has);
@@ -142,15 +142,15 @@ module _ (t : ℕ) where
     pub catalog : new catalog_tree ≡ old catalog_tree
     pub stored : AreStored old → AreStored new
     pub plain : ArePlain old → ArePlain new
-    pub fits : Fits book_schema new
+    pub fits : Fits our_schema new
 
-  module _ (old new : Trees) (fits : Fits book_schema old) (stored : IsStored (old 0)) where
+  module _ (old new : Trees) (fits : Fits our_schema old) (stored : IsStored (old 0)) where
     -- a row is under the key
     found : (r : Row) → Has (old 0) r → test r ≡ true
         → (tables_content old).meta ≡ Some (meta_in (drop 1 r))
     found r has same =
         ap (option_map meta_in)
-        (stands_under book_schema meta (inl refl) (key_index meta) (inl refl) refl refl refl old
+        (stands_under our_schema meta (inl refl) (key_index meta) (inl refl) refl refl refl old
         fits stored meta_key (λ x e. full_key places meta_key x (refl, tt) e) r has
         (keys_back (key_of places r) meta_key same))
 
@@ -160,7 +160,7 @@ module _ (t : ℕ) where
         go : (o : Option Row) → look meta old meta_key ≡ o → (tables_content old).meta ≡ None
         go None e = ap (option_map meta_in) e
         go (Some v) e =
-            let it = under_stands book_schema meta (inl refl) (key_index meta) (inl refl) refl refl
+            let it = under_stands our_schema meta (inl refl) (key_index meta) (inl refl) refl refl
             refl old fits stored meta_key v e in
             absurd (none it.0 it.1 (keys_back meta_key (key_of places it.0) it.2))
 
@@ -183,7 +183,7 @@ module _ (t : ℕ) where
         }
 
     moved : (one : OneUpdated meta test values old new)
-        → Moved book_schema meta places (values one.there) old new
+        → Moved our_schema meta places (values one.there) old new
     moved one = record {
       there = one.there;
       has = one.has;
@@ -194,17 +194,17 @@ module _ (t : ℕ) where
     one_set : OneUpdated meta test values old new → Sets old new
     one_set one =
         let m = later one.there in
-        let upserted : Upserted book_schema meta places (values one.there) old new =
+        let upserted : Upserted our_schema meta places (values one.there) old new =
         inr (moved one) in
-        let p : PutsRow places book_schema meta (values one.there) old new =
-        puts_key places book_schema meta (inl refl) (key_index meta) (inl refl) refl refl refl
+        let p : PutsRow places our_schema meta (values one.there) old new =
+        puts_key places our_schema meta (inl refl) (key_index meta) (inl refl) refl refl refl
         (values one.there) old new stored (λ v. refl) (λ id. (refl, tt)) (meets m) upserted in
         let changes : Changes meta (values one.there) old new = record {
           rows = p.rows;
           others = others meta old new p.stored p.others;
           catalog = catalog_stays meta old new p.stored p.others (omega arith);
         } in
-        let counts = counted places book_schema meta (values one.there) old new stored (λ v. refl)
+        let counts = counted places our_schema meta (values one.there) old new stored (λ v. refl)
         (meets m) upserted in
         record {
           content = turns m old new changes counts
@@ -225,22 +225,22 @@ module _ (t : ℕ) where
 
   pub record Runs (old new : State) : Type 0 where
     pub makes : Makes (with_last_moment t) old new
-    pub fits : Fits book_schema new.now.trees
+    pub fits : Fits our_schema new.now.trees
 
-  runs : (old new : State) (r : Result ℕ Error) → (IsTrue old.is_open → IsBook old)
-      → (IsTrue old.is_open → Fits book_schema old.now.trees)
+  runs : (old new : State) (r : Result ℕ Error) → (IsTrue old.is_open → IsTabled old)
+      → (IsTrue old.is_open → Fits our_schema old.now.trees)
       → OnOk r (ExecutesInside 0 put_last_moment_text params old new r) → OnOk r (Runs old new)
   runs old new (Err e) has rules h = tt
   runs old new (Ok count) has rules h =
       let book = has h.1.was_open in
       let fits = rules h.1.was_open in
       let stored = book.stored.0 in
-      let w = runs_as put_last_moment_text params old new book_schema book.schema
+      let w = runs_as put_last_moment_text params old new our_schema book.schema
       (Update 0 (record { lets = []; body = select_from 0 terms project [] })) set_is set_plain
       count h.0 in
       let done = updates_row meta (inl refl) (inl refl) refl terms project params test made values
       means (λ x. refl) meta_key (refl, tt) (λ x. refl) refl (λ olds x. refl) 0 refl old new
-      (statement_of put_last_moment_text (understood book_schema put_last_moment_text)) count
+      (statement_of put_last_moment_text (understood our_schema put_last_moment_text)) count
       book.schema fits stored
       (λ x in' same. cast_made x (meta_row old.now.trees fits stored x in' same)) w in
       let s = sets old.now.trees new.now.trees fits stored done.1 in
@@ -251,15 +251,15 @@ module _ (t : ℕ) where
       }
 
   pub makes_last_moment : (ps : Row) → ps ≡ params
-      → (old new : State) (r : Result ⊤ Error) → HasBook old → HasRules old
+      → (old new : State) (r : Result ⊤ Error) → HasTables old → HasRules old
       → Attempts (HasRun put_last_moment_text ps) old new r
       → Attempts (Makes (with_last_moment t)) old new r
   makes_last_moment ps same old new r has rules =
       done_as _ (Makes (with_last_moment t)) old new r
       (λ clean. made_of r (has clean) (rules clean))
     where
-      made_of : (r : Result ⊤ Error) → (IsTrue old.is_open → IsBook old)
-          → (IsTrue old.is_open → Fits book_schema old.now.trees)
+      made_of : (r : Result ⊤ Error) → (IsTrue old.is_open → IsTabled old)
+          → (IsTrue old.is_open → Fits our_schema old.now.trees)
           → OnOk r (HasRun put_last_moment_text ps old new)
           → OnOk r (Makes (with_last_moment t) old new)
       made_of (Ok x) book fits h = (runs old new (Ok h.count) book fits
@@ -268,7 +268,7 @@ module _ (t : ℕ) where
       made_of (Err e) book fits h = tt
 
   pub rules_last_moment : (ps : Row) → ps ≡ params
-      → (old new : State) (r : Result ⊤ Error) → HasBook old → HasRules old
+      → (old new : State) (r : Result ⊤ Error) → HasTables old → HasRules old
       → Attempts (HasRun put_last_moment_text ps) old new r
       → OnOk r (HasRules new)
   rules_last_moment ps same old new (Ok x) has rules a = λ clean on.

@@ -22,8 +22,8 @@ use Rattle.sqlite.specs.Listing.{understood}
 use Rattle.sqlite.specs.State.{State, ExecutesInside}
 use Rattle.sqlite.proofs.Callers.{IsPlain, command_of}
 use Rattle.sql_tables.specs.Keyed.{key_of, look}
-use Rattle.sql_tables.specs.Schema.{meta, book_schema, key_index}
-use Rattle.sql_tables.specs.Statements.{Attempts, Changes, HasBook, HasRules, IsBook, Puts}
+use Rattle.sql_tables.specs.Schema.{meta, our_schema, key_index}
+use Rattle.sql_tables.specs.Statements.{Attempts, Changes, HasTables, HasRules, IsTabled, Puts}
 use Rattle.sql_tables.proofs.Casts.{cast_int, cast_null}
 use Rattle.sql_tables.proofs.Found.{put_tells, is_some_map}
 use Rattle.sql_tables.proofs.Keys.{number_last}
@@ -54,7 +54,7 @@ project = col 1 0 ∷ col 1 0 ∷ col 0 6 ∷ col 0 7 ∷ col 0 8 ∷ col 0 9 �
 abbrev places : List ℕ
 places = 1 ∷ []
 
-put_is : command_of (understood book_schema put_meta_text)
+put_is : command_of (understood our_schema put_meta_text)
     ≡ InsertOr 0 Abort (Values terms 5)
     (record {
       target = Some places;
@@ -63,7 +63,7 @@ put_is : command_of (understood book_schema put_meta_text)
 unfolding understood everything
 put_is = refl
 
-put_plain : IsPlain (understood book_schema put_meta_text)
+put_plain : IsPlain (understood our_schema put_meta_text)
 unfolding understood everything
 put_plain = (refl, refl)
 
@@ -78,12 +78,12 @@ module _ (m : Meta) where
   unset = simp (cast_int, cast_null)
 
   pub meets : (id : ℤ) (other : Row) →
-      conflicts (Some places) book_schema.indexes meta (Int id ∷ values) other
+      conflicts (Some places) our_schema.indexes meta (Int id ∷ values) other
       ≡ eq_by_cmp row_cmp (key_of places other) (key_of places (Int id ∷ values))
   meets id other = or_false (agree plain places other places (Int id ∷ values))
       ∙ agree_ties places other (Int id ∷ values) (refl, tt)
 
-  puts : (old new : State) (r : Result ℕ Error) → (IsTrue old.is_open → IsBook old)
+  puts : (old new : State) (r : Result ℕ Error) → (IsTrue old.is_open → IsTabled old)
       → OnOk r (ExecutesInside 0 put_meta_text values old new r) → OnOk r (Puts meta values old new)
   puts =
       puts_table 0 meta refl (inl refl) (key_index meta) (inl refl)
@@ -103,7 +103,7 @@ module _ (m : Meta) where
   })
 
   pub makes_meta : (params : Row) → params ≡ values
-      → (old new : State) (r : Result ⊤ Error) → HasBook old
+      → (old new : State) (r : Result ⊤ Error) → HasTables old
       → Attempts (HasRun put_meta_text params) old new r
       → Attempts (Makes (with_meta m)) old new r
   makes_meta = writes put_meta_text values (Puts meta values) (with_meta m) puts
@@ -114,7 +114,7 @@ module _ (m : Meta) where
       p.book p.shows)
 
   pub rules_meta : (params : Row) → params ≡ values
-      → (old new : State) (r : Result ⊤ Error) → HasBook old
+      → (old new : State) (r : Result ⊤ Error) → HasTables old
       → Attempts (HasRun put_meta_text params) old new r
       → OnOk r (HasRules new)
   rules_meta =

@@ -25,8 +25,8 @@ use Rattle.reserving.specs.declared.session.Session.{Session}
 use Rattle.reserving.specs.declared.session.SessionState.{SessionState}
 use Rattle.reserving.specs.declared.session.SessionState.TheVariants.{Open, Ended, NeverOpened}
 use Rattle.sql_tables.specs.Keyed.{key_of, same_name}
-use Rattle.sql_tables.specs.Schema.{sessions, book_schema, key_index}
-use Rattle.sql_tables.specs.Statements.{Attempts, Changes, HasBook, IsBook, Puts}
+use Rattle.sql_tables.specs.Schema.{sessions, our_schema, key_index}
+use Rattle.sql_tables.specs.Statements.{Attempts, Changes, HasTables, IsTabled, Puts}
 use Rattle.sql_tables.proofs.Casts.{cast_int, cast_null}
 use Rattle.sql_tables.proofs.Found.{put_tells, apart_if}
 use Rattle.sql_tables.proofs.Keys.{text_text}
@@ -60,7 +60,7 @@ project = col 1 0 ∷ col 1 0 ∷ col 0 7 ∷ col 0 8 ∷ col 0 9 ∷ col 0 10 �
 abbrev places : List ℕ
 places = 1 ∷ 2 ∷ []
 
-put_is : command_of (understood book_schema put_session_text)
+put_is : command_of (understood our_schema put_session_text)
     ≡ InsertOr 4 Abort (Values terms 6)
     (record {
       target = Some places;
@@ -69,7 +69,7 @@ put_is : command_of (understood book_schema put_session_text)
 unfolding understood everything
 put_is = refl
 
-put_plain : IsPlain (understood book_schema put_session_text)
+put_plain : IsPlain (understood our_schema put_session_text)
 unfolding understood everything
 put_plain = (refl, refl)
 
@@ -92,7 +92,7 @@ module _ (a : List ℕ) (row : Session) where
   unset = simp (cast_int, cast_null)
 
   meets : (id : ℤ) (other : Row) →
-      conflicts (Some places) book_schema.indexes sessions (Int id ∷ values) other
+      conflicts (Some places) our_schema.indexes sessions (Int id ∷ values) other
       ≡ eq_by_cmp row_cmp (key_of places other) (key_of places (Int id ∷ values))
   meets id other = or_false (agree plain places other places (Int id ∷ values))
       ∙ agree_ties places other (Int id ∷ values) (refl, (refl, tt))
@@ -106,7 +106,7 @@ module _ (a : List ℕ) (row : Session) where
     ties = meets;
   }
 
-  puts : (old new : State) (r : Result ℕ Error) → (IsTrue old.is_open → IsBook old)
+  puts : (old new : State) (r : Result ℕ Error) → (IsTrue old.is_open → IsTabled old)
       → OnOk r (ExecutesInside 0 put_session_text values old new r)
       → OnOk r (Puts sessions values old new)
   puts =
@@ -128,7 +128,7 @@ module _ (a : List ℕ) (row : Session) where
       (session_key x s) (same_name a x && (same_name row.id s))
       (text_text a x row.id s) ∙ apart_if (same_name a x) (same_name row.id s) _ _))
 
-  pub makes_session : (old new : State) (r : Result ⊤ Error) → HasBook old
+  pub makes_session : (old new : State) (r : Result ⊤ Error) → HasTables old
       → Attempts (HasRun put_session_text values) old new r
       → Attempts (Makes (with_rows a (with_session_row row))) old new r
   makes_session =

@@ -21,8 +21,8 @@ use Rattle.sqlite.specs.Listing.{understood}
 use Rattle.sqlite.specs.State.{State, ExecutesInside}
 use Rattle.sqlite.proofs.Callers.{IsPlain, command_of}
 use Rattle.sql_tables.specs.Keyed.{key_of, same_name}
-use Rattle.sql_tables.specs.Schema.{vouchers, book_schema, key_index}
-use Rattle.sql_tables.specs.Statements.{Attempts, Changes, HasBook, IsBook, Puts}
+use Rattle.sql_tables.specs.Schema.{vouchers, our_schema, key_index}
+use Rattle.sql_tables.specs.Statements.{Attempts, Changes, HasTables, IsTabled, Puts}
 use Rattle.sql_tables.proofs.Casts.{cast_int, cast_null, cast_or_null, cast_or_text}
 use Rattle.sql_tables.proofs.Found.{put_tells}
 use Rattle.sql_tables.proofs.Keys.{text_last}
@@ -47,7 +47,7 @@ put_voucher_text =
     ++ codes "code = excluded.code, amount = excluded.amount, days = excluded.days, "
     ++ codes "scope = excluded.scope, account = excluded.account"
 
-put_is : command_of (understood book_schema put_voucher_text)
+put_is : command_of (understood our_schema put_voucher_text)
     ≡ InsertOr 8 Abort (Values terms 6)
     (record {
       target = Some places;
@@ -56,7 +56,7 @@ put_is : command_of (understood book_schema put_voucher_text)
 unfolding understood everything
 put_is = refl
 
-put_plain : IsPlain (understood book_schema put_voucher_text)
+put_plain : IsPlain (understood our_schema put_voucher_text)
 unfolding understood everything
 put_plain = (refl, refl)
 
@@ -87,12 +87,12 @@ module _ (code : List ℕ) (row : VoucherColumns) where
   unset = simp (cast_int, cast_or_null, cast_or_text, cast_null)
 
   meets : (id : ℤ) (other : Row) →
-      conflicts (Some places) book_schema.indexes vouchers (Int id ∷ values) other
+      conflicts (Some places) our_schema.indexes vouchers (Int id ∷ values) other
       ≡ eq_by_cmp row_cmp (key_of places other) (key_of places (Int id ∷ values))
   meets id other = or_false (agree plain places other places (Int id ∷ values))
       ∙ agree_ties places other (Int id ∷ values) (refl, tt)
 
-  puts : (old new : State) (r : Result ℕ Error) → (IsTrue old.is_open → IsBook old)
+  puts : (old new : State) (r : Result ℕ Error) → (IsTrue old.is_open → IsTabled old)
       → OnOk r (ExecutesInside 0 put_voucher_text values old new r)
       → OnOk r (Puts vouchers values old new)
   puts =
@@ -110,7 +110,7 @@ module _ (code : List ℕ) (row : VoucherColumns) where
   })
 
   pub makes_voucher : (params : Row) → params ≡ values
-      → (old new : State) (r : Result ⊤ Error) → HasBook old
+      → (old new : State) (r : Result ⊤ Error) → HasTables old
       → Attempts (HasRun put_voucher_text params) old new r
       → Attempts (Makes (with_voucher_row code row)) old new r
   makes_voucher = writes put_voucher_text values (Puts vouchers values) (with_voucher_row code row)

@@ -17,8 +17,8 @@ use Rattle.sqlite.specs.Listing.{understood}
 use Rattle.sqlite.specs.State.{State, ExecutesInside}
 use Rattle.sqlite.proofs.Callers.{IsPlain, command_of}
 use Rattle.sql_tables.specs.Keyed.{key_of}
-use Rattle.sql_tables.specs.Schema.{accounts, book_schema}
-use Rattle.sql_tables.specs.Statements.{Attempts, HasBook, HasRules, IsBook}
+use Rattle.sql_tables.specs.Schema.{accounts, our_schema}
+use Rattle.sql_tables.specs.Statements.{Attempts, HasTables, HasRules, IsTabled}
 use Rattle.sql_tables.proofs.Found.{is_some_map}
 use Rattle.sql_tables.proofs.Selected.{select_from}
 use Rattle.sql_tables.proofs.Ties.{agree_ties_at}
@@ -44,12 +44,12 @@ project = col 1 0 ∷ col 1 0 ∷ col 0 0 ∷ col 0 1 ∷ col 0 2 ∷ col 0 3 �
 abbrev places : List ℕ
 places = 1 ∷ []
 
-set_is : command_of (understood book_schema replace_account_text)
+set_is : command_of (understood our_schema replace_account_text)
     ≡ Update 1 (record { lets = []; body = select_from 2 terms project [] })
 unfolding understood everything
 set_is = refl
 
-set_plain : IsPlain (understood book_schema replace_account_text)
+set_plain : IsPlain (understood our_schema replace_account_text)
 unfolding understood everything
 set_plain = (refl, refl)
 
@@ -59,13 +59,13 @@ module _ (a : List ℕ) (h : HeadColumns) where
   unfolding first_key
   means r = agree_ties_at places r (0 ∷ []) (values a h) (refl, tt)
 
-  runs : (old new : State) (r : Result ℕ Error) → (IsTrue old.is_open → IsBook old)
+  runs : (old new : State) (r : Result ℕ Error) → (IsTrue old.is_open → IsTabled old)
       → OnOk r (ExecutesInside 0 replace_account_text (values a h) old new r)
       → IfOk r (ReplacesRow accounts (values a h) old new)
   runs = replaces_row accounts (inr (inl refl)) (inr (inl refl)) refl terms project (values a h)
       means (λ r. refl) (keyed a h) 1 refl (λ e. omega arith) replace_account_text set_is set_plain
 
-  pub replaces_account : (old new : State) (count : ℕ) → HasBook old
+  pub replaces_account : (old new : State) (count : ℕ) → HasTables old
       → Attempts {A = ℕ} {E = Error}
       (λ old new. ExecutesInside 0 replace_account_text (values a h) old new (Ok count)) old new
       (Ok count)
@@ -73,7 +73,7 @@ module _ (a : List ℕ) (h : HeadColumns) where
   replaces_account = replaces accounts (values a h) (has_account a) (with_account a h)
       (λ trees. is_some_map head_in _) (turns a h) (plain_account a h) replace_account_text runs
 
-  pub rules_account_replaced : (old new : State) (count : ℕ) → HasBook old
+  pub rules_account_replaced : (old new : State) (count : ℕ) → HasTables old
       → Attempts {A = ℕ} {E = Error}
       (λ old new. ExecutesInside 0 replace_account_text (values a h) old new (Ok count)) old new
       (Ok count)

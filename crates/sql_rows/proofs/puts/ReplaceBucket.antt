@@ -17,8 +17,8 @@ use Rattle.sqlite.specs.Listing.{understood}
 use Rattle.sqlite.specs.State.{State, ExecutesInside}
 use Rattle.sqlite.proofs.Callers.{IsPlain, command_of}
 use Rattle.sql_tables.specs.Keyed.{key_of}
-use Rattle.sql_tables.specs.Schema.{buckets, book_schema}
-use Rattle.sql_tables.specs.Statements.{Attempts, HasBook, IsBook}
+use Rattle.sql_tables.specs.Schema.{buckets, our_schema}
+use Rattle.sql_tables.specs.Statements.{Attempts, HasTables, IsTabled}
 use Rattle.sql_tables.proofs.Found.{is_some_map}
 use Rattle.sql_tables.proofs.Selected.{select_from}
 use Rattle.sql_tables.proofs.Ties.{agree_ties_at}
@@ -50,12 +50,12 @@ project =
 abbrev places : List ℕ
 places = 1 ∷ 2 ∷ []
 
-set_is : command_of (understood book_schema replace_bucket_text)
+set_is : command_of (understood our_schema replace_bucket_text)
     ≡ Update 2 (record { lets = []; body = select_from 4 terms project [] })
 unfolding understood everything
 set_is = refl
 
-set_plain : IsPlain (understood book_schema replace_bucket_text)
+set_plain : IsPlain (understood our_schema replace_bucket_text)
 unfolding understood everything
 set_plain = (refl, refl)
 
@@ -65,14 +65,14 @@ module _ (a : List ℕ) (b : BucketRow) (counts : b.kind ≡ Money) where
   unfolding first_key
   means r = agree_ties_at places r (0 ∷ 1 ∷ []) (bucket_values a b) (refl, (refl, tt))
 
-  runs : (old new : State) (r : Result ℕ Error) → (IsTrue old.is_open → IsBook old)
+  runs : (old new : State) (r : Result ℕ Error) → (IsTrue old.is_open → IsTabled old)
       → OnOk r (ExecutesInside 0 replace_bucket_text (bucket_values a b) old new r)
       → IfOk r (ReplacesRow buckets (bucket_values a b) old new)
   runs = replaces_row buckets (inr (inr (inl refl))) (inr (inr (inl refl))) refl terms project
       (bucket_values a b) means (λ r. refl) (keyed a b counts) 2 refl (λ e. omega arith)
       replace_bucket_text set_is set_plain
 
-  pub replaces_bucket : (old new : State) (count : ℕ) → HasBook old
+  pub replaces_bucket : (old new : State) (count : ℕ) → HasTables old
       → Attempts {A = ℕ} {E = Error}
       (λ old new. ExecutesInside 0 replace_bucket_text (bucket_values a b) old new (Ok count))
       old new (Ok count)

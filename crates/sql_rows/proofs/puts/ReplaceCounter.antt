@@ -17,8 +17,8 @@ use Rattle.sqlite.specs.Listing.{understood}
 use Rattle.sqlite.specs.State.{State, ExecutesInside}
 use Rattle.sqlite.proofs.Callers.{IsPlain, command_of}
 use Rattle.sql_tables.specs.Keyed.{key_of}
-use Rattle.sql_tables.specs.Schema.{counters, book_schema}
-use Rattle.sql_tables.specs.Statements.{Attempts, HasBook, IsBook}
+use Rattle.sql_tables.specs.Schema.{counters, our_schema}
+use Rattle.sql_tables.specs.Statements.{Attempts, HasTables, IsTabled}
 use Rattle.sql_tables.proofs.Found.{is_some_map}
 use Rattle.sql_tables.proofs.Selected.{select_from}
 use Rattle.sql_tables.proofs.Ties.{agree_ties_at}
@@ -48,12 +48,12 @@ project =
 abbrev places : List ℕ
 places = 1 ∷ 2 ∷ 3 ∷ []
 
-set_is : command_of (understood book_schema replace_counter_text)
+set_is : command_of (understood our_schema replace_counter_text)
     ≡ Update 3 (record { lets = []; body = select_from 6 terms project [] })
 unfolding understood everything
 set_is = refl
 
-set_plain : IsPlain (understood book_schema replace_counter_text)
+set_plain : IsPlain (understood our_schema replace_counter_text)
 unfolding understood everything
 set_plain = (refl, refl)
 
@@ -63,14 +63,14 @@ module _ (a : List ℕ) (k : Counter) where
   unfolding first_key
   means r = agree_ties_at places r (0 ∷ 1 ∷ 2 ∷ []) (counter_values a k) (refl, (refl, (refl, tt)))
 
-  runs : (old new : State) (r : Result ℕ Error) → (IsTrue old.is_open → IsBook old)
+  runs : (old new : State) (r : Result ℕ Error) → (IsTrue old.is_open → IsTabled old)
       → OnOk r (ExecutesInside 0 replace_counter_text (counter_values a k) old new r)
       → IfOk r (ReplacesRow counters (counter_values a k) old new)
   runs = replaces_row counters (inr (inr (inr (inl refl)))) (inr (inr (inr (inl refl)))) refl
       terms project (counter_values a k) means (λ r. refl) (keyed a k) 3 refl (λ e. omega arith)
       replace_counter_text set_is set_plain
 
-  pub replaces_counter : (old new : State) (count : ℕ) → HasBook old
+  pub replaces_counter : (old new : State) (count : ℕ) → HasTables old
       → Attempts {A = ℕ} {E = Error}
       (λ old new. ExecutesInside 0 replace_counter_text (counter_values a k) old new (Ok count))
       old new (Ok count)

@@ -27,7 +27,7 @@ use Rattle.sqlite.specs.State.{State}
 use Rattle.sqlite.proofs.Callers.{IsPlain, command_of, reads_as}
 use Rattle.sqlite_rules.specs.Lists.{Has}
 use Rattle.sqlite_rules.proofs.ListLemmas.{has_either, has_left, has_right}
-use Rattle.sql_tables.specs.Schema.{book_schema}
+use Rattle.sql_tables.specs.Schema.{our_schema}
 use Rattle.sql_tables.specs.Statements.{Answers}
 use Rattle.sql_tables.specs.Selects.{Selects}
 use Rattle.sql_tables.proofs.Selected.{select_from, selected_from, selected_to}
@@ -223,11 +223,11 @@ module _ (first second other : ℕ) (low_first : nat_le (2 ^ 31) first ≡ false
   -- what the text answers
   -- rule: statements-of-tables.tables-content
   pub beside_told : (text : List ℕ) (names : List (List ℕ))
-      → (command_of (understood book_schema text) ≡ Select program names)
-      × (reads_listing book_schema text ≡ false) → IsPlain (understood book_schema text)
+      → (command_of (understood our_schema text) ≡ Select program names)
+      × (reads_listing our_schema text ≡ false) → IsPlain (understood our_schema text)
       → (old new : State) (rows : List Row) → Answers text params old new rows
       → AreUnited test_one test_two (full (old.now.trees other)) (full (old.now.trees other))
       (old.now.trees first) (old.now.trees second) rows
   beside_told text names is plain old new rows got =
-      united old.now.trees rows (reads_as text params old new book_schema got.book.schema
+      united old.now.trees rows (reads_as text params old new our_schema got.book.schema
       (Select program names) is.0 plain is.1 rows got.shown).answer

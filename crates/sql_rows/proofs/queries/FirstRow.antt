@@ -23,7 +23,7 @@ use Rattle.sqlite.specs.Given.{IsPlain}
 use Rattle.sqlite.specs.Listing.{understood, reads_listing}
 use Rattle.sqlite.specs.State.{State}
 use Rattle.sqlite.proofs.Callers.{command_of, reads_as}
-use Rattle.sql_tables.specs.Schema.{book_schema}
+use Rattle.sql_tables.specs.Schema.{our_schema}
 use Rattle.sql_tables.specs.Statements.{Answers}
 use Rattle.sql_tables.proofs.Selected.{select_from}
 use Rattle.sql_tables.proofs.Steps.{bare, mapped_from, mapped_to, permuted}
@@ -126,9 +126,9 @@ module _ (tree : ℕ) (terms project : List Term) (order : List (Term × Key)) (
 
 -- what a statement that is such a selection answers
 module _ (text : List ℕ) (names : List (List ℕ)) (tree : ℕ) (terms project : List Term)
-    (order : List (Term × Key)) (is : (command_of (understood book_schema text) ≡ Select (record
+    (order : List (Term × Key)) (is : (command_of (understood our_schema text) ≡ Select (record
     { lets = []; body = first_from tree terms project order }) names) ×
-    (reads_listing book_schema text ≡ false)) (plain : IsPlain (understood book_schema text))
+    (reads_listing our_schema text ≡ false)) (plain : IsPlain (understood our_schema text))
     (params : Row) (test : Row → Bool) (key columns : Row → Row)
     (tests : (r : Row) → list_all (holds (params ∷ r ∷ [])) terms ≡ test r)
     (keys : (r : Row) → eval_all (map (λ k. k.0) order) (params ∷ r ∷ []) ≡ key r)
@@ -139,6 +139,6 @@ module _ (text : List ℕ) (names : List (List ℕ)) (tree : ℕ) (terms project
   first_told old new rows a =
       first_answered tree terms project order params test key columns tests keys shows
       old.now.trees rows
-      ((reads_as text params old new book_schema a.book.schema
+      ((reads_as text params old new our_schema a.book.schema
       (Select (record { lets = []; body = first_from tree terms project order }) names)
       is.0 plain is.1 rows a.shown).answer Null)

@@ -7,8 +7,8 @@ use Rattle.sqlite.specs.Effect.{Database}
 use Rattle.sqlite.specs.State.{State, HasCleanDisk, IsUnchanged, KeepsCommit, Survives}
 use Rattle.sqlite.proofs.StateLemmas.{survives_then}
 use Rattle.sqlite_schema.specs.Rules.{Fits}
-use Rattle.sql_tables.specs.Schema.{book_schema}
-use Rattle.sql_tables.specs.Statements.{AreStored, Attempts, HasBook, HasRules, IsInside}
+use Rattle.sql_tables.specs.Schema.{our_schema}
+use Rattle.sql_tables.specs.Statements.{AreStored, Attempts, HasTables, HasRules, IsInside}
 use Rattle.sql_tables.specs.Statements.{ReadsWithin}
 use Rattle.sql_tables.proofs.Keeps.{on_ok}
 
@@ -121,7 +121,7 @@ pub record TellWithin (P : Trees → Type 0) (old new : State) : Type 0 where
 
 -- ---- what stays
 
-pub book_still : (old new : State) → HaveWithin old new → HasBook old → HasBook new
+pub book_still : (old new : State) → HaveWithin old new → HasTables old → HasTables new
 book_still old new have book clean on =
     let same = have.same clean in
     let before = book (omega (arith, have.survives.clean, clean)) same.0.was_open in
@@ -133,7 +133,7 @@ book_still old new have book clean on =
 pub rules_still : (old new : State) → HaveWithin old new → HasRules old → HasRules new
 rules_still old new have rules clean on =
     let same = have.same clean in
-    subst (λ (d : Database). Fits book_schema d.trees) (sym same.0.now_is)
+    subst (λ (d : Database). Fits our_schema d.trees) (sym same.0.now_is)
     (rules (omega (arith, have.survives.clean, clean)) same.0.was_open)
 
 pub inside_still : (old new : State) → HaveWithin old new → IsInside old → IsInside new

@@ -23,8 +23,8 @@ use Rattle.sqlite.specs.Listing.{understood}
 use Rattle.sqlite.specs.State.{State, ExecutesInside}
 use Rattle.sqlite.proofs.Callers.{IsPlain, command_of, statement_of, runs_as}
 use Rattle.sql_tables.specs.Keyed.{key_of, same_name}
-use Rattle.sql_tables.specs.Schema.{covered, book_schema}
-use Rattle.sql_tables.specs.Statements.{Attempts, Ends, HasBook, IsBook, Removes}
+use Rattle.sql_tables.specs.Schema.{covered, our_schema}
+use Rattle.sql_tables.specs.Statements.{Attempts, Ends, HasTables, IsTabled, Removes}
 use Rattle.sql_tables.proofs.Books.{others, stays_stored, catalog_stays}
 use Rattle.sql_tables.proofs.Found.{end_tells, apart_if}
 use Rattle.sql_tables.proofs.Keys.{text_number}
@@ -49,16 +49,16 @@ of_key =
 abbrev places : List ℕ
 places = 1 ∷ 2 ∷ []
 
-remove_is : command_of (understood book_schema remove_covered_text) ≡ Delete 13
+remove_is : command_of (understood our_schema remove_covered_text) ≡ Delete 13
     (record { lets = []; body = rowids_where 29 of_key })
 unfolding understood everything
 remove_is = refl
 
-remove_plain : IsPlain (understood book_schema remove_covered_text)
+remove_plain : IsPlain (understood our_schema remove_covered_text)
 unfolding understood everything
 remove_plain = (refl, refl)
 
-gone : (olds : List Row) → works book_schema Enforced 0 29 olds [] ≡ []
+gone : (olds : List Row) → works our_schema Enforced 0 29 olds [] ≡ []
 gone olds = refl
 
 module _ (a : List ℕ) (n : ℕ) where
@@ -72,7 +72,7 @@ module _ (a : List ℕ) (n : ℕ) where
   unfolding first_key
   means r = agree_ties_at places r (0 ∷ 1 ∷ []) wanted (refl, (refl, tt))
 
-  removes : (old new : State) (r : Result ℕ Error) → (IsTrue old.is_open → IsBook old)
+  removes : (old new : State) (r : Result ℕ Error) → (IsTrue old.is_open → IsTabled old)
       → OnOk r (ExecutesInside 0 remove_covered_text wanted old new r)
       → OnOk r (Removes covered wanted old new)
   removes old new (Err e) book h = tt
@@ -80,13 +80,13 @@ module _ (a : List ℕ) (n : ℕ) where
       let book = has h.1.was_open in
       let stored = book.stored.1.1.1.1.1.1.1.1.1.1.1.1.1.0 in
       let command = Delete 13 (record { lets = []; body = rowids_where 29 of_key }) in
-      let w = runs_as remove_covered_text wanted old new book_schema book.schema command remove_is
+      let w = runs_as remove_covered_text wanted old new our_schema book.schema command remove_is
       remove_plain count h.0 in
-      let done = removes_rows book_schema 13 covered refl wanted of_key test gone (λ x. refl) old
-      new (statement_of remove_covered_text (understood book_schema remove_covered_text)) count
+      let done = removes_rows our_schema 13 covered refl wanted of_key test gone (λ x. refl) old
+      new (statement_of remove_covered_text (understood our_schema remove_covered_text)) count
       book.schema stored w in
-      let p : RemovesRows places book_schema covered wanted old.now.trees new.now.trees =
-      removes_key places book_schema covered wanted test old.now.trees new.now.trees means
+      let p : RemovesRows places our_schema covered wanted old.now.trees new.now.trees =
+      removes_key places our_schema covered wanted test old.now.trees new.now.trees means
       stored done.1 in
       record {
         changes = record {
@@ -115,7 +115,7 @@ module _ (a : List ℕ) (n : ℕ) where
       ∙ apart_if (same_name a x) (nat_eq n m) _ _))
 
   pub makes_none : (params : Row) → params ≡ wanted
-      → (old new : State) (r : Result ⊤ Error) → HasBook old
+      → (old new : State) (r : Result ⊤ Error) → HasTables old
       → Attempts (HasRun remove_covered_text params) old new r
       → Attempts (Makes (with_rows a (without_covered n))) old new r
   makes_none = writes remove_covered_text wanted (Removes covered wanted)

@@ -23,8 +23,8 @@ use Rattle.sqlite.specs.Listing.{understood}
 use Rattle.sqlite.specs.State.{State, ExecutesInside}
 use Rattle.sqlite.proofs.Callers.{IsPlain, command_of, statement_of, runs_as}
 use Rattle.sql_tables.specs.Keyed.{key_of, same_name}
-use Rattle.sql_tables.specs.Schema.{grant_books, book_schema}
-use Rattle.sql_tables.specs.Statements.{Attempts, Ends, HasBook, IsBook, Removes}
+use Rattle.sql_tables.specs.Schema.{grant_books, our_schema}
+use Rattle.sql_tables.specs.Statements.{Attempts, Ends, HasTables, IsTabled, Removes}
 use Rattle.sql_tables.proofs.Books.{others, stays_stored, catalog_stays}
 use Rattle.sql_tables.proofs.Found.{end_tells, apart_if}
 use Rattle.sql_tables.proofs.Keys.{text_text_number}
@@ -50,16 +50,16 @@ of_key =
 abbrev places : List ℕ
 places = 1 ∷ 2 ∷ 3 ∷ []
 
-remove_is : command_of (understood book_schema remove_grant_book_text) ≡ Delete 11
+remove_is : command_of (understood our_schema remove_grant_book_text) ≡ Delete 11
     (record { lets = []; body = rowids_where 24 of_key })
 unfolding understood everything
 remove_is = refl
 
-remove_plain : IsPlain (understood book_schema remove_grant_book_text)
+remove_plain : IsPlain (understood our_schema remove_grant_book_text)
 unfolding understood everything
 remove_plain = (refl, refl)
 
-gone : (olds : List Row) → works book_schema Enforced 0 24 olds [] ≡ []
+gone : (olds : List Row) → works our_schema Enforced 0 24 olds [] ≡ []
 gone olds = refl
 
 module _ (a s : List ℕ) (g : ℕ) where
@@ -73,7 +73,7 @@ module _ (a s : List ℕ) (g : ℕ) where
   unfolding first_key
   means r = agree_ties_at places r (0 ∷ 1 ∷ 2 ∷ []) wanted (refl, (refl, (refl, tt)))
 
-  removes : (old new : State) (r : Result ℕ Error) → (IsTrue old.is_open → IsBook old)
+  removes : (old new : State) (r : Result ℕ Error) → (IsTrue old.is_open → IsTabled old)
       → OnOk r (ExecutesInside 0 remove_grant_book_text wanted old new r)
       → OnOk r (Removes grant_books wanted old new)
   removes old new (Err e) book h = tt
@@ -81,14 +81,14 @@ module _ (a s : List ℕ) (g : ℕ) where
       let book = has h.1.was_open in
       let stored = book.stored.1.1.1.1.1.1.1.1.1.1.1.0 in
       let command = Delete 11 (record { lets = []; body = rowids_where 24 of_key }) in
-      let w = runs_as remove_grant_book_text wanted old new book_schema book.schema command
+      let w = runs_as remove_grant_book_text wanted old new our_schema book.schema command
       remove_is remove_plain count h.0 in
-      let done = removes_rows book_schema 11 grant_books refl wanted of_key test gone (λ x. refl)
+      let done = removes_rows our_schema 11 grant_books refl wanted of_key test gone (λ x. refl)
       old new
-      (statement_of remove_grant_book_text (understood book_schema remove_grant_book_text)) count
+      (statement_of remove_grant_book_text (understood our_schema remove_grant_book_text)) count
       book.schema stored w in
-      let p : RemovesRows places book_schema grant_books wanted old.now.trees new.now.trees =
-      removes_key places book_schema grant_books wanted test old.now.trees new.now.trees means
+      let p : RemovesRows places our_schema grant_books wanted old.now.trees new.now.trees =
+      removes_key places our_schema grant_books wanted test old.now.trees new.now.trees means
       stored done.1 in
       record {
         changes = record {
@@ -117,7 +117,7 @@ module _ (a s : List ℕ) (g : ℕ) where
       ∙ apart_if (same_name a x) (same_name s t && nat_eq g h) _ _)))
 
   pub makes_none : (params : Row) → params ≡ wanted
-      → (old new : State) (r : Result ⊤ Error) → HasBook old
+      → (old new : State) (r : Result ⊤ Error) → HasTables old
       → Attempts (HasRun remove_grant_book_text params) old new r
       → Attempts (Makes (with_rows a (without_grant_book s g))) old new r
   makes_none = writes remove_grant_book_text wanted (Removes grant_books wanted)

@@ -23,8 +23,8 @@ use Rattle.sqlite.specs.Listing.{understood}
 use Rattle.sqlite.specs.State.{State, ExecutesInside}
 use Rattle.sqlite.proofs.Callers.{IsPlain, command_of, statement_of, runs_as}
 use Rattle.sql_tables.specs.Keyed.{key_of, same_name}
-use Rattle.sql_tables.specs.Schema.{holds, book_schema}
-use Rattle.sql_tables.specs.Statements.{Attempts, Ends, HasBook, IsBook, Removes}
+use Rattle.sql_tables.specs.Schema.{holds, our_schema}
+use Rattle.sql_tables.specs.Statements.{Attempts, Ends, HasTables, IsTabled, Removes}
 use Rattle.sql_tables.proofs.Books.{others, stays_stored, catalog_stays}
 use Rattle.sql_tables.proofs.Found.{end_tells, apart_if}
 use Rattle.sql_tables.proofs.Keys.{text_text_number}
@@ -49,16 +49,16 @@ of_group =
 abbrev places : List ℕ
 places = 1 ∷ 2 ∷ 3 ∷ 4 ∷ []
 
-remove_is : command_of (understood book_schema remove_holds_text) ≡ Delete 6
+remove_is : command_of (understood our_schema remove_holds_text) ≡ Delete 6
     (record { lets = []; body = rowids_where 12 of_group })
 unfolding understood everything
 remove_is = refl
 
-remove_plain : IsPlain (understood book_schema remove_holds_text)
+remove_plain : IsPlain (understood our_schema remove_holds_text)
 unfolding understood everything
 remove_plain = (refl, refl)
 
-gone : (olds : List Row) → works book_schema Enforced 0 12 olds [] ≡ []
+gone : (olds : List Row) → works our_schema Enforced 0 12 olds [] ≡ []
 gone olds = refl
 
 module _ (a s : List ℕ) (g : ℕ) where
@@ -72,7 +72,7 @@ module _ (a s : List ℕ) (g : ℕ) where
   unfolding first_key
   means r = agree_ties_at (1 ∷ 2 ∷ 3 ∷ []) r (0 ∷ 1 ∷ 2 ∷ []) wanted (refl, (refl, (refl, tt)))
 
-  removes : (old new : State) (r : Result ℕ Error) → (IsTrue old.is_open → IsBook old)
+  removes : (old new : State) (r : Result ℕ Error) → (IsTrue old.is_open → IsTabled old)
       → OnOk r (ExecutesInside 0 remove_holds_text wanted old new r)
       → OnOk r (Removes holds wanted old new)
   removes old new (Err e) book h = tt
@@ -80,13 +80,13 @@ module _ (a s : List ℕ) (g : ℕ) where
       let book = has h.1.was_open in
       let stored = book.stored.1.1.1.1.1.1.0 in
       let command = Delete 6 (record { lets = []; body = rowids_where 12 of_group }) in
-      let w = runs_as remove_holds_text wanted old new book_schema book.schema command remove_is
+      let w = runs_as remove_holds_text wanted old new our_schema book.schema command remove_is
       remove_plain count h.0 in
-      let done = removes_rows book_schema 6 holds refl wanted of_group test gone (λ x. refl) old new
-      (statement_of remove_holds_text (understood book_schema remove_holds_text)) count
+      let done = removes_rows our_schema 6 holds refl wanted of_group test gone (λ x. refl) old new
+      (statement_of remove_holds_text (understood our_schema remove_holds_text)) count
       book.schema stored w in
-      let p : RemovesRows places book_schema holds wanted old.now.trees new.now.trees =
-      removes_key places book_schema holds wanted test old.now.trees new.now.trees means
+      let p : RemovesRows places our_schema holds wanted old.now.trees new.now.trees =
+      removes_key places our_schema holds wanted test old.now.trees new.now.trees means
       stored done.1 in
       record {
         changes = record {
@@ -114,7 +114,7 @@ module _ (a s : List ℕ) (g : ℕ) where
       ∙ apart_if (same_name a x) (same_name s t && nat_eq g h) _ _))))
 
   pub makes_none : (params : Row) → params ≡ wanted
-      → (old new : State) (r : Result ⊤ Error) → HasBook old
+      → (old new : State) (r : Result ⊤ Error) → HasTables old
       → Attempts (HasRun remove_holds_text params) old new r
       → Attempts (Makes (with_rows a (without_holds s g))) old new r
   makes_none = writes remove_holds_text wanted (Removes holds wanted)

@@ -18,7 +18,7 @@ use Rattle.sqlite_rules.specs.Lists.{Has}
 use Rattle.sqlite_rules.proofs.ListLemmas.{all_has}
 use Rattle.sqlite.specs.State.{State}
 use Rattle.sql_tables.specs.Keyed.{IsStored, entries_of, look}
-use Rattle.sql_tables.specs.Schema.{books, book_schema, key_index}
+use Rattle.sql_tables.specs.Schema.{books, our_schema, key_index}
 use Rattle.sql_tables.specs.Statements.{Answers}
 use Rattle.sql_tables.proofs.Keys.{keys_split}
 use Rattle.sql_tables.proofs.Selected.{selected_from}
@@ -72,7 +72,7 @@ row_in : (row : Row) → are_typed None 0 books.columns (drop 1 row) ≡ true
 row_in [] kinds there rules = absurd (let no : false ≡ true = (full [] there).0 in cc)
 row_in (x ∷ vs) kinds there rules = typed x vs kinds (full (x ∷ vs) there) (right (x ∷ vs) rules)
 
-fitting : (trees : Trees) → Fits book_schema trees → (row : Row) → Has (trees 22) row
+fitting : (trees : Trees) → Fits our_schema trees → (row : Row) → Has (trees 22) row
     → columns row ≡ book_at_cells (at_in (drop 1 row))
 fitting trees fits row has =
     row_in row
@@ -82,7 +82,7 @@ fitting trees fits row has =
     (all_has _ (trees 22) row (fits.rules Check (λ e. cc)).1.1.1.1.1.1.1.1.1.1.0 has)
 
 -- it is the row under its number
-under_number : (trees : Trees) → Fits book_schema trees → IsStored (trees 22) → (r : Row)
+under_number : (trees : Trees) → Fits our_schema trees → IsStored (trees 22) → (r : Row)
     → Has (trees 22) r → (n : ℕ) → column r 1 ≡ nat n
     → look books trees (book_key n) ≡ Some (drop 1 r)
 under_number trees fits stored r h n is =
@@ -94,7 +94,7 @@ under_number trees fits stored r h n is =
     let back = met_some (1 ∷ []) (book_key n) it.0 (trees 22) it.1 in
     get-from_entries row_cmp_total (entries_of (1 ∷ []) (trees 22)) (book_key n)
     ∙ it.1
-    ∙ ap Some (back.3 ∙ ap (drop 1) (one_row (1 ∷ []) book_schema books
+    ∙ ap Some (back.3 ∙ ap (drop 1) (one_row (1 ∷ []) our_schema books
     (inr (inr (inr (inr (inr (inr (inr (inr (inr (inr (inl refl))))))))))) (key_index books)
     (inr (inr (inr (inr (inr (inr (inr (inr (inr (inr (inr (inr (inl refl))))))))))))) refl refl
     refl trees fits stored (book_key n) (λ x m. full_key (1 ∷ []) (book_key n) x (refl, tt) m)
@@ -105,7 +105,7 @@ under_number trees fits stored r h n is =
 abbrev StandsIn : Trees → BookAt → Type 0
 StandsIn trees x = (tables_content trees).books x.number ≡ Some x.row
 
-book_row : (trees : Trees) → Fits book_schema trees → IsStored (trees 22) → (r : Row)
+book_row : (trees : Trees) → Fits our_schema trees → IsStored (trees 22) → (r : Row)
     → Has (trees 22) r → (w : Row) → w ≡ columns r
     → IsRowOf book_at_cells (StandsIn trees) w
 book_row trees fits stored r h w same =

@@ -11,7 +11,7 @@ use Rattle.sqlite_schema.specs.Rules.{Fits, are_present, are_typed, is_of, passe
 use Rattle.sqlite_trees.specs.Tree.{Trees}
 use Rattle.sqlite_rules.specs.Lists.{Has}
 use Rattle.sqlite_rules.proofs.ListLemmas.{all_has}
-use Rattle.sql_tables.specs.Schema.{buckets, book_schema, is_same, number, plus}
+use Rattle.sql_tables.specs.Schema.{buckets, our_schema, is_same, number, plus}
 use Rattle.sql_rows.specs.Values.{nat, nat_in}
 use Rattle.sql_rows.proofs.rules.MetaRules.{full_at, right_at, whole_in}
 
@@ -107,7 +107,7 @@ row_in : (row : Row) → are_typed None 0 buckets.columns (drop 1 row) ≡ true
 row_in [] kinds there rules = absurd (let no : false ≡ true = (full [] there).0 in cc)
 row_in (x ∷ vs) kinds there rules = typed x vs kinds (full (x ∷ vs) there) (right (x ∷ vs) rules)
 
-pub has_numbers : (trees : Trees) → Fits book_schema trees → (row : Row) → Has (trees 4) row
+pub has_numbers : (trees : Trees) → Fits our_schema trees → (row : Row) → Has (trees 4) row
     → HasNumbers row
 has_numbers trees fits row has =
     row_in row

@@ -11,7 +11,7 @@ use Rattle.sqlite_schema.specs.declared.schema.Constraint.TheVariants.{ForeignKe
 use Rattle.sqlite_schema.specs.declared.schema.Reference.{Reference}
 use Rattle.reserving.proofs.Lists.{not_both}
 use Rattle.sql_tables.specs.Keyed.{look}
-use Rattle.sql_tables.specs.Schema.{belongs, book_schema, charges, covered}
+use Rattle.sql_tables.specs.Schema.{belongs, our_schema, charges, covered}
 use Rattle.sql_tables.proofs.Found.{is_some_map}
 use Rattle.sql_tables.proofs.Parents.{parent_there}
 use Rattle.sql_tables.proofs.Selections.{full_key}
@@ -22,16 +22,16 @@ use Rattle.sql_rows.specs.Lists.{AreCoveredBeside}
 abbrev to_charge : Reference
 to_charge = belongs (1 ∷ 2 ∷ []) (codes "charges") (codes "account" ∷ codes "number" ∷ [])
 
-points_to_charge : parent_key book_schema.tables to_charge ≡
+points_to_charge : parent_key our_schema.tables to_charge ≡
     Some (charges.tree, charges.primary, plain)
 unfolding joined same_name
 points_to_charge = refl
 
-module _ (trees : Trees) (keys : Keeps ForeignKey book_schema trees) (a : List ℕ) where
+module _ (trees : Trees) (keys : Keeps ForeignKey our_schema trees) (a : List ℕ) where
   charge_of_covered : (n : ℕ) (v : Row) → look covered trees (charge_key a n) ≡ Some v →
       is_some (look charges trees (charge_key a n)) ≡ true
   charge_of_covered n v found =
-      parent_there book_schema covered
+      parent_there our_schema covered
       (inr (inr (inr (inr (inr (inr (inr (inr (inr (inr (inr (inr (inr (inl refl))))))))))))))
       to_charge (inl refl) charges points_to_charge trees keys (charge_key a n) v (charge_key a n)
       found (λ r m. (full_key (1 ∷ 2 ∷ []) (charge_key a n) r (refl, (refl, tt)) m, m))

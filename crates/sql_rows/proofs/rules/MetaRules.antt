@@ -21,7 +21,7 @@ use Rattle.sqlite_rules.specs.Lists.{Has}
 use Rattle.sqlite_rules.proofs.ListLemmas.{all_has}
 use Rattle.sqlite.specs.State.{State}
 use Rattle.sql_tables.specs.Keyed.{key_of}
-use Rattle.sql_tables.specs.Schema.{meta, book_schema}
+use Rattle.sql_tables.specs.Schema.{meta, our_schema}
 use Rattle.sql_tables.specs.Selects.{one_or_none}
 use Rattle.sql_tables.specs.Statements.{Answers}
 use Rattle.sql_tables.proofs.Single.{one_selected}
@@ -109,7 +109,7 @@ row_in : (row : Row) → are_typed None 0 meta.columns (drop 1 row) ≡ true
 row_in [] kinds there rules = absurd (let no : false ≡ true = (full [] there).0 in cc)
 row_in (x ∷ vs) kinds there rules = typed x vs kinds (full (x ∷ vs) there) (right (x ∷ vs) rules)
 
-pub fitting : (trees : Trees) → Fits book_schema trees → (row : Row) → Has (trees 0) row
+pub fitting : (trees : Trees) → Fits our_schema trees → (row : Row) → Has (trees 0) row
     → columns row ≡ meta_cells (meta_in (drop 1 row))
 fitting trees fits row has =
     row_in row
@@ -128,7 +128,7 @@ key_in (x ∷ a ∷ more) kinds there rule =
     (and_parts (is_of kind.Integer a) (are_typed None 1 (drop 1 meta.columns) more) kinds).0
     there rule
 
-pub number_there : (trees : Trees) → Fits book_schema trees → (row : Row) → Has (trees 0) row
+pub number_there : (trees : Trees) → Fits our_schema trees → (row : Row) → Has (trees 0) row
     → column row 1 ≡ nat (nat_in (column row 1))
 number_there trees fits row has =
     key_in row

@@ -20,7 +20,7 @@ use Rattle.sqlite_rules.specs.Lists.{Has}
 use Rattle.sqlite_rules.proofs.ListLemmas.{all_has}
 use Rattle.sqlite.specs.State.{State}
 use Rattle.sql_tables.specs.Keyed.{IsStored, entries_of, look}
-use Rattle.sql_tables.specs.Schema.{book_schema, key_index, session_groups}
+use Rattle.sql_tables.specs.Schema.{our_schema, key_index, session_groups}
 use Rattle.sql_tables.specs.Statements.{Answers}
 use Rattle.sql_tables.proofs.Keys.{int_tie}
 use Rattle.sql_tables.proofs.Selected.{selected_from}
@@ -108,7 +108,7 @@ row_in [] kinds there rules one =
 row_in (x ∷ vs) kinds there rules one =
     typed x vs kinds (full (x ∷ vs) there) (right (x ∷ vs) rules) one
 
-fitting : (trees : Trees) → Fits book_schema trees → (row : Row) → Has (trees 10) row
+fitting : (trees : Trees) → Fits our_schema trees → (row : Row) → Has (trees 10) row
     → extra row ≡ true → columns row ≡ reserved_cells (at_in (drop 1 row))
 fitting trees fits row has one =
     row_in row
@@ -122,7 +122,7 @@ fitting trees fits row has one =
 tied : (v w : Value) → w ≡ v → is_eq (value_cmp v w) ≡ true
 tied v w is = ap (λ x. is_eq (value_cmp v x)) is ∙ ap is_eq (tied_itself value_cmp_total v)
 
-under_key : (trees : Trees) → Fits book_schema trees → IsStored (trees 10) → (r : Row)
+under_key : (trees : Trees) → Fits our_schema trees → IsStored (trees 10) → (r : Row)
     → Has (trees 10) r → (a s : List ℕ) (g : ℕ) → column r 1 ≡ Text a → column r 2 ≡ Text s
     → column r 3 ≡ nat g → look session_groups trees (group_key a s g) ≡ Some (drop 1 r)
 under_key trees fits stored r h a s g of_account of_session of_group =
@@ -135,7 +135,7 @@ under_key trees fits stored r h a s g of_account of_session of_group =
     let back = met_some (1 ∷ 2 ∷ 3 ∷ []) key it.0 (trees 10) it.1 in
     get-from_entries row_cmp_total (entries_of (1 ∷ 2 ∷ 3 ∷ []) (trees 10)) key
     ∙ it.1
-    ∙ ap Some (back.3 ∙ ap (drop 1) (one_row (1 ∷ 2 ∷ 3 ∷ []) book_schema session_groups
+    ∙ ap Some (back.3 ∙ ap (drop 1) (one_row (1 ∷ 2 ∷ 3 ∷ []) our_schema session_groups
     (inr (inr (inr (inr (inr (inl refl)))))) (key_index session_groups)
     (inr (inr (inr (inr (inr (inl refl)))))) refl refl refl
     trees fits stored key (λ x m. full_key (1 ∷ 2 ∷ 3 ∷ []) key x (refl, (refl, (refl, tt))) m)
@@ -151,7 +151,7 @@ record StandsIn (trees : Trees) (x : ReservedAt) : Type 0 where
 flag_at : (r : Row) → (at_in (drop 1 r)).reserved ≡ true → flag_in (column (drop 1 r) 4) ≡ true
 flag_at r h = h
 
-reserved_row : (trees : Trees) → Fits book_schema trees → IsStored (trees 10) → (r : Row)
+reserved_row : (trees : Trees) → Fits our_schema trees → IsStored (trees 10) → (r : Row)
     → Has (trees 10) r → extra r ≡ true → (w : Row) → w ≡ columns r
     → IsRowOf reserved_cells (StandsIn trees) w
 reserved_row trees fits stored r h one w same =

@@ -18,7 +18,7 @@ use Rattle.sqlite.specs.Listing.{understood, reads_listing}
 use Rattle.sqlite.specs.State.{State}
 use Rattle.sqlite.proofs.Callers.{command_of}
 use Rattle.sql_tables.specs.Keyed.{key_of}
-use Rattle.sql_tables.specs.Schema.{accounts, book_schema}
+use Rattle.sql_tables.specs.Schema.{accounts, our_schema}
 use Rattle.sql_tables.specs.Selects.{Selects, one_or_none}
 use Rattle.sql_tables.specs.Statements.{Answers}
 use Rattle.sql_tables.proofs.ByKey.{one_told}
@@ -46,13 +46,13 @@ names = codes "barred" ∷ codes "as_of" ∷ codes "next_bucket" ∷ codes "next
 abbrev places : List ℕ
 places = 1 ∷ []
 
-text_is : (command_of (understood book_schema read_account_text)
+text_is : (command_of (understood our_schema read_account_text)
     ≡ Select (record { lets = []; body = select_from 2 terms project [] }) names) ×
-    (reads_listing book_schema read_account_text ≡ false)
+    (reads_listing our_schema read_account_text ≡ false)
 unfolding understood everything
 text_is = (refl, refl)
 
-pub read_account_plain : IsPlain (understood book_schema read_account_text)
+pub read_account_plain : IsPlain (understood our_schema read_account_text)
 unfolding understood everything
 read_account_plain = (refl, refl)
 

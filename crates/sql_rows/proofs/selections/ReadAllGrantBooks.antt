@@ -8,7 +8,7 @@ use Rattle.sqlite_value.specs.Order.{Row, column, value_cmp}
 use Rattle.sqlite_trees.specs.Tree.{Trees}
 use Rattle.sqlite_schema.specs.Rules.{Fits, equal}
 use Rattle.sql_tables.specs.Keyed.{IsStored}
-use Rattle.sql_tables.specs.Schema.{grant_books, book_schema}
+use Rattle.sql_tables.specs.Schema.{grant_books, our_schema}
 use Rattle.sql_tables.proofs.ByKey.{answered_told, only_all}
 use Rattle.sql_tables.proofs.Columns.{equal_turned}
 use Rattle.sql_tables.proofs.Keys.{int_tie, keys_split, text_tie}
@@ -75,7 +75,7 @@ module _ (a : List ℕ) where
       ∙ ap₂ ◌&&◌ (text_tie x.session s) (int_tie x.group g)
 
   -- a list of those rows
-  pub books_answered : (trees : Trees) → Fits book_schema trees → IsStored (trees 24)
+  pub books_answered : (trees : Trees) → Fits our_schema trees → IsStored (trees 24)
       → (xs : List SessionBookAt)
       → AreAnswered front columns (trees 24) (map session_book_cells xs)
       → AreAllGrantBooks (rows_in trees a) xs

@@ -9,7 +9,7 @@ use Rattle.sqlite_value.specs.Order.{Row, column, value_cmp}
 use Rattle.sqlite_trees.specs.Tree.{Trees}
 use Rattle.sqlite_schema.specs.Rules.{Fits, equal}
 use Rattle.sql_tables.specs.Keyed.{IsStored}
-use Rattle.sql_tables.specs.Schema.{holds, book_schema}
+use Rattle.sql_tables.specs.Schema.{holds, our_schema}
 use Rattle.sql_tables.proofs.ByKey.{answered_told, only_all}
 use Rattle.sql_tables.proofs.Columns.{equal_turned}
 use Rattle.sql_tables.proofs.Keys.{keys_split, int_tie, text_tie}
@@ -83,7 +83,7 @@ module _ (a : List ℕ) where
       ∙ ap₂ ◌&&◌ (text_tie x.session s) (ap₂ ◌&&◌ (int_tie x.group g) (int_tie x.bucket n))
 
   -- a list of those rows
-  pub holds_answered : (trees : Trees) → Fits book_schema trees → IsStored (trees 12)
+  pub holds_answered : (trees : Trees) → Fits our_schema trees → IsStored (trees 12)
       → (xs : List SessionHoldAt)
       → AreAnswered front columns (trees 12) (map session_hold_cells xs)
       → AreAllHolds (rows_in trees a) xs

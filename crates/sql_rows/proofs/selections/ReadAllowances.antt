@@ -16,7 +16,7 @@ use Rattle.sqlite.specs.Given.{IsPlain}
 use Rattle.sqlite.specs.Listing.{understood, reads_listing}
 use Rattle.sqlite.specs.State.{State}
 use Rattle.sqlite.proofs.Callers.{command_of}
-use Rattle.sql_tables.specs.Schema.{allowance_buckets, book_schema}
+use Rattle.sql_tables.specs.Schema.{allowance_buckets, our_schema}
 use Rattle.sql_tables.specs.Selects.{Selects}
 use Rattle.sql_tables.specs.Statements.{Answers}
 use Rattle.sql_tables.proofs.ByKey.{listed_told, only_all}
@@ -55,13 +55,13 @@ of_account = op2 (Compare Eq Binary) (col 1 1) (col 0 0) ∷ []
 abbrev order : List (Term × Key)
 order = (col 1 2, record { collation = Binary; descending = false }) ∷ []
 
-text_is : (command_of (understood book_schema read_allowances_text)
+text_is : (command_of (understood our_schema read_allowances_text)
     ≡ Select (record { lets = []; body = select_from 27 of_account project order }) names) ×
-    (reads_listing book_schema read_allowances_text ≡ false)
+    (reads_listing our_schema read_allowances_text ≡ false)
 unfolding understood everything
 text_is = (refl, refl)
 
-pub read_allowances_plain : IsPlain (understood book_schema read_allowances_text)
+pub read_allowances_plain : IsPlain (understood our_schema read_allowances_text)
 unfolding understood everything
 read_allowances_plain = (refl, refl)
 

@@ -18,7 +18,7 @@ use Rattle.sqlite.specs.Listing.{understood, reads_listing}
 use Rattle.sqlite.specs.State.{State}
 use Rattle.sqlite.proofs.Callers.{command_of}
 use Rattle.sql_tables.specs.Keyed.{key_of}
-use Rattle.sql_tables.specs.Schema.{answers, book_schema}
+use Rattle.sql_tables.specs.Schema.{answers, our_schema}
 use Rattle.sql_tables.specs.Selects.{Selects, one_or_none}
 use Rattle.sql_tables.specs.Statements.{Answers}
 use Rattle.sql_tables.proofs.ByKey.{one_told}
@@ -47,13 +47,13 @@ names = codes "content" ∷ codes "answer" ∷ []
 abbrev places : List ℕ
 places = 1 ∷ 2 ∷ 3 ∷ 4 ∷ []
 
-text_is : (command_of (understood book_schema read_answer_text)
+text_is : (command_of (understood our_schema read_answer_text)
     ≡ Select (record { lets = []; body = select_from 14 terms project [] }) names) ×
-    (reads_listing book_schema read_answer_text ≡ false)
+    (reads_listing our_schema read_answer_text ≡ false)
 unfolding understood everything
 text_is = (refl, refl)
 
-pub read_answer_plain : IsPlain (understood book_schema read_answer_text)
+pub read_answer_plain : IsPlain (understood our_schema read_answer_text)
 unfolding understood everything
 read_answer_plain = (refl, refl)
 

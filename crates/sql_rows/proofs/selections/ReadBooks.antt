@@ -12,7 +12,7 @@ use Rattle.sqlite.specs.Given.{IsPlain}
 use Rattle.sqlite.specs.Listing.{understood, reads_listing}
 use Rattle.sqlite.specs.State.{State}
 use Rattle.sqlite.proofs.Callers.{command_of}
-use Rattle.sql_tables.specs.Schema.{books, book_schema}
+use Rattle.sql_tables.specs.Schema.{books, our_schema}
 use Rattle.sql_tables.specs.Selects.{Selects}
 use Rattle.sql_tables.specs.Statements.{Answers}
 use Rattle.sql_tables.proofs.ByKey.{listed_told, only_all}
@@ -50,13 +50,13 @@ read_books_text = codes "SELECT number, starts, content FROM books ORDER BY numb
 abbrev order : List (Term × Key)
 order = (col 1 1, record { collation = Binary; descending = false }) ∷ []
 
-text_is : (command_of (understood book_schema read_books_text)
+text_is : (command_of (understood our_schema read_books_text)
     ≡ Select (record { lets = []; body = select_from 22 [] project order }) names) ×
-    (reads_listing book_schema read_books_text ≡ false)
+    (reads_listing our_schema read_books_text ≡ false)
 unfolding understood everything
 text_is = (refl, refl)
 
-pub read_books_plain : IsPlain (understood book_schema read_books_text)
+pub read_books_plain : IsPlain (understood our_schema read_books_text)
 unfolding understood everything
 read_books_plain = (refl, refl)
 

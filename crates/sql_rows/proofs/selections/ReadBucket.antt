@@ -17,7 +17,7 @@ use Rattle.sqlite.specs.Listing.{understood, reads_listing}
 use Rattle.sqlite.specs.State.{State}
 use Rattle.sqlite.proofs.Callers.{command_of}
 use Rattle.sql_tables.specs.Keyed.{key_of}
-use Rattle.sql_tables.specs.Schema.{buckets, book_schema}
+use Rattle.sql_tables.specs.Schema.{buckets, our_schema}
 use Rattle.sql_tables.specs.Selects.{Selects, one_or_none}
 use Rattle.sql_tables.specs.Statements.{Answers}
 use Rattle.sql_tables.proofs.ByKey.{one_told}
@@ -41,13 +41,13 @@ terms =
 abbrev places : List ℕ
 places = 1 ∷ 2 ∷ []
 
-text_is : (command_of (understood book_schema read_bucket_text)
+text_is : (command_of (understood our_schema read_bucket_text)
     ≡ Select (record { lets = []; body = select_from 4 terms project [] }) names) ×
-    (reads_listing book_schema read_bucket_text ≡ false)
+    (reads_listing our_schema read_bucket_text ≡ false)
 unfolding understood everything
 text_is = (refl, refl)
 
-pub read_bucket_plain : IsPlain (understood book_schema read_bucket_text)
+pub read_bucket_plain : IsPlain (understood our_schema read_bucket_text)
 unfolding understood everything
 read_bucket_plain = (refl, refl)
 

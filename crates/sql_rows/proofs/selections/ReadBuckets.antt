@@ -16,7 +16,7 @@ use Rattle.sqlite.specs.Given.{IsPlain}
 use Rattle.sqlite.specs.Listing.{understood, reads_listing}
 use Rattle.sqlite.specs.State.{State}
 use Rattle.sqlite.proofs.Callers.{command_of}
-use Rattle.sql_tables.specs.Schema.{buckets, book_schema}
+use Rattle.sql_tables.specs.Schema.{buckets, our_schema}
 use Rattle.sql_tables.specs.Selects.{Selects}
 use Rattle.sql_tables.specs.Statements.{Answers}
 use Rattle.sql_tables.proofs.ByKey.{listed_told}
@@ -79,16 +79,16 @@ buckets_all_terms =
 abbrev buckets_all_order : List (Term × Key)
 buckets_all_order = (col 1 2, record { collation = Binary; descending = false }) ∷ []
 
-buckets_all_is : (command_of (understood book_schema read_buckets_all_text)
+buckets_all_is : (command_of (understood our_schema read_buckets_all_text)
     ≡ Select (record {
       lets = [];
       body = select_from 4 buckets_all_terms project buckets_all_order;
     }) names) ×
-    (reads_listing book_schema read_buckets_all_text ≡ false)
+    (reads_listing our_schema read_buckets_all_text ≡ false)
 unfolding understood everything
 buckets_all_is = (refl, refl)
 
-pub read_buckets_all_plain : IsPlain (understood book_schema read_buckets_all_text)
+pub read_buckets_all_plain : IsPlain (understood our_schema read_buckets_all_text)
 unfolding understood everything
 read_buckets_all_plain = (refl, refl)
 

@@ -17,7 +17,7 @@ use Rattle.sqlite.specs.Given.{IsPlain}
 use Rattle.sqlite.specs.Listing.{understood, reads_listing}
 use Rattle.sqlite.specs.State.{State}
 use Rattle.sqlite.proofs.Callers.{command_of}
-use Rattle.sql_tables.specs.Schema.{charges, book_schema}
+use Rattle.sql_tables.specs.Schema.{charges, our_schema}
 use Rattle.sql_tables.specs.Selects.{Selects}
 use Rattle.sql_tables.specs.Statements.{Answers}
 use Rattle.sql_tables.proofs.ByKey.{listed_told}
@@ -82,16 +82,16 @@ charges_terms =
 abbrev charges_order : List (Term × Key)
 charges_order = (col 1 2, record { collation = Binary; descending = false }) ∷ []
 
-charges_is : (command_of (understood book_schema read_charges_within_text)
+charges_is : (command_of (understood our_schema read_charges_within_text)
     ≡ Select (record {
       lets = [];
       body = select_from 18 charges_terms project charges_order;
     }) names) ×
-    (reads_listing book_schema read_charges_within_text ≡ false)
+    (reads_listing our_schema read_charges_within_text ≡ false)
 unfolding understood everything
 charges_is = (refl, refl)
 
-pub read_charges_within_plain : IsPlain (understood book_schema read_charges_within_text)
+pub read_charges_within_plain : IsPlain (understood our_schema read_charges_within_text)
 unfolding understood everything
 read_charges_within_plain = (refl, refl)
 

@@ -18,7 +18,7 @@ use Rattle.sqlite.specs.Listing.{understood, reads_listing}
 use Rattle.sqlite.specs.State.{State}
 use Rattle.sqlite.proofs.Callers.{command_of}
 use Rattle.sql_tables.specs.Keyed.{key_of}
-use Rattle.sql_tables.specs.Schema.{counters, book_schema}
+use Rattle.sql_tables.specs.Schema.{counters, our_schema}
 use Rattle.sql_tables.specs.Selects.{Selects, one_or_none}
 use Rattle.sql_tables.specs.Statements.{Answers}
 use Rattle.sql_tables.proofs.ByKey.{one_told}
@@ -47,13 +47,13 @@ names = codes "rating_group" ∷ codes "cycle" ∷ codes "blocks" ∷ []
 abbrev places : List ℕ
 places = 1 ∷ 2 ∷ 3 ∷ []
 
-text_is : (command_of (understood book_schema read_counter_text)
+text_is : (command_of (understood our_schema read_counter_text)
     ≡ Select (record { lets = []; body = select_from 6 terms project [] }) names) ×
-    (reads_listing book_schema read_counter_text ≡ false)
+    (reads_listing our_schema read_counter_text ≡ false)
 unfolding understood everything
 text_is = (refl, refl)
 
-pub read_counter_plain : IsPlain (understood book_schema read_counter_text)
+pub read_counter_plain : IsPlain (understood our_schema read_counter_text)
 unfolding understood everything
 read_counter_plain = (refl, refl)
 

@@ -12,7 +12,7 @@ use Rattle.sqlite_schema.specs.Rules.{Fits, equal}
 use Rattle.sqlite_rules.proofs.ListLemmas.{has_found}
 use Rattle.sqlite_trees.specs.Tree.{Trees}
 use Rattle.sql_tables.specs.Keyed.{IsStored}
-use Rattle.sql_tables.specs.Schema.{counters, book_schema}
+use Rattle.sql_tables.specs.Schema.{counters, our_schema}
 use Rattle.sql_tables.proofs.ByKey.{answered_told, only_all}
 use Rattle.sql_tables.proofs.Columns.{equal_turned}
 use Rattle.sql_tables.proofs.Keys.{keys_split, int_tie}
@@ -89,7 +89,7 @@ module _ (a : List ℕ) (cycle : ℕ) where
           absurd (let no : true ≡ false = sym ((unsigned_Decides c cycle).1 same) ∙ other in cc)
 
   -- a list of those rows
-  pub counters_answered : (trees : Trees) → Fits book_schema trees → IsStored (trees 6)
+  pub counters_answered : (trees : Trees) → Fits our_schema trees → IsStored (trees 6)
       → (xs : List Counter) → AreSelected (trees 6) xs → AreCountersIn cycle (rows_in trees a) xs
   counters_answered trees fits stored xs answered g c = elim (cases_Bool (nat_eq c cycle)) [
     | inl here ↦ rw here (subst (λ y. find (λ x. nat_eq x.group g && nat_eq x.cycle y) xs

@@ -22,7 +22,7 @@ use Rattle.sqlite.specs.Listing.{understood, reads_listing}
 use Rattle.sqlite.specs.State.{State}
 use Rattle.sqlite.proofs.Callers.{command_of}
 use Rattle.sql_tables.specs.Keyed.{look}
-use Rattle.sql_tables.specs.Schema.{covered, book_schema}
+use Rattle.sql_tables.specs.Schema.{covered, our_schema}
 use Rattle.sql_tables.specs.Selects.{Selects}
 use Rattle.sql_tables.specs.Statements.{Answers}
 use Rattle.sql_tables.proofs.ByKey.{listed_told, only_all}
@@ -78,13 +78,13 @@ covered_terms =
 abbrev order : List (Term × Key)
 order = (col 1 2, record { collation = Binary; descending = false }) ∷ []
 
-text_is : (command_of (understood book_schema read_covered_text)
+text_is : (command_of (understood our_schema read_covered_text)
     ≡ Select (record { lets = []; body = select_from 29 covered_terms project order }) names) ×
-    (reads_listing book_schema read_covered_text ≡ false)
+    (reads_listing our_schema read_covered_text ≡ false)
 unfolding understood everything
 text_is = (refl, refl)
 
-pub read_covered_plain : IsPlain (understood book_schema read_covered_text)
+pub read_covered_plain : IsPlain (understood our_schema read_covered_text)
 unfolding understood everything
 read_covered_plain = (refl, refl)
 

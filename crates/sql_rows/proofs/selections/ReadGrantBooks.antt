@@ -14,7 +14,7 @@ use Rattle.sqlite.specs.Given.{IsPlain}
 use Rattle.sqlite.specs.Listing.{understood, reads_listing}
 use Rattle.sqlite.specs.State.{State}
 use Rattle.sqlite.proofs.Callers.{command_of}
-use Rattle.sql_tables.specs.Schema.{grant_books, book_schema}
+use Rattle.sql_tables.specs.Schema.{grant_books, our_schema}
 use Rattle.sql_tables.specs.Selects.{Selects}
 use Rattle.sql_tables.specs.Statements.{Answers}
 use Rattle.sql_tables.proofs.ByKey.{listed_told, only_all}
@@ -53,13 +53,13 @@ read_grant_books_text =
     codes "SELECT rating_group, book FROM grant_books WHERE account = ?1 AND session = ?2 "
     ++ codes "ORDER BY rating_group"
 
-text_is : (command_of (understood book_schema read_grant_books_text)
+text_is : (command_of (understood our_schema read_grant_books_text)
     ≡ Select (record { lets = []; body = select_from 24 of_session project by_group }) names) ×
-    (reads_listing book_schema read_grant_books_text ≡ false)
+    (reads_listing our_schema read_grant_books_text ≡ false)
 unfolding understood everything
 text_is = (refl, refl)
 
-pub read_grant_books_plain : IsPlain (understood book_schema read_grant_books_text)
+pub read_grant_books_plain : IsPlain (understood our_schema read_grant_books_text)
 unfolding understood everything
 read_grant_books_plain = (refl, refl)
 

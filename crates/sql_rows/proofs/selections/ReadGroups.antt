@@ -14,7 +14,7 @@ use Rattle.sqlite.specs.Given.{IsPlain}
 use Rattle.sqlite.specs.Listing.{understood, reads_listing}
 use Rattle.sqlite.specs.State.{State}
 use Rattle.sqlite.proofs.Callers.{command_of}
-use Rattle.sql_tables.specs.Schema.{session_groups, book_schema}
+use Rattle.sql_tables.specs.Schema.{session_groups, our_schema}
 use Rattle.sql_tables.specs.Selects.{Selects}
 use Rattle.sql_tables.specs.Statements.{Answers}
 use Rattle.sql_tables.proofs.ByKey.{listed_told, only_all}
@@ -56,13 +56,13 @@ abbrev pub read_groups_text : List ℕ
 read_groups_text = codes "SELECT rating_group, used, reserved, period_before, period_after "
     ++ codes "FROM session_groups WHERE account = ?1 AND session = ?2 ORDER BY rating_group"
 
-groups_is : (command_of (understood book_schema read_groups_text)
+groups_is : (command_of (understood our_schema read_groups_text)
     ≡ Select (record { lets = []; body = select_from 10 of_session project by_group }) names) ×
-    (reads_listing book_schema read_groups_text ≡ false)
+    (reads_listing our_schema read_groups_text ≡ false)
 unfolding understood everything
 groups_is = (refl, refl)
 
-pub read_groups_plain : IsPlain (understood book_schema read_groups_text)
+pub read_groups_plain : IsPlain (understood our_schema read_groups_text)
 unfolding understood everything
 read_groups_plain = (refl, refl)
 

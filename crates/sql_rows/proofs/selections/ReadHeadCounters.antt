@@ -21,7 +21,7 @@ use Rattle.sqlite.specs.State.{State}
 use Rattle.sqlite.proofs.Callers.{command_of}
 use Rattle.reserving.specs.declared.session.Counter.{Counter}
 use Rattle.sql_tables.specs.Keyed.{IsStored}
-use Rattle.sql_tables.specs.Schema.{accounts, book_schema}
+use Rattle.sql_tables.specs.Schema.{accounts, our_schema}
 use Rattle.sql_tables.specs.Selects.{one_or_none}
 use Rattle.sql_tables.specs.Statements.{Answers}
 use Rattle.sql_tables.proofs.ByKey.{answered_told, only_all}
@@ -76,14 +76,14 @@ abbrev pub order : List (Term × Key)
 order = (col 1 1, record { collation = Binary; descending = false }) ∷
     (col 1 2, record { collation = Binary; descending = false }) ∷ []
 
-text_is : (command_of (understood book_schema read_head_counters_text)
+text_is : (command_of (understood our_schema read_head_counters_text)
     ≡ Select (union_of 6 (part_from 2 head_terms head_project)
     (part_from 6 (counter_terms 1) (counter_project 1)) by shown order) names) ×
-    (reads_listing book_schema read_head_counters_text ≡ false)
+    (reads_listing our_schema read_head_counters_text ≡ false)
 unfolding understood everything
 text_is = (refl, refl)
 
-pub read_head_counters_plain : IsPlain (understood book_schema read_head_counters_text)
+pub read_head_counters_plain : IsPlain (understood our_schema read_head_counters_text)
 unfolding understood everything
 read_head_counters_plain = (refl, refl)
 
@@ -136,7 +136,7 @@ module _ (a : List ℕ) where
   splits r = keys_split (Text a) (column r 1) [] []
       ∙ ap (λ t. t && true) (sym (equal_turned (column r 1) (Text a) refl))
 
-  head_answered : (trees : Trees) → Fits book_schema trees → IsStored (trees 2) →
+  head_answered : (trees : Trees) → Fits our_schema trees → IsStored (trees 2) →
       (o : Option HeadColumns)
       → AreAnswered (front a) account.columns (trees 2) (map head_cells (one_or_none o))
       → o ≡ (rows_in trees a).head
@@ -149,7 +149,7 @@ module _ (a : List ℕ) where
       ∙ only_all _
 
   -- the head of the part of heads
-  pub head_of : (trees : Trees) → Fits book_schema trees → IsStored (trees 2) → (out : List Row)
+  pub head_of : (trees : Trees) → Fits our_schema trees → IsStored (trees 2) → (out : List Row)
       (o : Option HeadColumns) → AreNumbered 0 (front a) head_columns (trees 2) out
       → IsHeadAmong out o → o ≡ (rows_in trees a).head
   head_of trees fits stored out o p is =
@@ -159,7 +159,7 @@ module _ (a : List ℕ) where
 
   -- the counters of a part
   pub counters_in_part : (part cycle : ℕ) → nat_eq part part ≡ true → (trees : Trees)
-      → Fits book_schema trees → IsStored (trees 6) → (out : List Row) (ks : List Counter)
+      → Fits our_schema trees → IsStored (trees 6) → (out : List Row) (ks : List Counter)
       → AreNumbered part (λ r. front a r && extra a cycle r) (counter_columns part) (trees 6) out
       → AreCountersAmong part out ks → AreCountersIn cycle (rows_in trees a) ks
   counters_in_part part cycle same trees fits stored out ks p is =

@@ -19,7 +19,7 @@ use Rattle.sqlite.specs.Listing.{understood, reads_listing}
 use Rattle.sqlite.specs.State.{State}
 use Rattle.sqlite.proofs.Callers.{command_of, reads_as}
 use Rattle.sql_tables.specs.Keyed.{IsStored}
-use Rattle.sql_tables.specs.Schema.{book_schema}
+use Rattle.sql_tables.specs.Schema.{our_schema}
 use Rattle.sql_tables.specs.Statements.{Answers}
 use Rattle.sql_tables.proofs.Steps.{and_last, and_true}
 use Rattle.sql_rows.specs.declared.head_counter_rows.CycleNumbers.{CycleNumbers}
@@ -55,12 +55,12 @@ heads = part_from 2 head_terms head_project
 abbrev all : Program
 all = four_parts 6 by shown order heads (part 1) (part 2) (part 3)
 
-text_is : (command_of (understood book_schema read_head_cycles_text) ≡ Select all names) ×
-    (reads_listing book_schema read_head_cycles_text ≡ false)
+text_is : (command_of (understood our_schema read_head_cycles_text) ≡ Select all names) ×
+    (reads_listing our_schema read_head_cycles_text ≡ false)
 unfolding understood everything
 text_is = (refl, refl)
 
-pub read_head_cycles_plain : IsPlain (understood book_schema read_head_cycles_text)
+pub read_head_cycles_plain : IsPlain (understood our_schema read_head_cycles_text)
 unfolding understood everything
 read_head_cycles_plain = (refl, refl)
 
@@ -148,7 +148,7 @@ module _ (a : List ℕ) (cycles : CycleNumbers) (db : Trees) (rows : List Row) w
   only_month v (inr (inr (inr x))) e = x
 
   -- each list of what is read
-  cycles_told : Fits book_schema db → IsStored (db 2) → IsStored (db 6) → AreThose IsShown rows
+  cycles_told : Fits our_schema db → IsStored (db 2) → IsStored (db 6) → AreThose IsShown rows
       → (x : HeadCycles) → IsHeadAmong rows x.head × AreCountersAmong 1 rows x.never.items
       × AreCountersAmong 2 rows x.daily.items × AreCountersAmong 3 rows x.monthly.items
       → (x.head ≡ (rows_in db a).head) × AreCountersIn cycles.never (rows_in db a) x.never.items
@@ -183,5 +183,5 @@ head_cycles_read a cycles old new rows x got is =
     let db : Trees = old.now.trees in
     cycles_told a cycles db rows got.fits got.book.stored.1.0 got.book.stored.1.1.1.0
     (those a cycles db rows (reads_as read_head_cycles_text (params a cycles db rows) old new
-    book_schema got.book.schema (Select all names) text_is.0 read_head_cycles_plain text_is.1 rows
+    our_schema got.book.schema (Select all names) text_is.0 read_head_cycles_plain text_is.1 rows
     got.shown).answer) x is

@@ -17,7 +17,7 @@ use Rattle.sqlite.specs.Given.{IsPlain}
 use Rattle.sqlite.specs.Listing.{understood, reads_listing}
 use Rattle.sqlite.specs.State.{State}
 use Rattle.sqlite.proofs.Callers.{command_of}
-use Rattle.sql_tables.specs.Schema.{holds, book_schema}
+use Rattle.sql_tables.specs.Schema.{holds, our_schema}
 use Rattle.sql_tables.specs.Selects.{Selects}
 use Rattle.sql_tables.specs.Statements.{Answers}
 use Rattle.sql_tables.proofs.ByKey.{listed_told, only_all}
@@ -64,13 +64,13 @@ abbrev holds_order : List (Term × Key)
 holds_order = (col 1 3, record { collation = Binary; descending = false }) ∷
     (col 1 4, record { collation = Binary; descending = false }) ∷ []
 
-holds_is : (command_of (understood book_schema read_holds_text)
+holds_is : (command_of (understood our_schema read_holds_text)
     ≡ Select (record { lets = []; body = select_from 12 holds_terms project holds_order }) names) ×
-    (reads_listing book_schema read_holds_text ≡ false)
+    (reads_listing our_schema read_holds_text ≡ false)
 unfolding understood everything
 holds_is = (refl, refl)
 
-pub read_holds_plain : IsPlain (understood book_schema read_holds_text)
+pub read_holds_plain : IsPlain (understood our_schema read_holds_text)
 unfolding understood everything
 read_holds_plain = (refl, refl)
 

@@ -31,7 +31,7 @@ use Rattle.sqlite.specs.Listing.{understood, reads_listing}
 use Rattle.sqlite.specs.State.{State}
 use Rattle.sqlite.proofs.Callers.{command_of}
 use Rattle.sql_tables.specs.Keyed.{entries_of, key_of, look}
-use Rattle.sql_tables.specs.Schema.{allowance_buckets, buckets, book_schema}
+use Rattle.sql_tables.specs.Schema.{allowance_buckets, buckets, our_schema}
 use Rattle.sql_tables.specs.Statements.{Answers}
 use Rattle.sql_tables.proofs.ByKey.{answered_told}
 use Rattle.sql_tables.proofs.Keys.{keys_back}
@@ -110,14 +110,14 @@ order = (col 1 3, record { collation = Binary; descending = false }) ∷
 abbrev names_all : List (List ℕ)
 names_all = names ++ codes "counts_blocks" ∷ []
 
-text_is : (command_of (understood book_schema read_live_text)
+text_is : (command_of (understood our_schema read_live_text)
     ≡ Select (union_of 11 (part_beside 4 left_terms 27 beside_terms project_all)
     (part_beside 4 held_terms 27 beside_terms project_all) by shown order) names_all) ×
-    (reads_listing book_schema read_live_text ≡ false)
+    (reads_listing our_schema read_live_text ≡ false)
 unfolding understood everything
 text_is = (refl, refl)
 
-pub read_live_plain : IsPlain (understood book_schema read_live_text)
+pub read_live_plain : IsPlain (understood our_schema read_live_text)
 unfolding understood everything
 read_live_plain = (refl, refl)
 

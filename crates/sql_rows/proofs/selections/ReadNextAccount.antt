@@ -26,7 +26,7 @@ use Rattle.sqlite_rules.specs.Lists.{Has}
 use Rattle.sqlite_trees.specs.Tree.{Trees}
 use Rattle.sqlite_schema.specs.Rules.{Fits}
 use Rattle.sql_tables.specs.Keyed.{IsStored, look}
-use Rattle.sql_tables.specs.Schema.{accounts, book_schema, key_index}
+use Rattle.sql_tables.specs.Schema.{accounts, our_schema, key_index}
 use Rattle.sql_tables.specs.Selects.{one_or_none}
 use Rattle.sql_tables.specs.Statements.{Answers}
 use Rattle.sql_tables.proofs.Found.{is_some_map}
@@ -79,13 +79,13 @@ order = (col 1 1, record { collation = Binary; descending = false }) ∷ []
 abbrev pub read_first_text : List ℕ
 read_first_text = codes "SELECT account FROM accounts ORDER BY account LIMIT 1"
 
-first_is : (command_of (understood book_schema read_first_text)
+first_is : (command_of (understood our_schema read_first_text)
     ≡ Select (record { lets = []; body = first_from 2 [] project order }) names) ×
-    (reads_listing book_schema read_first_text ≡ false)
+    (reads_listing our_schema read_first_text ≡ false)
 unfolding understood everything
 first_is = (refl, refl)
 
-pub read_first_plain : IsPlain (understood book_schema read_first_text)
+pub read_first_plain : IsPlain (understood our_schema read_first_text)
 unfolding understood everything
 read_first_plain = (refl, refl)
 
@@ -96,13 +96,13 @@ read_after_text =
 abbrev after_terms : List Term
 after_terms = op2 (Compare Gt Binary) (col 1 1) (col 0 0) ∷ []
 
-after_is : (command_of (understood book_schema read_after_text)
+after_is : (command_of (understood our_schema read_after_text)
     ≡ Select (record { lets = []; body = first_from 2 after_terms project order }) names) ×
-    (reads_listing book_schema read_after_text ≡ false)
+    (reads_listing our_schema read_after_text ≡ false)
 unfolding understood everything
 after_is = (refl, refl)
 
-pub read_after_plain : IsPlain (understood book_schema read_after_text)
+pub read_after_plain : IsPlain (understood our_schema read_after_text)
 unfolding understood everything
 read_after_plain = (refl, refl)
 
@@ -131,7 +131,7 @@ is_false : (b : Bool) → (b ≡ true → ⊥) → b ≡ false
 is_false true no' = absurd (no' refl)
 is_false false no' = refl
 
-module _ (trees : Trees) (fits : Fits book_schema trees) (stored : IsStored (trees 2)) where
+module _ (trees : Trees) (fits : Fits our_schema trees) (stored : IsStored (trees 2)) where
   -- a stored row of an account
   row_of : (a : List ℕ) → is_some (look accounts trees (head_key a)) ≡ true
       → (r : Row) × Has (trees 2) r × (column r 1 ≡ Text a)
@@ -141,7 +141,7 @@ module _ (trees : Trees) (fits : Fits book_schema trees) (stored : IsStored (tre
           → (r : Row) × Has (trees 2) r × (column r 1 ≡ Text a)
       go None e there = absurd (true≢false (sym there))
       go (Some v) e there =
-          let it = under_stands book_schema accounts (inr (inl refl)) (key_index accounts)
+          let it = under_stands our_schema accounts (inr (inl refl)) (key_index accounts)
           (inr (inl refl)) refl refl refl trees fits stored (head_key a) v e in (
             it.0,
             it.1,
@@ -153,7 +153,7 @@ module _ (trees : Trees) (fits : Fits book_schema trees) (stored : IsStored (tre
   has_row : (a : List ℕ) (r : Row) → Has (trees 2) r → column r 1 ≡ Text a
       → is_some (look accounts trees (head_key a)) ≡ true
   has_row a r h is =
-      ap is_some (stands_under book_schema accounts (inr (inl refl)) (key_index accounts)
+      ap is_some (stands_under our_schema accounts (inr (inl refl)) (key_index accounts)
       (inr (inl refl)) refl refl refl trees fits stored (head_key a)
       (λ x m. full_key (1 ∷ []) (head_key a) x (refl, tt) m) r h
       (keys_split (Text a) (column r 1) [] [] ∙ and_true _

@@ -17,7 +17,7 @@ use Rattle.sqlite.specs.Listing.{understood, reads_listing}
 use Rattle.sqlite.specs.State.{State}
 use Rattle.sqlite.proofs.Callers.{command_of}
 use Rattle.sql_tables.specs.Keyed.{same_name}
-use Rattle.sql_tables.specs.Schema.{sessions, book_schema}
+use Rattle.sql_tables.specs.Schema.{sessions, our_schema}
 use Rattle.sql_tables.specs.Selects.{Selects}
 use Rattle.sql_tables.specs.Statements.{Answers}
 use Rattle.sql_tables.proofs.ByKey.{listed_told}
@@ -46,16 +46,16 @@ sessions_open_terms =
 abbrev sessions_open_order : List (Term × Key)
 sessions_open_order = (col 1 2, record { collation = Binary; descending = false }) ∷ []
 
-sessions_open_is : (command_of (understood book_schema read_sessions_open_text)
+sessions_open_is : (command_of (understood our_schema read_sessions_open_text)
     ≡ Select (record {
       lets = [];
       body = select_from 8 sessions_open_terms project sessions_open_order;
     }) names) ×
-    (reads_listing book_schema read_sessions_open_text ≡ false)
+    (reads_listing our_schema read_sessions_open_text ≡ false)
 unfolding understood everything
 sessions_open_is = (refl, refl)
 
-pub read_sessions_open_plain : IsPlain (understood book_schema read_sessions_open_text)
+pub read_sessions_open_plain : IsPlain (understood our_schema read_sessions_open_text)
 unfolding understood everything
 read_sessions_open_plain = (refl, refl)
 

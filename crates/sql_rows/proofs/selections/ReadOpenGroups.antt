@@ -20,7 +20,7 @@ use Rattle.sqlite_rules.proofs.ListLemmas.{all_has, some_from, some_has}
 use Rattle.reserving.specs.Left.{is_open_row}
 use Rattle.reserving.specs.Sessions.{is_open}
 use Rattle.sql_tables.specs.Keyed.{IsStored, look}
-use Rattle.sql_tables.specs.Schema.{book_schema, key_index, session_groups, sessions}
+use Rattle.sql_tables.specs.Schema.{our_schema, key_index, session_groups, sessions}
 use Rattle.sql_tables.specs.Selects.{passing}
 use Rattle.sql_tables.proofs.ByKey.{answered_told}
 use Rattle.sql_tables.proofs.Columns.{equal_turned}
@@ -155,7 +155,7 @@ full_session : (a s : List ℕ) (r : Row) → meets (1 ∷ 2 ∷ []) (session_ke
     → (is_null (column r 1) ≡ false) × ((is_null (column r 2) ≡ false) × Unit {0})
 full_session a s r e = full_key (1 ∷ 2 ∷ []) (session_key a s) r (refl, (refl, tt)) e
 
-module _ (a : List ℕ) (trees : Trees) (fits : Fits book_schema trees)
+module _ (a : List ℕ) (trees : Trees) (fits : Fits our_schema trees)
     (stored : IsStored (trees 8)) where
   abbrev front : Row → Bool
   front r = equal Binary (column r 1) (Text a)
@@ -251,7 +251,7 @@ module _ (a : List ℕ) (trees : Trees) (fits : Fits book_schema trees)
       subst (λ w. is_open_row ((rows_in trees a).sessions (text_in w)) ≡ true)
       (session_of r ∙ name) l in
       let it = opened (look sessions trees (session_key a s)) on in
-      let stands = under_stands book_schema sessions (inr (inr (inr (inr (inl refl)))))
+      let stands = under_stands our_schema sessions (inr (inr (inr (inr (inl refl)))))
       (key_index sessions) (inr (inr (inr (inr (inl refl))))) refl refl refl trees fits stored
       (session_key a s) it.0 it.1 in
       let t : Row = stands.0 in
@@ -284,7 +284,7 @@ module _ (a : List ℕ) (trees : Trees) (fits : Fits book_schema trees)
       session_splits x.session t
       ∙ and_from (front t) (is_eq (value_cmp (Text x.session) (column t 2))) it.1.account tie in
       let found : look sessions trees (session_key a x.session) ≡ Some (drop 1 t) =
-      stands_under book_schema sessions (inr (inr (inr (inr (inl refl)))))
+      stands_under our_schema sessions (inr (inr (inr (inr (inl refl)))))
       (key_index sessions) (inr (inr (inr (inr (inl refl))))) refl refl refl trees fits stored
       (session_key a x.session) (full_session a x.session) t it.1.there key in
       ap (λ o. is_open_row (option_map session_in_row o)) found
@@ -315,7 +315,7 @@ module _ (a : List ℕ) (trees : Trees) (fits : Fits book_schema trees)
 
 -- a list of those rows
 -- rule: statements-of-tables.open-rows
-pub open_groups_answered : (a : List ℕ) (trees : Trees) (fits : Fits book_schema trees)
+pub open_groups_answered : (a : List ℕ) (trees : Trees) (fits : Fits our_schema trees)
     (stored : IsStored (trees 8)) → IsStored (trees 10) → (xs : List OpenGroupAt)
     → AreAnswered (extra a trees fits stored) columns (trees 10) (map open_group_cells xs)
     → AreOpenGroups (rows_in trees a) xs
@@ -330,7 +330,7 @@ open_groups_answered a trees fits stored own xs answered s g =
     (lives a trees fits stored s g) (told a trees fits stored) xs answered)
     ∙ closing a trees fits stored s g (look session_groups trees (group_key a s g))
     (λ v e.
-    let stands = under_stands book_schema session_groups
+    let stands = under_stands our_schema session_groups
     (inr (inr (inr (inr (inr (inl refl)))))) (key_index session_groups)
     (inr (inr (inr (inr (inr (inl refl)))))) refl refl refl trees fits own (group_key a s g) v e in
     ap text_in (ap (λ w. column w 1) stands.3 ∙ session_of stands.0

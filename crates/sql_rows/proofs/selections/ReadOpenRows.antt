@@ -25,7 +25,7 @@ use Rattle.sqlite.specs.Listing.{understood, reads_listing}
 use Rattle.sqlite.specs.State.{State}
 use Rattle.sqlite.proofs.Callers.{command_of, reads_as}
 use Rattle.sql_tables.specs.Keyed.{IsStored}
-use Rattle.sql_tables.specs.Schema.{book_schema}
+use Rattle.sql_tables.specs.Schema.{our_schema}
 use Rattle.sql_tables.specs.Statements.{Answers}
 use Rattle.sql_tables.proofs.Steps.{and_true, mapped_from}
 use Rattle.sql_rows.specs.declared.open_rows.OpenRows.{OpenRows}
@@ -98,13 +98,13 @@ abbrev program : Program
 program = three_parts 8 by shown order (part_both 8 10 group_terms group_project)
     (part_from 12 account_terms hold_project) (part_from 24 account_terms book_project)
 
-text_is : (command_of (understood book_schema read_open_rows_text)
+text_is : (command_of (understood our_schema read_open_rows_text)
     ≡ Select program names) ×
-    (reads_listing book_schema read_open_rows_text ≡ false)
+    (reads_listing our_schema read_open_rows_text ≡ false)
 unfolding understood everything
 text_is = (refl, refl)
 
-pub read_open_rows_plain : IsPlain (understood book_schema read_open_rows_text)
+pub read_open_rows_plain : IsPlain (understood our_schema read_open_rows_text)
 unfolding understood everything
 read_open_rows_plain = (refl, refl)
 
@@ -126,7 +126,7 @@ listed cells n begins xs v h =
     let it = mapped_from cells xs v h in
     ap (λ w. column w 0) it.2 ∙ begins it.0
 
-module _ (a : List ℕ) (trees : Trees) (fits : Fits book_schema trees)
+module _ (a : List ℕ) (trees : Trees) (fits : Fits our_schema trees)
     (stored : IsStored (trees 8)) where
   abbrev OfGroups : Row → Type 0
   OfGroups = IsOf (group.extra a trees fits stored) group.columns (trees 10)
@@ -196,7 +196,7 @@ module _ (a : List ℕ) (trees : Trees) (fits : Fits book_schema trees)
       (one_part 24 refl account_terms book_project trees (Text a ∷ []) shown (book.front a)
       book.columns (λ r. and_true (book.front a r)) (λ r. refl) (λ r. refl)) rows
       (subst (λ db. IsProgramAnswer (lets_of program) program.body db (Text a ∷ []) rows) is
-      (reads_as read_open_rows_text (Text a ∷ []) old new book_schema got.book.schema
+      (reads_as read_open_rows_text (Text a ∷ []) old new our_schema got.book.schema
       (Select program names) text_is.0 read_open_rows_plain text_is.1 rows got.shown).answer)
 
 pub open_rows_read : (a : List ℕ) (old new : State) (rows : List Row) (x : OpenRows)
@@ -204,7 +204,7 @@ pub open_rows_read : (a : List ℕ) (old new : State) (rows : List Row) (x : Ope
     → AreOpenRows (rows_in old.now.trees a) x
 open_rows_read a old new rows x got is =
     let trees : Trees = old.now.trees in
-    let fits : Fits book_schema trees = got.fits in
+    let fits : Fits our_schema trees = got.fits in
     let stored : IsStored (trees 8) = got.book.stored.1.1.1.1.0 in
     let gs : List OpenGroupAt = map open_group_at x.groups.items in
     let hs : List SessionHoldAt = map session_hold_at x.holds.items in

@@ -18,7 +18,7 @@ use Rattle.sqlite.specs.Listing.{understood, reads_listing}
 use Rattle.sqlite.specs.State.{State}
 use Rattle.sqlite.proofs.Callers.{command_of}
 use Rattle.sql_tables.specs.Keyed.{look, same_name}
-use Rattle.sql_tables.specs.Schema.{session_groups, book_schema}
+use Rattle.sql_tables.specs.Schema.{session_groups, our_schema}
 use Rattle.sql_tables.specs.Selects.{Selects, passing}
 use Rattle.sql_tables.specs.Statements.{Answers}
 use Rattle.sql_tables.proofs.ByKey.{listed_told}
@@ -79,13 +79,13 @@ read_reserved_text =
 abbrev terms : List Term
 terms = op2 (Compare Eq Binary) (col 1 5) (lit (Int (pos 1))) ∷ []
 
-text_is : (command_of (understood book_schema read_reserved_text)
+text_is : (command_of (understood our_schema read_reserved_text)
     ≡ Select (record { lets = []; body = select_from 10 terms project [] }) names) ×
-    (reads_listing book_schema read_reserved_text ≡ false)
+    (reads_listing our_schema read_reserved_text ≡ false)
 unfolding understood everything
 text_is = (refl, refl)
 
-pub read_reserved_plain : IsPlain (understood book_schema read_reserved_text)
+pub read_reserved_plain : IsPlain (understood our_schema read_reserved_text)
 unfolding understood everything
 read_reserved_plain = (refl, refl)
 

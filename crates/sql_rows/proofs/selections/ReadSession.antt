@@ -23,7 +23,7 @@ use Rattle.sqlite.specs.Listing.{understood, reads_listing}
 use Rattle.sqlite.specs.State.{State}
 use Rattle.sqlite.proofs.Callers.{command_of}
 use Rattle.sql_tables.specs.Keyed.{key_of, look}
-use Rattle.sql_tables.specs.Schema.{book_schema, grant_books, holds, session_groups, sessions}
+use Rattle.sql_tables.specs.Schema.{our_schema, grant_books, holds, session_groups, sessions}
 use Rattle.sql_tables.specs.Selects.{Selects, one_or_none}
 use Rattle.sql_tables.specs.Statements.{Answers}
 use Rattle.sql_tables.proofs.ByKey.{one_told}
@@ -57,13 +57,13 @@ names = codes "session" ∷ codes "last_number" ∷ codes "touched" ∷ codes "s
 abbrev places : List ℕ
 places = 1 ∷ 2 ∷ []
 
-text_is : (command_of (understood book_schema read_session_text)
+text_is : (command_of (understood our_schema read_session_text)
     ≡ Select (record { lets = []; body = select_from 8 terms project [] }) names) ×
-    (reads_listing book_schema read_session_text ≡ false)
+    (reads_listing our_schema read_session_text ≡ false)
 unfolding understood everything
 text_is = (refl, refl)
 
-pub read_session_plain : IsPlain (understood book_schema read_session_text)
+pub read_session_plain : IsPlain (understood our_schema read_session_text)
 unfolding understood everything
 read_session_plain = (refl, refl)
 
@@ -102,7 +102,7 @@ module _ (a s : List ℕ) where
 
 -- ---- where there is none
 
-module _ (a s : List ℕ) (trees : Trees) (keys : Keeps ForeignKey book_schema trees)
+module _ (a s : List ℕ) (trees : Trees) (keys : Keeps ForeignKey our_schema trees)
     (none : (rows_in trees a).sessions s ≡ None) where
   not_there : {A : Type 0} → is_some (look sessions trees (session_key a s)) ≡ true → A
   not_there there = absurd (not_both (sym (ap is_some none)
@@ -142,7 +142,7 @@ module _ (a s : List ℕ) (trees : Trees) (keys : Keeps ForeignKey book_schema t
 
 -- rule: statements-of-tables.with-session-row
 pub none_told : {E : Type 0} (a s : List ℕ) (trees : Trees) (r : Result (Option Session) E) →
-    IfOk r (λ o. o ≡ (rows_in trees a).sessions s) → Keeps ForeignKey book_schema trees →
+    IfOk r (λ o. o ≡ (rows_in trees a).sessions s) → Keeps ForeignKey our_schema trees →
     IfOk r (λ o. o ≡ None → HasNoGroups (rows_in trees a) s)
 none_told a s trees (Ok o) found keys = λ none. no_groups a s trees keys (sym found ∙ none)
 none_told a s trees (Err e) found keys = tt

@@ -18,7 +18,7 @@ use Rattle.sqlite.specs.Listing.{understood, reads_listing}
 use Rattle.sqlite.specs.State.{State}
 use Rattle.sqlite.proofs.Callers.{command_of}
 use Rattle.sql_tables.specs.Keyed.{key_of}
-use Rattle.sql_tables.specs.Schema.{vouchers, book_schema}
+use Rattle.sql_tables.specs.Schema.{vouchers, our_schema}
 use Rattle.sql_tables.specs.Selects.{Selects, one_or_none}
 use Rattle.sql_tables.specs.Statements.{Answers}
 use Rattle.sql_tables.proofs.ByKey.{one_told}
@@ -44,13 +44,13 @@ names = codes "amount" ∷ codes "days" ∷ codes "scope" ∷ codes "account" �
 abbrev places : List ℕ
 places = 1 ∷ []
 
-text_is : (command_of (understood book_schema read_voucher_text)
+text_is : (command_of (understood our_schema read_voucher_text)
     ≡ Select (record { lets = []; body = select_from 16 terms project [] }) names) ×
-    (reads_listing book_schema read_voucher_text ≡ false)
+    (reads_listing our_schema read_voucher_text ≡ false)
 unfolding understood everything
 text_is = (refl, refl)
 
-pub read_voucher_plain : IsPlain (understood book_schema read_voucher_text)
+pub read_voucher_plain : IsPlain (understood our_schema read_voucher_text)
 unfolding understood everything
 read_voucher_plain = (refl, refl)
 

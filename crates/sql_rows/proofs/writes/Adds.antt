@@ -38,8 +38,8 @@ use Rattle.sqlite.specs.Listing.{understood}
 use Rattle.sqlite.specs.State.{State, ExecutesInside, Shows, Writes}
 use Rattle.sqlite.proofs.Callers.{IsPlain, command_of, one_step, runs_as, statement_of}
 use Rattle.sql_tables.specs.Keyed.{key_of, entries_of, look, table_of, IsStored}
-use Rattle.sql_tables.specs.Schema.{book_schema}
-use Rattle.sql_tables.specs.Statements.{AreStored, Changes, IsBook}
+use Rattle.sql_tables.specs.Schema.{our_schema}
+use Rattle.sql_tables.specs.Statements.{AreStored, Changes, IsTabled}
 use Rattle.sql_tables.proofs.Books.{others, stays_stored, catalog_stays}
 use Rattle.sql_tables.proofs.Selections.{meets, met_some, met_has}
 use Rattle.sql_tables.proofs.Steps.{went, same_value}
@@ -163,19 +163,19 @@ pub record IsThere (table : Table) (values : Row) (old new : Trees) (count : ℕ
 pub record AddsRow (table : Table) (values : Row) (old new : State) (count : ℕ) : Type 0 where
   pub adds : IsAdded table values old.now.trees new.now.trees count
       ⊎ IsThere table values old.now.trees new.now.trees count
-  pub book : IsBook new
+  pub book : IsTabled new
   pub shows : Shows old new new.now old.committed true
 
-module _ (at : ℕ) (table : Table) (there : slice_get book_schema.tables at ≡ Some table)
-    (tabled : Has book_schema.tables table) (index : Index) (listed : Has book_schema.indexes index)
+module _ (at : ℕ) (table : Table) (there : slice_get our_schema.tables at ≡ Some table)
+    (tabled : Has our_schema.tables table) (index : Index) (listed : Has our_schema.indexes index)
     (guarding : guards index table ≡ true) (order : index.order ≡ plain)
     (columns : index.columns ≡ table.primary)
     (apart : catalog_tree ≢ table.tree) (uncounted : table.is_counted ≡ false)
     (text : List ℕ) (terms : List Term) (width : ℕ)
-    (is : command_of (understood book_schema text)
+    (is : command_of (understood our_schema text)
     ≡ InsertOr at Abort (Values terms width)
     (record { target = Some table.primary; update = None } ∷ []))
-    (plain_text : IsPlain (understood book_schema text)) (values : Row)
+    (plain_text : IsPlain (understood our_schema text)) (values : Row)
     (supplied : value_rows (stamped table values) width (length terms / width) terms
     ≡ (Null ∷ values) ∷ [])
     (keyed : IsKeyed table values) where
@@ -183,14 +183,14 @@ module _ (at : ℕ) (table : Table) (there : slice_get book_schema.tables at ≡
   key = key_of table.primary (Null ∷ values)
 
   -- a row that meets the new one has its key, and the other way round
-  meeting : (rows : List Row) (r : Row) → conflicts (Some table.primary) book_schema.indexes table
+  meeting : (rows : List Row) (r : Row) → conflicts (Some table.primary) our_schema.indexes table
       (Int (next_rowid rows) ∷ values) r ≡ true → meets table.primary key r ≡ true
   meeting rows r e = ap is_eq (tied_back row_cmp_total (key_of table.primary r) key
       (equal_is _ (ap (eq_by_cmp row_cmp (key_of table.primary r))
       (sym (keyed.keys (Int (next_rowid rows)))) ∙ sym (keyed.ties (next_rowid rows) r) ∙ e)))
 
   conflicting : (rows : List Row) (r : Row) → meets table.primary key r ≡ true →
-      conflicts (Some table.primary) book_schema.indexes table (Int (next_rowid rows) ∷ values) r
+      conflicts (Some table.primary) our_schema.indexes table (Int (next_rowid rows) ∷ values) r
       ≡ true
   conflicting rows r e = keyed.ties (next_rowid rows) r
       ∙ ap (eq_by_cmp row_cmp (key_of table.primary r)) (keyed.keys (Int (next_rowid rows)))
@@ -200,7 +200,7 @@ module _ (at : ℕ) (table : Table) (there : slice_get book_schema.tables at ≡
       ≡ look_in row_cmp key (entries_of table.primary rows)
   looked rows = get-from_entries row_cmp_total (entries_of table.primary rows) key
 
-  nothing_under : (db next : Trees) → Added book_schema table table.primary values db next →
+  nothing_under : (db next : Trees) → Added our_schema table table.primary values db next →
       look table db key ≡ None
   nothing_under db next a = looked (db table.tree) ∙ none _ refl
     where
@@ -211,7 +211,7 @@ module _ (at : ℕ) (table : Table) (there : slice_get book_schema.tables at ≡
           absurd (let it = met_some table.primary key v (db table.tree) e in
           a.none it.0 it.1 (conflicting (db table.tree) it.0 it.2))
 
-  something_under : (db next : Trees) → Stood book_schema table table.primary values db next →
+  something_under : (db next : Trees) → Stood our_schema table table.primary values db next →
       is_some (look table db key) ≡ true
   something_under db next s =
       let it = met_has table.primary key (db table.tree) s.there s.has
@@ -220,24 +220,24 @@ module _ (at : ℕ) (table : Table) (there : slice_get book_schema.tables at ≡
 
   -- rule: statements-of-tables.tables-content
   pub adds_table : (old new : State) (r : Result ℕ Error) →
-      (IsTrue old.is_open → IsBook old) → OnOk r (ExecutesInside 0 text values old new r)
+      (IsTrue old.is_open → IsTabled old) → OnOk r (ExecutesInside 0 text values old new r)
       → IfOk r (AddsRow table values old new)
   adds_table old new (Err e) book x = tt
   adds_table old new (Ok count) has x =
       let book = has x.1.was_open in
       let stored : IsStored (old.now.trees table.tree) =
       all_has (λ (t : Table). IsStored (old.now.trees t.tree))
-      book_schema.tables table book.stored tabled in
+      our_schema.tables table book.stored tabled in
       let command = InsertOr at Abort (Values terms width)
       (record { target = Some table.primary; update = None } ∷ []) in
-      let w = runs_as text values old new book_schema book.schema command is plain_text count x.0 in
-      let done = adds_row book_schema at table there values values table.primary keyed terms width
+      let w = runs_as text values old new our_schema book.schema command is plain_text count x.0 in
+      let done = adds_row our_schema at table there values values table.primary keyed terms width
       uncounted supplied old new
-      (statement_of text (understood book_schema text)) count book.schema w in
+      (statement_of text (understood our_schema text)) count book.schema w in
       elim done.1 [
         | inl a ↦
-            let p : PutsRow table.primary book_schema table values old.now.trees new.now.trees =
-            puts_key table.primary book_schema table tabled index listed guarding order columns
+            let p : PutsRow table.primary our_schema table values old.now.trees new.now.trees =
+            puts_key table.primary our_schema table tabled index listed guarding order columns
             values old.now.trees new.now.trees stored keyed.keys keyed.full keyed.ties (inl a.0) in
             record {
               adds = inl (record {

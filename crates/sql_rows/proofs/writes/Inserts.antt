@@ -34,8 +34,8 @@ use Rattle.sqlite.specs.State.{State, ExecutesInside, Writes}
 use Rattle.sqlite.specs.declared.error.Error.{Error}
 use Rattle.sqlite.proofs.Callers.{IsPlain, command_of, one_step, runs_as, statement_of}
 use Rattle.sql_tables.specs.Keyed.{key_of, entries_of, look, IsStored}
-use Rattle.sql_tables.specs.Schema.{book_schema, key_index}
-use Rattle.sql_tables.specs.Statements.{Attempts, HasBook, IsBook, Puts}
+use Rattle.sql_tables.specs.Schema.{our_schema, key_index}
+use Rattle.sql_tables.specs.Statements.{Attempts, HasTables, IsTabled, Puts}
 use Rattle.sql_tables.proofs.Books.{others, stays_stored, catalog_stays}
 use Rattle.sql_tables.proofs.Counted.{counted}
 use Rattle.sql_tables.proofs.Keeps.{done_as}
@@ -55,14 +55,14 @@ pub record InsertsRow (table : Table) (values : Row) (old new : State) : Type 0 
   pub none : look table old.now.trees (key_of table.primary (Null ∷ values)) ≡ None
   pub puts : Puts table values old new
 
-module _ (at : ℕ) (table : Table) (there : slice_get book_schema.tables at ≡ Some table)
-    (tabled : Has book_schema.tables table)
-    (listed : Has book_schema.indexes (key_index table))
+module _ (at : ℕ) (table : Table) (there : slice_get our_schema.tables at ≡ Some table)
+    (tabled : Has our_schema.tables table)
+    (listed : Has our_schema.indexes (key_index table))
     (guarding : guards (key_index table) table ≡ true)
     (apart : catalog_tree ≢ table.tree) (uncounted : table.is_counted ≡ false)
     (text : List ℕ) (terms : List Term) (width : ℕ)
-    (is : command_of (understood book_schema text) ≡ Insert at (Values terms width))
-    (plain_text : IsPlain (understood book_schema text)) (values : Row)
+    (is : command_of (understood our_schema text) ≡ Insert at (Values terms width))
+    (plain_text : IsPlain (understood our_schema text)) (values : Row)
     (supplied : value_rows (stamped table values) width (length terms / width) terms
     ≡ (Null ∷ values) ∷ [])
     (keyed : IsKeyed table values) where
@@ -92,8 +92,8 @@ module _ (at : ℕ) (table : Table) (there : slice_get book_schema.tables at ≡
     uncounts mid next task counter top none h = same_value (rw none at h)
 
     inserted : (limit : Option ℕ) (one : Written)
-        → Inserts (task_of limit book_schema table values) (Values terms width) db (Ok one)
-        → Put book_schema table fresh_row rows_in db one.trees
+        → Inserts (task_of limit our_schema table values) (Values terms width) db (Ok one)
+        → Put our_schema table fresh_row rows_in db one.trees
     inserted limit one h =
         let sourced = went h in
         let counter = went sourced.2 in
@@ -103,10 +103,10 @@ module _ (at : ℕ) (table : Table) (there : slice_get book_schema.tables at ≡
         let edit = edit_by top sourced.0 in
         let news : edit.news ≡ fresh_row ∷ [] =
         numbered_new top sourced.0 (sourced.1.1 ∙ supplied) in
-        let done = one_step book_schema Enforced db made.0 edit
-        (no_works book_schema Enforced 0 table.tree edit.news) made.1 in
+        let done = one_step our_schema Enforced db made.0 edit
+        (no_works our_schema Enforced 0 table.tree edit.news) made.1 in
         let uncounting : ended.0 ≡ made.0 =
-        uncounts made.0 ended.0 (task_of limit book_schema table values) counter.0 _ uncounted
+        uncounts made.0 ended.0 (task_of limit our_schema table values) counter.0 _ uncounted
         ended.1 in
         let trees : one.trees ≡ made.0 =
         ap (λ (w : Written). w.trees) (same_value ended.2) ∙ uncounting in
@@ -118,18 +118,18 @@ module _ (at : ℕ) (table : Table) (there : slice_get book_schema.tables at ≡
               ∙ done.rows
               ∙ ap (λ n. put_all rows_in n) news;
           others = λ t other free. ap (λ (d : Trees). d t) trees ∙ done.others t other free;
-          fits = subst (Fits book_schema) (sym trees) done.fits;
+          fits = subst (Fits our_schema) (sym trees) done.fits;
         }
 
     -- a row with the key would be there beside the new one
     never_beside : IsStored rows_in → (next : Trees)
-        → Put book_schema table fresh_row rows_in db next → (r : Row) → Has rows_in r
-        → conflicts (Some table.primary) book_schema.indexes table fresh_row r ≡ true → ⊥
+        → Put our_schema table fresh_row rows_in db next → (r : Row) → Has rows_in r
+        → conflicts (Some table.primary) our_schema.indexes table fresh_row r ≡ true → ⊥
     never_beside stored next p r has meets =
         let kept : Has (next table.tree) r = subst (λ rs. Has rs r) (sym p.rows)
         (put_all_keeps (fresh_row ∷ []) rows_in r (rw p.fresh refl) has) in
         let fits = p.fits in
-        no_clash table.primary book_schema table tabled (key_index table) listed guarding refl refl
+        no_clash table.primary our_schema table tabled (key_index table) listed guarding refl refl
         next fits fresh_row r
         (subst (λ rs. Has rs fresh_row) (sym p.rows) (has_put fresh_row rows_in)) kept
         (agree_ties table.primary r fresh_row (keyed.full (next_rowid rows_in))
@@ -144,18 +144,18 @@ module _ (at : ℕ) (table : Table) (there : slice_get book_schema.tables at ≡
             some_from (λ x. is_eq (value_cmp (rowid x) (rowid fresh_row))) rows r has e in
             let f : true ≡ false = sym taken ∙ free in cc)
 
-    added : IsStored rows_in → (next : Trees) → Put book_schema table fresh_row rows_in db next
-        → Added book_schema table table.primary values db next
+    added : IsStored rows_in → (next : Trees) → Put our_schema table fresh_row rows_in db next
+        → Added our_schema table table.primary values db next
     added stored next p = record { none = never_beside stored next p; put = p }
 
     conflicting : (r : Row) → eq_by_cmp row_cmp key (key_of table.primary r) ≡ true
-        → conflicts (Some table.primary) book_schema.indexes table fresh_row r ≡ true
+        → conflicts (Some table.primary) our_schema.indexes table fresh_row r ≡ true
     conflicting r e = keyed.ties (next_rowid rows_in) r
         ∙ ap (eq_by_cmp row_cmp (key_of table.primary r)) (keyed.keys (Int (next_rowid rows_in)))
         ∙ keys_back key (key_of table.primary r) e
 
     nothing_under : IsStored rows_in → (next : Trees)
-        → Put book_schema table fresh_row rows_in db next
+        → Put our_schema table fresh_row rows_in db next
         → look table db key ≡ None
     nothing_under stored next p =
         get-from_entries row_cmp_total (entries_of table.primary rows_in) key ∙ none _ refl
@@ -167,11 +167,11 @@ module _ (at : ℕ) (table : Table) (there : slice_get book_schema.tables at ≡
             absurd (let it = met_some table.primary key v rows_in e in
             never_beside stored next p it.0 it.1 (conflicting it.0 it.2))
 
-  says_row : (old new : State) (count : ℕ) → old.now.schema ≡ book_schema
+  says_row : (old new : State) (count : ℕ) → old.now.schema ≡ our_schema
       → Writes old new None (Insert at (Values terms width))
-      (statement_of text (understood book_schema text)) values count
-      → (new.now.schema ≡ book_schema)
-      × Put book_schema table (Int (next_rowid (old.now.trees table.tree)) ∷ values)
+      (statement_of text (understood our_schema text)) values count
+      → (new.now.schema ≡ our_schema)
+      × Put our_schema table (Int (next_rowid (old.now.trees table.tree)) ∷ values)
       (old.now.trees table.tree) old.now.trees new.now.trees
   says_row old new count has w =
       let does = does_over has w in
@@ -179,13 +179,13 @@ module _ (at : ℕ) (table : Table) (there : slice_get book_schema.tables at ≡
       let concluded = went (went done.2).2 in
       let now = ap (λ (p : Tally × Database). p.1) (same_value concluded.2) in (
         ap (λ (d : Database). d.schema) now,
-        subst (Put book_schema table (Int (next_rowid (old.now.trees table.tree)) ∷ values)
+        subst (Put our_schema table (Int (next_rowid (old.now.trees table.tree)) ∷ values)
             (old.now.trees table.tree) old.now.trees) (sym (ap (λ (d : Database). d.trees) now))
             (inserted old.now.trees old.step_limit done.0 done.1),
       )
 
   -- rule: statements-of-tables.with-session-row
-  pub inserts_row : (old new : State) (r : Result ℕ Error) → (IsTrue old.is_open → IsBook old)
+  pub inserts_row : (old new : State) (r : Result ℕ Error) → (IsTrue old.is_open → IsTabled old)
       → OnOk r (ExecutesInside 0 text values old new r) → OnOk r (InsertsRow table values old new)
   inserts_row old new (Err e) has x = tt
   inserts_row old new (Ok count) has x =
@@ -194,14 +194,14 @@ module _ (at : ℕ) (table : Table) (there : slice_get book_schema.tables at ≡
       let next = new.now.trees in
       let stored : IsStored (db table.tree) =
       all_has (λ (t : Table). IsStored (old.now.trees t.tree))
-      book_schema.tables table book.stored tabled in
-      let w = runs_as text values old new book_schema book.schema (Insert at (Values terms width))
+      our_schema.tables table book.stored tabled in
+      let w = runs_as text values old new our_schema book.schema (Insert at (Values terms width))
       is plain_text count x.0 in
       let done = says_row old new count book.schema w in
-      let upserted : Upserted book_schema table table.primary values db next =
+      let upserted : Upserted our_schema table table.primary values db next =
       inl (added db stored next done.1) in
-      let p : PutsRow table.primary book_schema table values db next =
-      puts_key table.primary book_schema table tabled (key_index table) listed guarding refl refl
+      let p : PutsRow table.primary our_schema table values db next =
+      puts_key table.primary our_schema table tabled (key_index table) listed guarding refl refl
       values db next stored keyed.keys keyed.full keyed.ties upserted in
       record {
         none = nothing_under db stored next done.1;
@@ -216,7 +216,7 @@ module _ (at : ℕ) (table : Table) (there : slice_get book_schema.tables at ≡
             stored = stays_stored table db next p.stored p.others book.stored;
           };
           shows = x.1;
-          counts = counted table.primary book_schema table values db next stored keyed.keys
+          counts = counted table.primary our_schema table values db next stored keyed.keys
               keyed.ties upserted;
         };
       }
@@ -228,9 +228,9 @@ pub inserts : (table : Table) (values : Row) (stands : TablesContent → Bool)
     → ((trees : Trees) → stands (tables_content trees)
     ≡ is_some (look table trees (key_of table.primary (Null ∷ values))))
     → ((old new : State) → Puts table values old new → Makes change old new)
-    → ((old new : State) (r : Result ℕ Error) → (IsTrue old.is_open → IsBook old)
+    → ((old new : State) (r : Result ℕ Error) → (IsTrue old.is_open → IsTabled old)
     → OnOk r (ExecutesInside 0 text values old new r) → OnOk r (InsertsRow table values old new))
-    → (params : Row) → params ≡ values → (old new : State) (r : Result ⊤ Error) → HasBook old
+    → (params : Row) → params ≡ values → (old new : State) (r : Result ⊤ Error) → HasTables old
     → Attempts (HasRun text params) old new r
     → Attempts (Adds stands change) old new r
 inserts table values stands change text under makes runs params same old new r has =
@@ -242,7 +242,7 @@ inserts table values stands change text under makes runs params same old new r h
       none = under old.now.trees ∙ ap is_some h.none;
     }
 
-    made : (r : Result ⊤ Error) → (IsTrue old.is_open → IsBook old)
+    made : (r : Result ⊤ Error) → (IsTrue old.is_open → IsTabled old)
         → OnOk r (HasRun text params old new) → OnOk r (Adds stands change old new)
     made (Ok x) book h = added (runs old new (Ok h.count) book
         (subst (λ p. ExecutesInside 0 text p old new (Ok h.count)) same h.ran))

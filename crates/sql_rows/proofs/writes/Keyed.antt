@@ -10,7 +10,7 @@ use Rattle.sqlite_schema.specs.declared.schema.Table.{Table}
 use Rattle.sqlite_rules.specs.Cast.{cast_row}
 use Rattle.sqlite_rules.specs.Keys.{conflicts}
 use Rattle.sql_tables.specs.Keyed.{key_of}
-use Rattle.sql_tables.specs.Schema.{book_schema}
+use Rattle.sql_tables.specs.Schema.{our_schema}
 
 pub record IsKeyed (table : Table) (values : Row) : Type 0 where
   -- they are stored as they are, with a number before them or none yet
@@ -22,5 +22,5 @@ pub record IsKeyed (table : Table) (values : Row) : Type 0 where
       → AllByRecursion (λ p. is_null (column (Int id ∷ values) p) ≡ false) table.primary
   -- those rows meet it that have its key
   pub ties : (id : ℤ) (other : Row)
-      → conflicts (Some table.primary) book_schema.indexes table (Int id ∷ values) other
+      → conflicts (Some table.primary) our_schema.indexes table (Int id ∷ values) other
       ≡ eq_by_cmp row_cmp (key_of table.primary other) (key_of table.primary (Int id ∷ values))

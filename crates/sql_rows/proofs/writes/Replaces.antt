@@ -46,9 +46,9 @@ use Rattle.sqlite.specs.declared.error.Error.{Error}
 use Rattle.sqlite.proofs.Callers.{IsPlain, command_of, one_step, runs_as, statement_of}
 use Rattle.sqlite.proofs.StateLemmas.{survives_then}
 use Rattle.sql_tables.specs.Keyed.{key_of, entries_of, look, IsStored}
-use Rattle.sql_tables.specs.Schema.{book_schema, key_index}
+use Rattle.sql_tables.specs.Schema.{our_schema, key_index}
 use Rattle.sql_tables.specs.Selects.{Selects}
-use Rattle.sql_tables.specs.Statements.{AreStored, Attempts, Changes, HasBook, HasRules, IsBook}
+use Rattle.sql_tables.specs.Statements.{AreStored, Attempts, Changes, HasTables, HasRules, IsTabled}
 use Rattle.sql_tables.proofs.Books.{others, stays_stored, catalog_stays}
 use Rattle.sql_tables.proofs.Counted.{counted}
 use Rattle.sql_tables.proofs.Keys.{keys_back}
@@ -80,7 +80,7 @@ pub record IsReplaced (table : Table) (values : Row) (old new : Trees) (count : 
 -- none was, and the tables have the same rows
 pub record IsMissing (table : Table) (values : Row) (old new : Trees) (count : ℕ) : Type 0 where
   pub none : look table old (key_of table.primary (Null ∷ values)) ≡ None
-  pub same : AllByRecursion (λ (t : Table). new t.tree ≡ old t.tree) book_schema.tables
+  pub same : AllByRecursion (λ (t : Table). new t.tree ≡ old t.tree) our_schema.tables
   pub catalog : new catalog_tree ≡ old catalog_tree
   pub nothing : count ≡ 0
 
@@ -88,18 +88,18 @@ pub record IsMissing (table : Table) (values : Row) (old new : Trees) (count : �
 pub record ReplacesRow (table : Table) (values : Row) (old new : State) (count : ℕ) : Type 0 where
   pub replaces : IsReplaced table values old.now.trees new.now.trees count
       ⊎ IsMissing table values old.now.trees new.now.trees count
-  pub book : IsBook new
+  pub book : IsTabled new
   pub shows : Shows old new new.now old.committed true
-  pub fits : Fits book_schema new.now.trees
+  pub fits : Fits our_schema new.now.trees
 
 -- no foreign key of the tables acts, whether rows are taken out or replaced
 abbrev works_as : Bool → ℕ → List Row → List Row → List Work
 works_as deletes tree olds news = flat_map (λ (child : Table). filter_map
     (λ (ref : Reference). work_by 0 tree (pairs olds news) child ref
-    (deed_for Enforced deletes ref) (parent_key book_schema.tables ref)) child.references)
-    book_schema.tables
+    (deed_for Enforced deletes ref) (parent_key our_schema.tables ref)) child.references)
+    our_schema.tables
 
-no_actions : (tree : ℕ) (olds news : List Row) → works book_schema Enforced 0 tree olds news ≡ []
+no_actions : (tree : ℕ) (olds news : List Row) → works our_schema Enforced 0 tree olds news ≡ []
 no_actions tree olds news = go (length news == 0)
   where
     go : (deletes : Bool) → works_as deletes tree olds news ≡ []
@@ -110,11 +110,11 @@ no_actions tree olds news = go (length news == 0)
 record Stood (table : Table) (test : Row → Bool) (db next : Trees) : Type 0 where
   none : (r : Row) → Has (db table.tree) r → test r ≡ true → ⊥
   rows : next table.tree ≡ db table.tree
-  others : (t : ℕ) → t ≢ table.tree → IsNoIndex book_schema t → next t ≡ db t
-  fits : Fits book_schema next
+  others : (t : ℕ) → t ≢ table.tree → IsNoIndex our_schema t → next t ≡ db t
+  fits : Fits our_schema next
 
-module _ (table : Table) (tabled : Has book_schema.tables table)
-    (listed : Has book_schema.indexes (key_index table))
+module _ (table : Table) (tabled : Has our_schema.tables table)
+    (listed : Has our_schema.indexes (key_index table))
     (guarding : guards (key_index table) table ≡ true) (terms project : List Term) (values : Row)
     (tests : (r : Row) → list_all (holds (values ∷ r ∷ [])) terms
     ≡ eq_by_cmp row_cmp (key_of table.primary r) (key_of table.primary (Null ∷ values)))
@@ -151,14 +151,14 @@ module _ (table : Table) (tabled : Has book_schema.tables table)
     -- a row that is selected is there anew
     is_put : (x : Row) (more : List Row) (next : Trees) (r : Row) → Has rows_in r
         → Has (x ∷ more) (columns r)
-        → Settling book_schema Enforced db (edit_by (x ∷ more)) (Ok next)
-        → Has (next table.tree) (made (id_in (rowid r))) × Fits book_schema next
+        → Settling our_schema Enforced db (edit_by (x ∷ more)) (Ok next)
+        → Has (next table.tree) (made (id_in (rowid r))) × Fits our_schema next
     is_put x more next r has picked h =
         let edit = edit_by (x ∷ more) in
         let cast = λ (s : Row). cast_row table (drop 1 s) in
         let left = left_by db edit in
         let news : edit.news ≡ map cast (x ∷ more) = given_news left (map cast (x ∷ more)) in
-        let done = one_step book_schema Enforced db next edit
+        let done = one_step our_schema Enforced db next edit
         (no_actions table.tree (taken_by db edit) edit.news) h in
         let among : Has edit.news (made (id_in (rowid r))) =
         subst (λ n. Has n (made (id_in (rowid r)))) (sym news)
@@ -173,14 +173,14 @@ module _ (table : Table) (tabled : Has book_schema.tables table)
     never_two : (rows : List Row) (next : Trees) (r s : Row) → Has rows_in r → Has rows_in s
         → is_eq (value_cmp (rowid r) (rowid s)) ≡ false
         → Has rows (columns r) → Has rows (columns s)
-        → Settling book_schema Enforced db (edit_by rows) (Ok next) → ⊥
+        → Settling our_schema Enforced db (edit_by rows) (Ok next) → ⊥
     never_two [] next r s has too apart one two h = absurd one
     never_two (x ∷ more) next r s has too apart one two h =
         let first = is_put x more next r has one h in
         let second = is_put x more next s too two h in
         let id = id_in (rowid r) in
         let other = id_in (rowid s) in
-        no_clash table.primary book_schema table tabled (key_index table) listed guarding refl refl
+        no_clash table.primary our_schema table tabled (key_index table) listed guarding refl refl
         next first.1 (made other) (made id) second.0 first.0
         (agree_ties table.primary (made id) (made other) (keyed.full other)
         ∙ ap (eq_by_cmp row_cmp (key_of table.primary (made id)))
@@ -191,12 +191,12 @@ module _ (table : Table) (tabled : Has book_schema.tables table)
         ∙ ap (λ v. is_eq (value_cmp (rowid r) v)) (sym (number s too)) ∙ apart))
 
     stays : (rows : List Row) (next : Trees) → Selects test columns rows_in rows
-        → rows ≡ [] → Settling book_schema Enforced db (edit_by rows) (Ok next)
+        → rows ≡ [] → Settling our_schema Enforced db (edit_by rows) (Ok next)
         → Stood table test db next
     stays rows next selects none h =
-        let done = one_step book_schema Enforced db next (edit_by [])
+        let done = one_step our_schema Enforced db next (edit_by [])
         (no_actions table.tree [] [])
-        (subst (λ rs. Settling book_schema Enforced db (edit_by rs) (Ok next)) none h) in
+        (subst (λ rs. Settling our_schema Enforced db (edit_by rs) (Ok next)) none h) in
         record {
           none = λ r has passes. subst (λ rs. Has rs (columns r)) none
               (selected_to test columns rows_in rows selects r has passes);
@@ -207,8 +207,8 @@ module _ (table : Table) (tabled : Has book_schema.tables table)
 
     turned : (rows : List Row) (next : Trees) (there : Row) → Has rows_in there
         → test there ≡ true → rows ≡ columns there ∷ []
-        → Settling book_schema Enforced db (edit_by rows) (Ok next)
-        → Moved book_schema table table.primary values db next
+        → Settling our_schema Enforced db (edit_by rows) (Ok next)
+        → Moved our_schema table table.primary values db next
     turned rows next there has passes one h =
         let edit = edit_by (columns there ∷ []) in
         let new : Row = made (id_in (rowid there)) in
@@ -216,9 +216,9 @@ module _ (table : Table) (tabled : Has book_schema.tables table)
         let news : edit.news ≡ new ∷ [] =
         given_news left (cast_row table (rowid there ∷ values) ∷ [])
         ∙ ap (λ r. r ∷ []) (cast_made there has) in
-        let done = one_step book_schema Enforced db next edit
+        let done = one_step our_schema Enforced db next edit
         (no_actions table.tree (taken_by db edit) edit.news)
-        (subst (λ rs. Settling book_schema Enforced db (edit_by rs) (Ok next)) one h) in
+        (subst (λ rs. Settling our_schema Enforced db (edit_by rs) (Ok next)) one h) in
         let fresh : are_fresh left (new ∷ []) ≡ true =
         subst (λ n. are_fresh left n ≡ true) news done.fresh in
         record {
@@ -239,7 +239,7 @@ module _ (table : Table) (tabled : Has book_schema.tables table)
     -- what it says of the trees, and of the rows that it put
     abbrev Says : Trees → ℕ → Type 0
     Says next count = (Stood table test db next × (count ≡ 0))
-        ⊎ (Moved book_schema table table.primary values db next × (count ≡ 1))
+        ⊎ (Moved our_schema table table.primary values db next × (count ≡ 1))
 
     many : (rows : List Row) → length (edit_by rows).news ≡ length rows
     many rows = ap length (given_news (left_by db (edit_by rows)) _) ∙ length-map rows _
@@ -249,7 +249,7 @@ module _ (table : Table) (tabled : Has book_schema.tables table)
         length-map (x ∷ xs) f = ap (λ n. suc n) (length-map xs f)
 
     said : (rows : List Row) (next : Trees) → Selects test columns rows_in rows
-        → Settling book_schema Enforced db (edit_by rows) (Ok next)
+        → Settling our_schema Enforced db (edit_by rows) (Ok next)
         → Says next (length (edit_by rows).news)
     said rows next selects h = go (filter test rows_in) refl
       where
@@ -279,14 +279,14 @@ module _ (table : Table) (tabled : Has book_schema.tables table)
         → Updates (record {
           limit = limit;
           keys = Enforced;
-          schema = book_schema;
+          schema = our_schema;
           table = table;
           params = values;
         }) (record { lets = []; body = select_from table.tree terms project [] }) values db (Ok one)
         → Says one.trees (length one.rows)
     updates limit one h =
         let q = went h in
-        let a : Answers (record { schema = book_schema; trees = db }) (record {
+        let a : Answers (record { schema = our_schema; trees = db }) (record {
           lets = [];
           body = select_from table.tree terms project [];
         }) values q.0 = q.1 in
@@ -320,7 +320,7 @@ module _ (table : Table) (tabled : Has book_schema.tables table)
         (keys_back (key_of table.primary r) key passes) in
         ap is_some (looked ∙ it.1)
 
-    passed : (next : Trees) (m : Moved book_schema table table.primary values db next)
+    passed : (next : Trees) (m : Moved our_schema table table.primary values db next)
         → test m.there ≡ true
     passed next m = ap (eq_by_cmp row_cmp (key_of table.primary m.there))
         (sym (keyed.keys (Int (next_rowid rows_in))))
@@ -331,7 +331,7 @@ module _ (table : Table) (tabled : Has book_schema.tables table)
     abbrev Leaves : Trees → ℕ → Type 0
     Leaves next count =
         (IsReplaced table values db next count ⊎ IsMissing table values db next count)
-        × (AreStored db → AreStored next) × Fits book_schema next
+        × (AreStored db → AreStored next) × Fits our_schema next
 
     leaves_same : catalog_tree ≢ table.tree → (next : Trees) (count : ℕ)
         → Stood table test db next → count ≡ 0 → Leaves next count
@@ -339,7 +339,7 @@ module _ (table : Table) (tabled : Has book_schema.tables table)
         let still = subst IsStored (sym s.rows) stored in (
           inr (record {
             none = nothing_under next s;
-            same = all_same next s.rows book_schema.tables (others table db next still s.others);
+            same = all_same next s.rows our_schema.tables (others table db next still s.others);
             catalog = catalog_stays table db next still s.others apart;
             nothing = none;
           }),
@@ -359,11 +359,11 @@ module _ (table : Table) (tabled : Has book_schema.tables table)
                 eq-eqb t.tree table.tree is in let f : true ≡ false = sym yes' ∙ e in cc)
 
     leaves_new : catalog_tree ≢ table.tree → (next : Trees) (count : ℕ)
-        → Moved book_schema table table.primary values db next → count ≡ 1 → Leaves next count
+        → Moved our_schema table table.primary values db next → count ≡ 1 → Leaves next count
     leaves_new apart next count m one =
-        let upserted : Upserted book_schema table table.primary values db next = inr m in
-        let p : PutsRow table.primary book_schema table values db next =
-        puts_key table.primary book_schema table tabled (key_index table) listed guarding refl refl
+        let upserted : Upserted our_schema table table.primary values db next = inr m in
+        let p : PutsRow table.primary our_schema table values db next =
+        puts_key table.primary our_schema table tabled (key_index table) listed guarding refl refl
         values db next stored keyed.keys keyed.full keyed.ties upserted in (
           inl (record {
             there = something_under m.there m.has (passed next m);
@@ -372,7 +372,7 @@ module _ (table : Table) (tabled : Has book_schema.tables table)
               others = others table db next p.stored p.others;
               catalog = catalog_stays table db next p.stored p.others apart;
             };
-            counts = counted table.primary book_schema table values db next stored keyed.keys
+            counts = counted table.primary our_schema table values db next stored keyed.keys
                 keyed.ties upserted;
             one = one;
           }),
@@ -386,18 +386,18 @@ module _ (table : Table) (tabled : Has book_schema.tables table)
     leaves apart next count (inr m) = leaves_new apart next count m.0 m.1
 
   -- the same of the whole statement
-  module _ (at : ℕ) (there : slice_get book_schema.tables at ≡ Some table)
+  module _ (at : ℕ) (there : slice_get our_schema.tables at ≡ Some table)
       (apart : catalog_tree ≢ table.tree) (text : List ℕ)
-      (is : command_of (understood book_schema text)
+      (is : command_of (understood our_schema text)
       ≡ Update at (record { lets = []; body = select_from table.tree terms project [] }))
-      (plain_text : IsPlain (understood book_schema text)) where
-    says_row : (old new : State) (count : ℕ) → old.now.schema ≡ book_schema
+      (plain_text : IsPlain (understood our_schema text)) where
+    says_row : (old new : State) (count : ℕ) → old.now.schema ≡ our_schema
         → (stored : IsStored (old.now.trees table.tree))
         → Writes old new None (Update at (record {
           lets = [];
           body = select_from table.tree terms project [];
-        })) (statement_of text (understood book_schema text)) values count
-        → (new.now.schema ≡ book_schema) × Says old.now.trees stored new.now.trees count
+        })) (statement_of text (understood our_schema text)) values count
+        → (new.now.schema ≡ our_schema) × Says old.now.trees stored new.now.trees count
     says_row old new count has stored w =
         let does = does_over has w in
         let done = went (rw there at does) in
@@ -414,7 +414,7 @@ module _ (table : Table) (tabled : Has book_schema.tables table)
         )
 
     -- rule: statements-of-tables.tables-content
-    pub replaces_row : (old new : State) (r : Result ℕ Error) → (IsTrue old.is_open → IsBook old)
+    pub replaces_row : (old new : State) (r : Result ℕ Error) → (IsTrue old.is_open → IsTabled old)
         → OnOk r (ExecutesInside 0 text values old new r)
         → IfOk r (ReplacesRow table values old new)
     replaces_row old new (Err e) has x = tt
@@ -422,8 +422,8 @@ module _ (table : Table) (tabled : Has book_schema.tables table)
         let book = has x.1.was_open in
         let stored : IsStored (old.now.trees table.tree) =
         all_has (λ (t : Table). IsStored (old.now.trees t.tree))
-        book_schema.tables table book.stored tabled in
-        let w = runs_as text values old new book_schema book.schema
+        our_schema.tables table book.stored tabled in
+        let w = runs_as text values old new our_schema book.schema
         (Update at (record { lets = []; body = select_from table.tree terms project [] })) is
         plain_text count x.0 in
         let done = says_row old new count book.schema stored w in
@@ -488,17 +488,17 @@ module _ (table : Table) (values : Row) (stands : TablesContent → Bool)
           }
 
   module _ (text : List ℕ)
-      (runs : (old new : State) (r : Result ℕ Error) → (IsTrue old.is_open → IsBook old)
+      (runs : (old new : State) (r : Result ℕ Error) → (IsTrue old.is_open → IsTabled old)
       → OnOk r (ExecutesInside 0 text values old new r)
       → IfOk r (ReplacesRow table values old new)) where
-    ran : (old new : State) (count : ℕ) → HasBook old
+    ran : (old new : State) (count : ℕ) → HasTables old
         → Attempts {A = ℕ} {E = Error}
         (λ old new. ExecutesInside 0 text values old new (Ok count)) old new (Ok count)
         → HasCleanDisk new → ReplacesRow table values old new count
     ran old new count has a clean =
         runs old new (Ok count) (has (omega (arith, a.survives.clean, clean))) (a.done clean)
 
-    pub replaces : (old new : State) (count : ℕ) → HasBook old
+    pub replaces : (old new : State) (count : ℕ) → HasTables old
         → Attempts {A = ℕ} {E = Error}
         (λ old new. ExecutesInside 0 text values old new (Ok count)) old new (Ok count)
         → ReplacesIfSome {E = Error} stands change old new (Ok (count == 1))
@@ -512,7 +512,7 @@ module _ (table : Table) (values : Row) (stands : TablesContent → Bool)
     }
 
     -- the tables obey their rules then
-    pub rules_replaced : (old new : State) (count : ℕ) → HasBook old
+    pub rules_replaced : (old new : State) (count : ℕ) → HasTables old
         → Attempts {A = ℕ} {E = Error}
         (λ old new. ExecutesInside 0 text values old new (Ok count)) old new (Ok count)
         → HasRules new

@@ -9,7 +9,7 @@ use Rattle.sqlite_trees.specs.Tree.{Trees}
 use Rattle.sqlite_trees.proofs.ListLemmas.{all_weaker}
 use Rattle.sql_tables.specs.Schema.{meta, accounts, buckets, counters, sessions, session_groups}
 use Rattle.sql_tables.specs.Schema.{holds, answers, vouchers, charges, books, grant_books}
-use Rattle.sql_tables.specs.Schema.{allowance_buckets, covered, book_schema}
+use Rattle.sql_tables.specs.Schema.{allowance_buckets, covered, our_schema}
 use Rattle.sql_tables.proofs.Found.{kept_tells}
 use Rattle.sql_rows.specs.Values.{meta_key, head_key, bucket_key, counter_key, session_key}
 use Rattle.sql_rows.specs.Values.{group_key, hold_key, answer_key, voucher_key, charge_key, meta_in}
@@ -26,7 +26,7 @@ meta_kept old new e = kept_tells meta_in meta old new e meta_key
 
 -- tables with the same rows hold the same
 pub same_content : (old new : Trees)
-    → AllByRecursion (λ (t : Table). new t.tree ≡ old t.tree) book_schema.tables
+    → AllByRecursion (λ (t : Table). new t.tree ≡ old t.tree) our_schema.tables
     → tables_content new ≡ tables_content old
 same_content old new k = λ i. record {
   meta = meta_kept old new k.0 i;
@@ -70,13 +70,13 @@ is_swapped at t old new same = go (t == at) refl
 
 -- where the other tables stay, the content is that of the one that is new
 pub only_changed : (at : ℕ) (old new : Trees)
-    → AllByRecursion (λ (t : Table). t.tree ≢ at → new t.tree ≡ old t.tree) book_schema.tables
+    → AllByRecursion (λ (t : Table). t.tree ≢ at → new t.tree ≡ old t.tree) our_schema.tables
     → tables_content new ≡ tables_content (swapped at old new)
 only_changed at old new same =
     same_content (swapped at old new) new
     (all_weaker (λ (t : Table). t.tree ≢ at → new t.tree ≡ old t.tree)
     (λ (t : Table). new t.tree ≡ swapped at old new t.tree) (λ t. is_swapped at t.tree old new)
-    book_schema.tables same)
+    our_schema.tables same)
 
 pub at_each : {A B : Type 0} (p : Bool) (f g h : A → B) → ((x : A) → h x ≡ (if p then f x else g x))
     → h ≡ (if p then f else g)

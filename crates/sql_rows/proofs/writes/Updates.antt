@@ -29,7 +29,7 @@ use Rattle.sqlite.specs.Rows.{Updates, Written}
 use Rattle.sqlite.specs.State.{State, Writes}
 use Rattle.sqlite.proofs.Callers.{one_step}
 use Rattle.sql_tables.specs.Keyed.{key_of, IsStored}
-use Rattle.sql_tables.specs.Schema.{book_schema, key_index}
+use Rattle.sql_tables.specs.Schema.{our_schema, key_index}
 use Rattle.sql_tables.specs.Selects.{Selects}
 use Rattle.sql_tables.proofs.Selected.{answered, select_from, selected_to}
 use Rattle.sql_tables.proofs.Single.{one_selected}
@@ -40,8 +40,8 @@ use Rattle.sql_tables.proofs.Upserts.{Put}
 pub record NoneUpdated (table : Table) (test : Row → Bool) (db next : Trees) : Type 0 where
   pub none : (r : Row) → Has (db table.tree) r → test r ≡ true → ⊥
   pub rows : next table.tree ≡ db table.tree
-  pub others : (t : ℕ) → t ≢ table.tree → IsNoIndex book_schema t → next t ≡ db t
-  pub fits : Fits book_schema next
+  pub others : (t : ℕ) → t ≢ table.tree → IsNoIndex our_schema t → next t ≡ db t
+  pub fits : Fits our_schema next
 
 -- a row passes, and it has its new values in its place
 pub record OneUpdated (table : Table) (test : Row → Bool) (values : Row → Row)
@@ -49,7 +49,7 @@ pub record OneUpdated (table : Table) (test : Row → Bool) (values : Row → Ro
   pub there : Row
   pub has : Has (db table.tree) there
   pub passes : test there ≡ true
-  pub put : Put book_schema table (Int (id_in (rowid there)) ∷ values there)
+  pub put : Put our_schema table (Int (id_in (rowid there)) ∷ values there)
       (without_rowid (id_in (rowid there)) (db table.tree)) db next
 
 abbrev pub Updated : Table → (Row → Bool) → (Row → Row) → Trees → Trees → Type 0
@@ -57,31 +57,31 @@ Updated table test values db next = NoneUpdated table test db next
     ⊎ OneUpdated table test values db next
 
 -- a key of the table, and the row that an update makes of each row that has it
-module _ (table : Table) (tabled : Has book_schema.tables table)
-    (listed : Has book_schema.indexes (key_index table)) (guarding : guards (key_index table) table
+module _ (table : Table) (tabled : Has our_schema.tables table)
+    (listed : Has our_schema.indexes (key_index table)) (guarding : guards (key_index table) table
     ≡ true) (terms project : List Term) (params : Row) (test : Row → Bool) (made values : Row → Row)
     (tests : (r : Row) → list_all (holds (params ∷ r ∷ [])) terms ≡ test r)
     (shows : (r : Row) → eval_all project (params ∷ r ∷ []) ≡ rowid r ∷ made r) (key : Row)
     (full : AllByRecursion (λ v. is_null v ≡ false) key)
     (means : (r : Row) → test r ≡ eq_by_cmp row_cmp (key_of table.primary r) key)
-    (idle : works book_schema Enforced 0 table.tree [] [] ≡ [])
+    (idle : works our_schema Enforced 0 table.tree [] [] ≡ [])
     (kept : (olds : List Row) (new : Row) →
-    works book_schema Enforced 0 table.tree olds (new ∷ []) ≡ []) where
+    works our_schema Enforced 0 table.tree olds (new ∷ []) ≡ []) where
   abbrev columns : Row → Row
   columns r = rowid r ∷ made r
 
-  module _ (db : Trees) (fits : Fits book_schema db) (stored : IsStored (db table.tree))
+  module _ (db : Trees) (fits : Fits our_schema db) (stored : IsStored (db table.tree))
       (again : (r : Row) → Has (db table.tree) r → test r ≡ true →
       cast_row table (made r) ≡ Int (id_in (rowid r)) ∷ values r) where
     abbrev edit_by : List Row → Edit
     edit_by rows = edit_of db table (ids_of rows) Given 1 rows
 
     stays : (rows : List Row) (next : Trees) → Selects test columns (db table.tree) rows
-        → rows ≡ [] → Settling book_schema Enforced db (edit_by rows) (Ok next)
+        → rows ≡ [] → Settling our_schema Enforced db (edit_by rows) (Ok next)
         → NoneUpdated table test db next
     stays rows next selects none h =
-        let done = one_step book_schema Enforced db next (edit_by []) idle
-        (subst (λ rs. Settling book_schema Enforced db (edit_by rs) (Ok next)) none h) in
+        let done = one_step our_schema Enforced db next (edit_by []) idle
+        (subst (λ rs. Settling our_schema Enforced db (edit_by rs) (Ok next)) none h) in
         record {
           none = λ r has passes. subst (λ rs. Has rs (columns r)) none
               (selected_to test columns (db table.tree) rows selects r has passes);
@@ -92,7 +92,7 @@ module _ (table : Table) (tabled : Has book_schema.tables table)
 
     turned : (rows : List Row) (next : Trees) (there : Row) → Has (db table.tree) there
         → test there ≡ true → rows ≡ columns there ∷ []
-        → Settling book_schema Enforced db (edit_by rows) (Ok next)
+        → Settling our_schema Enforced db (edit_by rows) (Ok next)
         → OneUpdated table test values db next
     turned rows next there has passes one h =
         let edit = edit_by (columns there ∷ []) in
@@ -100,10 +100,10 @@ module _ (table : Table) (tabled : Has book_schema.tables table)
         let left = without_rowid (id_in (rowid there)) (db table.tree) in
         let news : edit.news ≡ new ∷ [] = given_news left (cast_row table (made there) ∷ [])
         ∙ ap (λ r. r ∷ []) (again there has passes) in
-        let done = one_step book_schema Enforced db next edit
-        (subst (λ n. works book_schema Enforced 0 table.tree (taken_by db edit) n ≡ []) (sym news)
+        let done = one_step our_schema Enforced db next edit
+        (subst (λ n. works our_schema Enforced 0 table.tree (taken_by db edit) n ≡ []) (sym news)
         (kept (taken_by db edit) new))
-        (subst (λ rs. Settling book_schema Enforced db (edit_by rs) (Ok next)) one h) in
+        (subst (λ rs. Settling our_schema Enforced db (edit_by rs) (Ok next)) one h) in
         let fresh : are_fresh left (new ∷ []) ≡ true =
         subst (λ n. are_fresh left n ≡ true) news done.fresh in
         record {
@@ -122,14 +122,14 @@ module _ (table : Table) (tabled : Has book_schema.tables table)
         → Updates (record {
           limit = limit;
           keys = Enforced;
-          schema = book_schema;
+          schema = our_schema;
           table = table;
           params = params;
         }) (record { lets = []; body = select_from table.tree terms project [] }) params db (Ok one)
         → Updated table test values db one.trees
     updates limit one h =
         let q = went h in
-        let a : Answers (record { schema = book_schema; trees = db }) (record {
+        let a : Answers (record { schema = our_schema; trees = db }) (record {
           lets = [];
           body = select_from table.tree terms project [];
         }) params q.0 = q.1 in
@@ -147,16 +147,16 @@ module _ (table : Table) (tabled : Has book_schema.tables table)
 
   -- the same of the whole statement
   -- rule: statements-of-tables.tables-content
-  pub updates_row : (at : ℕ) → slice_get book_schema.tables at ≡ Some table
-      → (old new : State) (text : List ℕ) (count : ℕ) → old.now.schema ≡ book_schema
-      → Fits book_schema old.now.trees → IsStored (old.now.trees table.tree)
+  pub updates_row : (at : ℕ) → slice_get our_schema.tables at ≡ Some table
+      → (old new : State) (text : List ℕ) (count : ℕ) → old.now.schema ≡ our_schema
+      → Fits our_schema old.now.trees → IsStored (old.now.trees table.tree)
       → ((r : Row) → Has (old.now.trees table.tree) r → test r ≡ true →
       cast_row table (made r) ≡ Int (id_in (rowid r)) ∷ values r)
       → Writes old new None (Update at (record {
         lets = [];
         body = select_from table.tree terms project [];
       })) text params count
-      → (new.now.schema ≡ book_schema) × Updated table test values old.now.trees new.now.trees
+      → (new.now.schema ≡ our_schema) × Updated table test values old.now.trees new.now.trees
   updates_row at there old new text count has fits stored again w =
       let does = does_over has w in
       let done = went (rw there at does) in

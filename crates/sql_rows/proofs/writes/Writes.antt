@@ -14,8 +14,8 @@ use Rattle.sqlite.specs.declared.error.Error.{Error}
 use Rattle.sqlite.specs.Listing.{understood}
 use Rattle.sqlite.specs.State.{State, ExecutesInside, HasCleanDisk, Shows}
 use Rattle.sqlite.proofs.Callers.{IsPlain, command_of, runs_as}
-use Rattle.sql_tables.specs.Schema.{book_schema}
-use Rattle.sql_tables.specs.Statements.{Attempts, Changes, HasBook, HasRules, IsBook, Puts}
+use Rattle.sql_tables.specs.Schema.{our_schema}
+use Rattle.sql_tables.specs.Statements.{Attempts, Changes, HasTables, HasRules, IsTabled, Puts}
 use Rattle.sql_tables.proofs.Keeps.{done_as, sound_fits}
 use Rattle.sql_rows.specs.Content.{TablesContent, tables_content}
 use Rattle.sql_rows.specs.Makes.{HasRun, Makes}
@@ -24,16 +24,16 @@ use Rattle.sql_rows.specs.Plain.{ArePlain}
 -- the parameters are the values that the text was read with
 pub writes : (text : List ℕ) (values : Row) (does : State → State → Type 0)
     (change : TablesContent → TablesContent)
-    → ((old new : State) (r : Result ℕ Error) → (IsTrue old.is_open → IsBook old)
+    → ((old new : State) (r : Result ℕ Error) → (IsTrue old.is_open → IsTabled old)
     → OnOk r (ExecutesInside 0 text values old new r) → OnOk r (does old new))
     → ((old new : State) → does old new → Makes change old new)
-    → (params : Row) → params ≡ values → (old new : State) (r : Result ⊤ Error) → HasBook old
+    → (params : Row) → params ≡ values → (old new : State) (r : Result ⊤ Error) → HasTables old
     → Attempts (HasRun text params) old new r
     → Attempts (Makes change) old new r
 writes text values does change runs makes params same old new r has =
     done_as _ (Makes change) old new r (λ clean. made r (has clean))
   where
-    made : (r : Result ⊤ Error) → (IsTrue old.is_open → IsBook old)
+    made : (r : Result ⊤ Error) → (IsTrue old.is_open → IsTabled old)
         → OnOk r (HasRun text params old new) → OnOk r (Makes change old new)
     made (Ok x) book h = makes old new (runs old new (Ok h.count) book
         (subst (λ p. ExecutesInside 0 text p old new (Ok h.count)) same h.ran))
@@ -62,12 +62,12 @@ ran_with text values old new count a x = record {
 -- rule: statements-of-tables.reads-within
 pub rules_after : {at : ℕ} {how : Conflict} {from : Source} {clauses : List Upsert}
     (text : List ℕ) (values : Row) (does : State → State → Type 0)
-    → command_of (understood book_schema text) ≡ InsertOr at how from clauses
-    → IsPlain (understood book_schema text)
-    → ((old new : State) (r : Result ℕ Error) → (IsTrue old.is_open → IsBook old)
+    → command_of (understood our_schema text) ≡ InsertOr at how from clauses
+    → IsPlain (understood our_schema text)
+    → ((old new : State) (r : Result ℕ Error) → (IsTrue old.is_open → IsTabled old)
     → OnOk r (ExecutesInside 0 text values old new r) → OnOk r (does old new))
-    → ((old new : State) → does old new → IsBook new)
-    → (params : Row) → params ≡ values → (old new : State) (r : Result ⊤ Error) → HasBook old
+    → ((old new : State) → does old new → IsTabled new)
+    → (params : Row) → params ≡ values → (old new : State) (r : Result ⊤ Error) → HasTables old
     → Attempts (HasRun text params) old new r → OnOk r (HasRules new)
 rules_after {at} {how} {from} {clauses} text values does is plain runs books params same old new
     (Ok x) has a = λ clean on.
@@ -76,9 +76,9 @@ rules_after {at} {how} {from} {clauses} text values does is plain runs books par
     let count : ℕ = done.count in
     let ran : ExecutesInside 0 text values old new (Ok count) =
     subst (λ p. ExecutesInside 0 text p old new (Ok count)) same done.ran in
-    let book : IsBook old = has before ran.1.was_open in
-    let after : IsBook new = books old new (runs old new (Ok count) (has before) ran) in
-    let w = runs_as text values old new book_schema book.schema (InsertOr at how from clauses) is
+    let book : IsTabled old = has before ran.1.was_open in
+    let after : IsTabled new = books old new (runs old new (Ok count) (has before) ran) in
+    let w = runs_as text values old new our_schema book.schema (InsertOr at how from clauses) is
     plain count ran.0 in
     sound_fits new.now.trees (subst (λ s. IsSound s new.now.trees) after.schema w.sound)
 rules_after text values does is plain runs books params same old new (Err e) has a = tt
@@ -87,7 +87,7 @@ rules_after text values does is plain runs books params same old new (Err e) has
 pub makes_turned : (change : TablesContent → TablesContent) (old new : State)
     → tables_content new.now.trees ≡ change (tables_content old.now.trees)
     → new.now.trees catalog_tree ≡ old.now.trees catalog_tree
-    → (ArePlain old.now.trees → ArePlain new.now.trees) → IsBook new
+    → (ArePlain old.now.trees → ArePlain new.now.trees) → IsTabled new
     → Shows old new new.now old.committed true → Makes change old new
 makes_turned change old new content catalog plain book shows = record {
   turns = record { content = content; catalog = catalog; stored = book.stored; plain = plain };

@@ -3,9 +3,9 @@ use Rattle.sql_rows.proofs.queries.Within.{book_still, failed_within, have_withi
 use Rattle.sql_rows.proofs.queries.Within.{within_both}
 use Rattle.sql_keeper.proofs.live_within.read_live_within.Goals as goal
 
-pub read_sessions_within-requires-clause-book : goal.read_sessions_within-requires-clause-book
-read_sessions_within-requires-clause-book g c =
-    book_still _ _ (have_within _ _ _ _ c.in_ok-purse.ensures.reads) c.requires.book
+pub read_sessions_within-requires-clause-tables : goal.read_sessions_within-requires-clause-tables
+read_sessions_within-requires-clause-tables g c =
+    book_still _ _ (have_within _ _ _ _ c.in_ok-purse.ensures.reads) c.requires.tables
 
 pub read_sessions_within-requires-clause-rules : goal.read_sessions_within-requires-clause-rules
 read_sessions_within-requires-clause-rules g c =

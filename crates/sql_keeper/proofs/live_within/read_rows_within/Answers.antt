@@ -7,9 +7,9 @@ use Rattle.sql_keeper.specs.Content.{shelf_names}
 use Rattle.sql_keeper.proofs.loads.LiveRows.{uncounted}
 use Rattle.sql_keeper.proofs.live_within.read_rows_within.Goals as goal
 
-pub read_live_within-requires-clause-book : goal.read_live_within-requires-clause-book
-read_live_within-requires-clause-book g c =
-    book_still _ _ (have_within _ _ _ _ c.in_ok-head.ensures.reads) c.requires.book
+pub read_live_within-requires-clause-tables : goal.read_live_within-requires-clause-tables
+read_live_within-requires-clause-tables g c =
+    book_still _ _ (have_within _ _ _ _ c.in_ok-head.ensures.reads) c.requires.tables
 
 pub read_live_within-requires-clause-rules : goal.read_live_within-requires-clause-rules
 read_live_within-requires-clause-rules g c =

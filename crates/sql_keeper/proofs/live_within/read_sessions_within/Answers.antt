@@ -8,9 +8,9 @@ use Rattle.sql_keeper.specs.Content.{shelf_names}
 use Rattle.sql_keeper.proofs.loads.LiveGroups.{none_open}
 use Rattle.sql_keeper.proofs.live_within.read_sessions_within.Goals as goal
 
-pub read_groups_within-requires-clause-book : goal.read_groups_within-requires-clause-book
-read_groups_within-requires-clause-book g c =
-    book_still _ _ (have_within _ _ _ _ c.in_ok-sessions.ensures.reads) c.requires.book
+pub read_groups_within-requires-clause-tables : goal.read_groups_within-requires-clause-tables
+read_groups_within-requires-clause-tables g c =
+    book_still _ _ (have_within _ _ _ _ c.in_ok-sessions.ensures.reads) c.requires.tables
 
 pub read_groups_within-requires-clause-rules : goal.read_groups_within-requires-clause-rules
 read_groups_within-requires-clause-rules g c =

@@ -19,8 +19,8 @@ returns-in_err-make_later-clause-brings g c =
     brought_err _ _ _ _ p.0 _ p.1 p.2 (not_made _ _ _ _ _ c.in_err-make_later.ensures.store
     c.in_err-make_later.ensures.makes)
 
-pub kept_within-requires-clause-book : goal.kept_within-requires-clause-book
-kept_within-requires-clause-book g c =
+pub kept_within-requires-clause-tables : goal.kept_within-requires-clause-tables
+kept_within-requires-clause-tables g c =
     made_book _ _ _ (made_first _ _ _ _ c.requires.at c.in_ok-make_later.ensures.makes)
 
 pub kept_within-requires-clause-rules : goal.kept_within-requires-clause-rules
@@ -35,8 +35,8 @@ returns-in_err-meta-clause-brings g c =
     (made_first _ _ _ _ c.requires.at c.in_ok-make_later.ensures.makes) _ _
     c.in_err-meta.ensures.reads c.in_err-meta.ensures.finds)
 
-pub books_within-requires-clause-book : goal.books_within-requires-clause-book
-books_within-requires-clause-book g c =
+pub books_within-requires-clause-tables : goal.books_within-requires-clause-tables
+books_within-requires-clause-tables g c =
     made_book _ _ _ (meta_read _ c.requires.known.0 c.requires.known.1 _ _ _ c.in_ok-meta.meta
     (made_first _ _ _ _ c.requires.at c.in_ok-make_later.ensures.makes)
     c.in_ok-meta.ensures.reads).has
@@ -84,8 +84,8 @@ put_latest-requires-clause-open g c =
     (made_first _ _ _ _ c.requires.at c.in_ok-make_later.ensures.makes)
     c.in_ok-meta.ensures.reads) c.in_ok-rows.ensures.reads).meta.has
 
-pub put_latest-requires-clause-book : goal.put_latest-requires-clause-book
-put_latest-requires-clause-book g c =
+pub put_latest-requires-clause-tables : goal.put_latest-requires-clause-tables
+put_latest-requires-clause-tables g c =
     made_book _ _ _ (rows_read _ c.requires.known.0 c.requires.known.1 _ _ _ c.in_ok-meta.meta
     c.in_ok-rows.rows
     (meta_read _ c.requires.known.0 c.requires.known.1 _ _ _ c.in_ok-meta.meta

@@ -21,4 +21,4 @@ pub returns-clause-makes : goal.returns-clause-makes
 returns-clause-makes g c =
     let v = c.args.version in
     let high = ltb-false v 2 (sym c.if-has_no_numbers.ensures) in
-    grants_none v _ _ (omega (arith, high)) c.requires.open c.requires.book
+    grants_none v _ _ (omega (arith, high)) c.requires.open c.requires.tables

@@ -5,9 +5,9 @@ pub put_numbers-requires-clause-open : goal.put_numbers-requires-clause-open
 put_numbers-requires-clause-open g c =
     still_inside _ _ _ c.requires.open c.in_ok-rows.ensures.reads.still
 
-pub put_numbers-requires-clause-book : goal.put_numbers-requires-clause-book
-put_numbers-requires-clause-book g c =
-    still_book _ _ _ c.requires.book c.in_ok-rows.ensures.reads.still
+pub put_numbers-requires-clause-tables : goal.put_numbers-requires-clause-tables
+put_numbers-requires-clause-tables g c =
+    still_book _ _ _ c.requires.tables c.in_ok-rows.ensures.reads.still
 
 pub returns-clause-makes : goal.returns-clause-makes
 returns-clause-makes g c =

@@ -15,8 +15,8 @@ returns-in_err-make_later-clause-asks g c =
     asked_err _ _ _ _ p.0 _ p.1 p.2 (asks_not_made _ _ _ _ _ c.in_err-make_later.ensures.store
     c.in_err-make_later.ensures.makes)
 
-pub kept_within-requires-clause-book : goal.kept_within-requires-clause-book
-kept_within-requires-clause-book g c =
+pub kept_within-requires-clause-tables : goal.kept_within-requires-clause-tables
+kept_within-requires-clause-tables g c =
     made_book _ _ _ (made_first _ _ _ _ c.requires.at c.in_ok-make_later.ensures.makes)
 
 pub kept_within-requires-clause-rules : goal.kept_within-requires-clause-rules

@@ -10,9 +10,9 @@ pub put_swept-requires-clause-open : goal.put_swept-requires-clause-open
 put_swept-requires-clause-open g c =
     inside_still _ _ (have_within _ _ _ _ c.in_ok-rows.ensures.reads) c.requires.open
 
-pub put_swept-requires-clause-book : goal.put_swept-requires-clause-book
-put_swept-requires-clause-book g c =
-    book_still _ _ (have_within _ _ _ _ c.in_ok-rows.ensures.reads) c.requires.book
+pub put_swept-requires-clause-tables : goal.put_swept-requires-clause-tables
+put_swept-requires-clause-tables g c =
+    book_still _ _ (have_within _ _ _ _ c.in_ok-rows.ensures.reads) c.requires.tables
 
 pub returns-in_err-rows-clause-sweeps : goal.returns-in_err-rows-clause-sweeps
 returns-in_err-rows-clause-sweeps g c =

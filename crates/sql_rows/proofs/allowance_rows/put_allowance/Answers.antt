@@ -9,5 +9,5 @@ returns g c = record {
   makes = makes_allowance c.args.account.now c.args.bucket _
       (bound_allowance c.args.account.now c.args.bucket _ _
       (c.text-of_account.ensures ∙ ap Text c.as_str.ensures.value) c.whole-number.ensures)
-      _ _ c.run.result c.requires.book c.run.ensures.makes;
+      _ _ c.run.result c.requires.tables c.run.ensures.makes;
 }

@@ -17,5 +17,5 @@ returns g c = record {
       c.whole-of_number.ensures
       (c.text-of_content.ensures ∙ ap Text c.as_str-2.ensures.value)
       (c.text-of_answer.ensures ∙ ap Text c.as_str-3.ensures.value))
-      _ _ c.run.result c.requires.book c.run.ensures.makes;
+      _ _ c.run.result c.requires.tables c.run.ensures.makes;
 }

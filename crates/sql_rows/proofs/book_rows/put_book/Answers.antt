@@ -9,5 +9,5 @@ returns g c = record {
   makes = let x : BookRow = record { starts = c.args.starts; content = c.args.content.now } in
       makes_book c.args.number x _ (bound_book c.args.number x _ _ _ c.whole-of_number.ensures
       (c.large-moment.ensures ∙ ap nat c.seconds.ensures.value) c.text-of_content.ensures)
-      _ _ c.run.result c.requires.book c.run.ensures.makes;
+      _ _ c.run.result c.requires.tables c.run.ensures.makes;
 }

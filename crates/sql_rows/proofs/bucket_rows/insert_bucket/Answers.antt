@@ -8,6 +8,6 @@ pub returns : goal.returns
 returns g c = record {
   same_reference = c.in_ok-write_bucket.ensures.same_reference;
   makes = makes_bucket c.args.account.now (plain_bucket c.args.bucket.now) refl _ _
-      (Ok tt) c.requires.book
+      (Ok tt) c.requires.tables
       (ran_with _ _ _ _ c.in_ok-write_bucket.field-0 c.in_ok-write_bucket.ensures.makes tt);
 }

@@ -6,4 +6,4 @@ use Rattle.sql_rows.proofs.charge_rows.add_charge.Goals as goal
 pub returns-clause-adds : goal.returns-clause-adds
 returns-clause-adds g c =
     adds_charge c.args.account.now (plain_charge c.args.charge.now) refl _ _
-    c.in_ok-count.count c.requires.book c.in_ok-count.ensures.makes
+    c.in_ok-count.count c.requires.tables c.in_ok-count.ensures.makes

@@ -8,6 +8,6 @@ pub returns : goal.returns
 returns g c = record {
   same_reference = c.in_ok-write_charge.ensures.same_reference;
   makes = makes_charge c.args.account.now (plain_charge c.args.charge.now) refl _ _
-      (Ok tt) c.requires.book
+      (Ok tt) c.requires.tables
       (ran_with _ _ _ _ c.in_ok-write_charge.field-0 c.in_ok-write_charge.ensures.makes tt);
 }

@@ -11,5 +11,5 @@ returns g c = record {
       makes_covered c.args.account.now x _ (bound_covered c.args.account.now x _ _ _
       (c.text-of_account.ensures ∙ ap Text c.as_str.ensures.value) c.whole-number.ensures
       c.in_ok-blocks.ensures)
-      _ _ c.run.result c.requires.book c.run.ensures.makes;
+      _ _ c.run.result c.requires.tables c.run.ensures.makes;
 }

@@ -8,5 +8,5 @@ returns g c = record {
   same_reference = search rules;
   makes = makes_none c.args.account.now c.args.charge _ (bound_key c.args.account.now c.args.charge
       _ _ (c.text-of_account.ensures ∙ ap Text c.as_str.ensures.value) c.whole-number.ensures)
-      _ _ c.run.result c.requires.book c.run.ensures.makes;
+      _ _ c.run.result c.requires.tables c.run.ensures.makes;
 }

@@ -11,5 +11,5 @@ returns g c = record {
       (c.text-of_account.ensures ∙ ap Text c.as_str.ensures.value)
       (c.text-of_session.ensures ∙ ap Text c.as_str-2.ensures.value)
       c.whole-of_group.ensures c.whole-number.ensures)
-      _ _ c.run.result c.requires.book c.run.ensures.makes;
+      _ _ c.run.result c.requires.tables c.run.ensures.makes;
 }

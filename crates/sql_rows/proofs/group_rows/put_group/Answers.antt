@@ -23,5 +23,5 @@ returns g c = record {
       ∙ ap (λ t. nat (flag_number t)) (there ∙ there_put c.args.periods))
       (c.before_or_null-at_grant.ensures ∙ before_put c.args.periods)
       (c.after_or_null-at_switch.ensures ∙ after_put c.args.periods))
-      _ _ c.run.result c.requires.book c.run.ensures.makes;
+      _ _ c.run.result c.requires.tables c.run.ensures.makes;
 }

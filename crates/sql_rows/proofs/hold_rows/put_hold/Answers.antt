@@ -14,5 +14,5 @@ returns g c = record {
       c.whole-of_group.ensures
       c.whole-bucket.ensures
       c.in_ok-amount.ensures)
-      _ _ c.run.result c.requires.book c.run.ensures.makes;
+      _ _ c.run.result c.requires.tables c.run.ensures.makes;
 }

@@ -9,11 +9,11 @@ returns-clause-makes g c =
     makes_last_moment c.args.last _
     (bound_last_moment c.args.last _
     (c.large-moment.ensures ∙ ap nat c.seconds.ensures.value))
-    _ _ c.run.result c.requires.book c.requires.rules c.run.ensures.makes
+    _ _ c.run.result c.requires.tables c.requires.rules c.run.ensures.makes
 
 pub returns-clause-rules : goal.returns-clause-rules
 returns-clause-rules g c =
     rules_last_moment c.args.last _
     (bound_last_moment c.args.last _
     (c.large-moment.ensures ∙ ap nat c.seconds.ensures.value))
-    _ _ c.run.result c.requires.book c.requires.rules c.run.ensures.makes
+    _ _ c.run.result c.requires.tables c.requires.rules c.run.ensures.makes

@@ -14,7 +14,7 @@ returns-clause-makes g c =
     c.whole-of_version.ensures
     c.text-of_book.ensures
     (c.large-moment.ensures ∙ ap nat c.seconds.ensures.value))
-    _ _ c.run.result c.requires.book c.run.ensures.makes
+    _ _ c.run.result c.requires.tables c.run.ensures.makes
 
 pub returns-clause-rules : goal.returns-clause-rules
 returns-clause-rules g c =
@@ -27,4 +27,4 @@ returns-clause-rules g c =
     c.whole-of_version.ensures
     c.text-of_book.ensures
     (c.large-moment.ensures ∙ ap nat c.seconds.ensures.value))
-    _ _ c.run.result c.requires.book c.run.ensures.makes
+    _ _ c.run.result c.requires.tables c.run.ensures.makes

@@ -23,5 +23,5 @@ returns g c = record {
       c.optional-of_days.ensures
       c.optional-of_scope.ensures
       c.redeemer_or_null-redeemer.ensures)
-      _ _ c.run.result c.requires.book c.run.ensures.makes;
+      _ _ c.run.result c.requires.tables c.run.ensures.makes;
 }

@@ -14,7 +14,7 @@ returns g c = record {
   answers = λ clean. answers_within c.args.sql.now (bound c.args.params.now)
       (state g.S.Store c.args.tx.now.conn.now)
       (state g.S.Store c.query_all.new.self.conn.now) _ c.requires.plain
-      (c.requires.book (omega (arith, c.query_all.ensures.survives.clean)))
+      (c.requires.tables (omega (arith, c.query_all.ensures.survives.clean)))
       (c.requires.rules (omega (arith, c.query_all.ensures.survives.clean)))
       (c.in_ok-query_all.ensures.ok clean);
   still = attempt_ok IsUnchanged (state g.S.Store c.args.tx.now.conn.now)
@@ -22,7 +22,7 @@ returns g c = record {
       (c.branch-query_all.ensures ∙ ap result_from_control_flow c.in_ok-query_all.is)
       (reads_within (λ rows. rows.items) c.args.sql.now (bound c.args.params.now)
       (state g.S.Store c.args.tx.now.conn.now) (state g.S.Store c.query_all.new.self.conn.now)
-      c.query_all.result c.requires.plain c.requires.book c.query_all.ensures.survives
+      c.query_all.result c.requires.plain c.requires.tables c.query_all.ensures.survives
       c.query_all.ensures.ok c.query_all.ensures.err);
   fault = search rules;
 }
@@ -41,7 +41,7 @@ returns-in_err-query_all g c =
           (reads_within (λ rows. rows.items) c.args.sql.now (bound c.args.params.now)
           (state g.S.Store c.args.tx.now.conn.now)
           (state g.S.Store c.query_all.new.self.conn.now) c.query_all.result c.requires.plain
-          c.requires.book c.query_all.ensures.survives c.query_all.ensures.ok
+          c.requires.tables c.query_all.ensures.survives c.query_all.ensures.ok
           c.query_all.ensures.err));
       fault = search rules;
     }
