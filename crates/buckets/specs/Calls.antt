@@ -38,32 +38,37 @@ pub record IsHeld (group : GroupId) (at : Moment) (d : Due) (old new : List Buck
   pub holds : given ≡ holds_of group at d old
   pub within : IsWithin given new
 
--- an amount is charged to holds, and what they don't reach to the eligible buckets
-pub record ChargesMoney (group : GroupId) (at : Moment) (amount : Micros)
-    (lent rest : List HeldAmount)
-    (old new : List BucketRow) (result : Result Charged PurseFault) : Type 0 where
+-- what is due is charged to holds, and what they don't reach to the eligible buckets
+pub record IsCharged (group : GroupId) (at : Moment) (d : Due) (lent rest : List HeldAmount)
+    (old new : List BucketRow) : Type 0 where
+  pub rows : new ≡ charged_rows lent group at d old
+  pub holds : rest ≡ rest_of_holds lent d old
+  pub within : IsWithin rest new
+
+-- it is charged; at an error, which is lack of memory, nothing has changed
+pub record ChargesDue {T : Type 0} (group : GroupId) (at : Moment) (d : Due)
+    (lent rest : List HeldAmount) (old new : List BucketRow) (result : Result T PurseFault)
+    : Type 0 where
   pub sound : IsSound old
-  pub rows : OnOk result (new ≡ charged_rows lent group at (due amount 0) old)
-  pub holds : OnOk result (rest ≡ rest_of_holds lent (due amount 0) old)
-  pub within : OnOk result (IsWithin rest new)
-  pub uncollected : IfOk result (λ c. c.uncollected.0 ≡ uncollected lent group at amount old)
-  pub collected : IfOk result (λ c. c.collected.0 + c.uncollected.0 ≡ amount)
+  pub charged : OnOk result (IsCharged group at d lent rest old new)
   pub memory : OnErr result (result ≡ Err Memory)
   pub err : OnErr result (new ≡ old)
   pub err_holds : OnErr result (rest ≡ lent)
 
--- blocks are charged to holds, and what they don't reach to the eligible allowances
+-- an amount is charged, and it is told what of it is collected
+pub record ChargesMoney (group : GroupId) (at : Moment) (amount : Micros)
+    (lent rest : List HeldAmount)
+    (old new : List BucketRow) (result : Result Charged PurseFault) : Type 0 where
+  pub charges : ChargesDue group at (due amount 0) lent rest old new result
+  pub uncollected : IfOk result (λ c. c.uncollected.0 ≡ uncollected lent group at amount old)
+  pub collected : IfOk result (λ c. c.collected.0 + c.uncollected.0 ≡ amount)
+
+-- blocks are charged, and it is told how many are covered
 pub record ChargesBlocks (group : GroupId) (at : Moment) (blocks : BlockCount)
     (lent rest : List HeldAmount) (old new : List BucketRow) (result : Result Blocks PurseFault)
     : Type 0 where
-  pub sound : IsSound old
-  pub rows : OnOk result (new ≡ charged_rows lent group at (due 0 blocks) old)
-  pub holds : OnOk result (rest ≡ rest_of_holds lent (due 0 blocks) old)
-  pub within : OnOk result (IsWithin rest new)
+  pub charges : ChargesDue group at (due 0 blocks) lent rest old new result
   pub covered : IfOk result (λ c. c.0 ≡ covered_blocks lent group at blocks old)
-  pub memory : OnErr result (result ≡ Err Memory)
-  pub err : OnErr result (new ≡ old)
-  pub err_holds : OnErr result (rest ≡ lent)
 
 -- what is due is charged, and what is left of the holds is given up
 pub record SettlesDue (holds : List HeldAmount) (group : GroupId) (at : Moment) (amount : Micros)

@@ -84,8 +84,8 @@ impl Model for Purse {
 }
 
 impl Purse {
-    ghost use Rattle.buckets.specs.Calls.{Adds, HoldsDue, IsHeld, ChargesMoney, ChargesBlocks};
-    ghost use Rattle.buckets.specs.Calls.{SettlesDue};
+    ghost use Rattle.buckets.specs.Calls.{Adds, HoldsDue, IsHeld, ChargesDue, ChargesMoney};
+    ghost use Rattle.buckets.specs.Calls.{ChargesBlocks, SettlesDue};
 
     /// A purse without buckets. It takes no memory.
     pub fn new(alloc: Global) -> Self
@@ -327,14 +327,8 @@ impl Purse {
         due: Due,
     ) -> Result<Due, PurseFault>
         requires { IsWithin holds.old self.old }
-        ensures sound { IsSound self.old }
-        ensures rows { OnOk result (self.new ≡ charged_rows holds.old group at due self.old) }
-        ensures holds { OnOk result (holds.new ≡ rest_of_holds holds.old due self.old) }
-        ensures within { OnOk result (IsWithin holds.new self.new) }
+        ensures charges { ChargesDue group at due holds.old holds.new self.old self.new result }
         ensures unpaid { IfOk result (λ d. d ≡ unpaid holds.old group at due self.old) }
-        ensures memory { OnErr result (result ≡ Err PurseFault.Memory) }
-        ensures err { OnErr result (self.new ≡ self.old) }
-        ensures err_holds { OnErr result (holds.new ≡ holds.old) }
     {
         let rest = along::rest_of(self.alloc, &self.buckets, holds.as_slice(), due)?;
         let left = along::charge_holds_along(&mut self.buckets, holds.as_slice(), due);
