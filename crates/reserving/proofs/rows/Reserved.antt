@@ -1,4 +1,5 @@
--- What a grant makes of a ledger's buckets, groups and counters, and of an account's rows.
+-- What a grant makes of a ledger's buckets, groups and counters, and of an account's rows: of any
+-- amounts that its group holds then, and of those of a group that held nothing.
 use Rattle.std.proofs.Common.{◌≡◌, ℕ, ◌+◌, ◌-◌, ◌≤◌, Bool, true, false, List, [], ◌∷◌, ◌++◌, map}
 use Rattle.std.proofs.Common.{refl, sym, ap, subst, ◌∙◌, arith, Option, Some, None}
 use Rattle.std.specs.Prelude.{if◌then◌else◌, ◌==◌, ◌&&◌, ◌||◌, not, nat_lt, is_some}
@@ -37,7 +38,8 @@ use Rattle.reserving.specs.Prepared.{reservation_in}
 use Rattle.ledger.specs.SoundLedger.{IsUnknown, IsSoundLedger}
 use Rattle.reserving.specs.Rows.{AccountRows, IsAccount, IsRowsOf}
 use Rattle.reserving.specs.Sessions.{group_before}
-use Rattle.reserving.proofs.InOrder.{order_map, order_held}
+use Rattle.reserving.proofs.InOrder.{order_map, order_changed, in_order_of}
+use Rattle.reserving.proofs.LeftMerged.{each_both}
 use Rattle.reserving.proofs.Lists.{find-put, find-put_other, EachIn-put, no_some}
 use Rattle.reserving.proofs.Keys.{is_key, own_key, key_session, key_group, other_row, not_true}
 use Rattle.reserving.proofs.Keys.{first_true}
@@ -65,7 +67,7 @@ balance_by-held true c ch h s q =
 balance_by-held false c ch h s q =
     with_columns c _ _ _ _ _ _ _ _ (omega arith) (omega arith) refl (omega arith)
 
-abbrev holds_for : Shelf → ℕ → ℕ → Due → Ledger → List HeldAmount
+abbrev pub holds_for : Shelf → ℕ → ℕ → Due → Ledger → List HeldAmount
 holds_for shelf t group due ledger = holds_of group t due (buckets_at (validity_of shelf) t ledger)
 
 abbrev granted : Shelf → ℕ → List ℕ → ℕ → ℕ → Ledger → Ledger
@@ -194,44 +196,50 @@ parts_each F G does (b ∷ bs) k e =
     λ i. (if nat_lt 0 (amount i) then one i ∷ parts_each F G does bs k e.1 i
     else parts_each F G does bs k e.1 i)
 
-each_own : (shelf : Shelf) (t : ℕ) (session : List ℕ) (group units : ℕ) (due : Due)
-    (ledger : Ledger)
-    (G : BucketRow → ℕ) (xs : List BucketRow) →
-    Each (λ b. held (only session group) b.number ledger ≡ 0) xs →
+-- what the group holds is more by its shares of what is due
+pub each_own : (shelf : Shelf) (t : ℕ) (session : List ℕ) (group units : ℕ) (due : Due)
+    (ledger : Ledger) (G : BucketRow → ℕ) (xs : List BucketRow) →
     Each (λ b. sum_at b.number (holds_for shelf t group due ledger) ≡ G b) xs →
     Each (λ b. held (only session group) b.number
-    (reserved shelf t session group units due ledger) ≡ G b) xs
-each_own shelf t session group units due ledger G [] none h = tt
-each_own shelf t session group units due ledger G (b ∷ bs) none h = (
+    (reserved shelf t session group units due ledger)
+    ≡ held (only session group) b.number ledger + G b) xs
+each_own shelf t session group units due ledger G [] h = tt
+each_own shelf t session group units due ledger G (b ∷ bs) h = (
   omega (
     arith,
     held-hold_facts (only session group) b.number t session group
         (holds_for shelf t group due ledger) (granted shelf t session group units ledger)
         (own_key session group),
-    none.0,
     h.0,
   ),
-  each_own shelf t session group units due ledger G bs none.1 h.1,
+  each_own shelf t session group units due ledger G bs h.1,
 )
 
 abbrev reservation_for : Shelf → ℕ → List HeldAmount → Reservation
 reservation_for shelf t holds = record { terms = terms_at shelf t; holds = holds }
 
+-- each bucket has of the group's holds an amount
+abbrev pub AreOwn : Shelf → ℕ → List ℕ → ℕ → ℕ → Due → Ledger → (BucketRow → ℕ) → Type 0
+AreOwn shelf t session group units due ledger all =
+    Each (λ b. held (only session group) b.number
+    (reserved shelf t session group units due ledger) ≡ all b)
+    (buckets_at (validity_of shelf) t ledger)
+
 own_reserved : (shelf : Shelf) (t : ℕ) (session : List ℕ) (group units : ℕ)
-    (due : Due) (ledger : Ledger) →
+    (due : Due) (ledger : Ledger) (all : BucketRow → ℕ) →
     is_live (validity_of shelf) t ledger session ≡ true →
     AreDistinct (buckets_at (validity_of shelf) t ledger) →
-    Each (λ b. held (only session group) b.number ledger ≡ 0)
-    (buckets_at (validity_of shelf) t ledger) →
+    AreOwn shelf t session group units due ledger all →
     group_at (validity_of shelf) t (reserved shelf t session group units due ledger) session
     group
     ≡ Some (record {
       session = session;
       group = group;
       used = used session group ledger;
-      reservation = Some (reservation_for shelf t (holds_for shelf t group due ledger));
+      reservation = Some (reservation_for shelf t
+          (parts all (buckets_at (validity_of shelf) t ledger)));
     })
-own_reserved shelf t session group units due ledger live distinct free =
+own_reserved shelf t session group units due ledger all live distinct each =
     let v : ℕ → ℕ = (validity_of shelf) in
     let after : Ledger = reserved shelf t session group units due ledger in
     let before : Ledger = granted shelf t session group units ledger in
@@ -259,30 +267,28 @@ own_reserved shelf t session group units due ledger live distinct free =
     let is_live' : is_live v t after session ≡ true =
     same_live v t ledger after (same_sessions-reserved shelf t session group units due ledger)
     session ∙ live in
-    let holds : holds_at v t session group after ≡ hs =
+    let holds : holds_at v t session group after ≡ parts all rows =
     ap (parts (λ b. held (only session group) b.number after))
     (buckets_at-reserved shelf t session group units due ledger live distinct)
-    ∙ parts_each (λ n. held (only session group) n after) G (λ b. with_hold b (G b)) rows
-    (λ b. refl)
-    (each_own shelf t session group units due ledger G rows free
-    (sum_at-parts G rows distinct)) in
-    let reservation : reservation_at v t after session group ≡ Some (reservation_for shelf t hs) =
+    ∙ parts_each (λ n. held (only session group) n after) all (λ b. with_hold b (G b)) rows
+    (λ b. refl) each in
+    let reservation : reservation_at v t after session group
+    ≡ Some (reservation_for shelf t (parts all rows)) =
     λ i. (if is_live' i then reservation_of (holds i) (grant i) else None) in
     own_row session group _ _ _ _ _ named so_far reservation
 
 groups-reserved : (shelf : Shelf) (t : ℕ) (session : List ℕ) (group units : ℕ) (due : Due)
-    (ledger : Ledger) (rows : List SessionGroup) (holds : List HeldAmount) →
+    (ledger : Ledger) (rows : List SessionGroup) (holds : List HeldAmount) (all : BucketRow → ℕ) →
     is_live (validity_of shelf) t ledger session ≡ true →
     AreDistinct (buckets_at (validity_of shelf) t ledger) →
-    Each (λ b. held (only session group) b.number ledger ≡ 0)
-    (buckets_at (validity_of shelf) t ledger) →
-    holds ≡ holds_for shelf t group due ledger →
+    AreOwn shelf t session group units due ledger all →
+    holds ≡ parts all (buckets_at (validity_of shelf) t ledger) →
     used_in session group rows ≡ used session group ledger →
     ((s : List ℕ) (g : ℕ) → group_in s g rows ≡ group_at (validity_of shelf) t ledger s g) →
     (s : List ℕ) (g : ℕ) →
     group_in s g (with_reservation session group (terms_at shelf t) holds rows)
     ≡ group_at (validity_of shelf) t (reserved shelf t session group units due ledger) s g
-groups-reserved shelf t session group units due ledger rows holds live distinct free eh so_far
+groups-reserved shelf t session group units due ledger rows holds all live distinct each eh so_far
     h s g = by_test (is_key session group s g) refl
   where
     after : Ledger
@@ -317,7 +323,8 @@ groups-reserved shelf t session group units due ledger rows holds live distinct 
           session = session;
           group = group;
           used = used session group ledger;
-          reservation = Some (reservation_for shelf t (holds_for shelf t group due ledger));
+          reservation = Some (reservation_for shelf t
+              (parts all (buckets_at (validity_of shelf) t ledger)));
         } in
         r) = λ i. record {
           session = session;
@@ -329,7 +336,7 @@ groups-reserved shelf t session group units due ledger rows holds live distinct 
         (λ i. group_in (sym es i) (sym eg i) (put group_before (is_of session group) row rows))
         ∙ find-put group_before (is_of session group) row rows (own_key session group)
         ∙ (λ i. Some (same i))
-        ∙ sym (own_reserved shelf t session group units due ledger live distinct free)
+        ∙ sym (own_reserved shelf t session group units due ledger all live distinct each)
         ∙ (λ i. group_at (validity_of shelf) t after (es i) (eg i))
     by_test false q =
         find-put_other group_before (is_of session group) (is_of s g) row rows q
@@ -471,14 +478,21 @@ IsSoundLedger-reserved shelf t session group units due ledger below has sound =
 
 -- ---- the rows of the ledger with the grant
 
--- rule: grant-terms.terms-at, grant-held
-pub IsRowsOf-reserved : (ledger : Ledger) (a : AccountRows) (session : List ℕ)
-    (group units : ℕ) (due : Due) →
+-- an account whose group holds these, of which those that are due are new
+abbrev pub holding_account : List ℕ → ℕ → Due → List HeldAmount → AccountRows → AccountRows
+holding_account session group due holds a = record a {
+  buckets = held_rows group a.as_of due a.buckets;
+  groups = with_reservation session group (terms_at a.shelf a.as_of) holds a.groups;
+}
+
+pub IsRowsOf-holding : (ledger : Ledger) (a : AccountRows) (session : List ℕ)
+    (group units : ℕ) (due : Due) (holds : List HeldAmount) (all : BucketRow → ℕ) →
     IsAccount a → IsRowsOf ledger a → is_live (validity_of a.shelf) a.as_of ledger session ≡ true →
-    reservation_in session group a.groups ≡ None →
+    AreOwn a.shelf a.as_of session group units due ledger all →
+    holds ≡ parts all (buckets_at (validity_of a.shelf) a.as_of ledger) →
     IsRowsOf (reserved a.shelf a.as_of session group units due ledger)
-    (reserved_account session group due a)
-IsRowsOf-reserved ledger a session group units due account rows live none =
+    (holding_account session group due holds a)
+IsRowsOf-holding ledger a session group units due holds all account rows live own is =
     let shelf : Shelf = a.shelf in
     let v : ℕ → ℕ = (validity_of shelf) in
     let t : ℕ = a.as_of in
@@ -489,8 +503,6 @@ IsRowsOf-reserved ledger a session group units due account rows live none =
     let sound : IsSound now = subst IsSound rows.buckets account.sound in
     let same : SameSessions ledger after =
     same_sessions-reserved shelf t session group units due ledger in
-    let free : Each (λ b. held (only session group) b.number ledger ≡ 0) now =
-    held_free ledger a session group account rows live (ap is_some none) in
     record {
       barred = rows.barred
           ∙ sym (is_barred-front (hold_facts t session group hs) before
@@ -499,10 +511,8 @@ IsRowsOf-reserved ledger a session group units due account rows live none =
           ap (held_rows group t due) rows.buckets
           ∙ sym (buckets_at-reserved shelf t session group units due ledger live sound.distinct);
       sessions = λ s. rows.sessions s ∙ sym (same_session v t ledger after same s);
-      groups = groups-reserved shelf t session group units due ledger a.groups
-          (holds_of group t due a.buckets) live sound.distinct free
-          (ap (holds_of group t due) rows.buckets) (used_in_is ledger a session group rows)
-          rows.groups;
+      groups = groups-reserved shelf t session group units due ledger a.groups holds all live
+          sound.distinct own is (used_in_is ledger a session group rows) rows.groups;
       counters =
           λ g c. rows.counters g c
           ∙ counter_reserved shelf (cycle_at shelf g) t session group units due ledger g c;
@@ -525,31 +535,64 @@ IsRowsOf-reserved ledger a session group units due account rows live none =
           (touched_live v t ledger session (rows.sound.touched session) live) rows.sound;
     }
 
+-- where the group held nothing, it holds its shares
+-- rule: grant-terms.terms-at, grant-held
+pub IsRowsOf-reserved : (ledger : Ledger) (a : AccountRows) (session : List ℕ)
+    (group units : ℕ) (due : Due) →
+    IsAccount a → IsRowsOf ledger a → is_live (validity_of a.shelf) a.as_of ledger session ≡ true →
+    reservation_in session group a.groups ≡ None →
+    IsRowsOf (reserved a.shelf a.as_of session group units due ledger)
+    (reserved_account session group due a)
+IsRowsOf-reserved ledger a session group units due account rows live none =
+    let t : ℕ = a.as_of in
+    let now : List BucketRow = buckets_at (validity_of a.shelf) t ledger in
+    let after : Ledger = reserved a.shelf t session group units due ledger in
+    let sound : IsSound now = subst IsSound rows.buckets account.sound in
+    let G : BucketRow → ℕ = share (eligible_amount group t) now due in
+    let own : AreOwn a.shelf t session group units due ledger G =
+    each_both (λ b. held (only session group) b.number ledger ≡ 0)
+    (λ b. held (only session group) b.number after
+    ≡ held (only session group) b.number ledger + G b)
+    (λ b. held (only session group) b.number after ≡ G b) now
+    (λ b nothing sum. omega (arith, nothing, sum))
+    (held_free ledger a session group account rows live (ap is_some none))
+    (each_own a.shelf t session group units due ledger G now (sum_at-parts G now sound.distinct)) in
+    IsRowsOf-holding ledger a session group units due (holds_of group t due a.buckets) G account
+    rows live own (ap (holds_of group t due) rows.buckets)
+
 -- ---- what each account keeps
 
-reserved_none : (s : List ℕ) (g : ℕ) (rows : List SessionGroup) → reservation_in s g rows ≡ None →
-    reserved_in s g rows ≡ []
-reserved_none s g rows h = ap holds_in h
-
-each_held : (rows after : List SessionGroup) (hs : List HeldAmount) (G : BucketRow → ℕ)
+each_held : (rows after : List SessionGroup) (old hs : List HeldAmount) (all G : BucketRow → ℕ)
     (xs : List BucketRow) →
-    ((b : BucketRow) → held_by (λ s. true) after b ≡ held_by (λ s. true) rows b + held_in hs b) →
-    Each (λ b. sum_at b.number hs ≡ G b) xs →
+    ((b : BucketRow) → held_by (λ s. true) after b + held_in old b
+    ≡ held_by (λ s. true) rows b + held_in hs b) →
+    Each (λ b. sum_at b.number old + G b ≡ all b) xs → Each (λ b. sum_at b.number hs ≡ all b) xs →
     Each (λ b. held_by (λ s. true) rows b ≡ b.reserved) xs →
     Each (λ b. held_by (λ s. true) after b ≡ b.reserved) (map (λ b. with_hold b (G b)) xs)
-each_held rows after hs G [] e s h = tt
-each_held rows after hs G (b ∷ bs) e s h =
+each_held rows after old hs all G [] e o s h = tt
+each_held rows after old hs all G (b ∷ bs) e o s h =
     let is : held_by (λ s. true) rows b ≡ b.reserved = h.0 in (
-      omega (arith, held_by_number after b (with_hold b (G b)) refl, e b, held_in-sum_at hs b, s.0),
-      each_held rows after hs G bs e s.1 h.1,
+      omega (
+        arith,
+        is,
+        held_by_number after b (with_hold b (G b)) refl,
+        e b,
+        held_in-sum_at hs b,
+        held_in-sum_at old b,
+        o.0,
+        s.0,
+      ),
+      each_held rows after old hs all G bs e o.1 s.1 h.1,
     )
 
-pub IsAccount-reserved : (a : AccountRows) (session : List ℕ) (group : ℕ) (due : Due) →
-    reservation_in session group a.groups ≡ None → IsAccount a →
-    IsAccount (reserved_account session group due a)
-IsAccount-reserved a session group due none h =
+pub IsAccount-holding : (a : AccountRows) (session : List ℕ) (group : ℕ) (due : Due)
+    (all : BucketRow → ℕ) →
+    Each (λ b. sum_at b.number (reserved_in session group a.groups)
+    + share (eligible_amount group a.as_of) a.buckets due b ≡ all b) a.buckets → IsAccount a →
+    IsAccount (holding_account session group due (parts all a.buckets) a)
+IsAccount-holding a session group due all each h =
     let t : ℕ = a.as_of in
-    let hs : List HeldAmount = holds_of group t due a.buckets in
+    let hs : List HeldAmount = parts all a.buckets in
     let G : BucketRow → ℕ = share (eligible_amount group t) a.buckets due in
     let row : SessionGroup =
     record {
@@ -558,12 +601,7 @@ IsAccount-reserved a session group due none h =
       used = used_in session group a.groups;
       reservation = Some (reservation_for a.shelf t hs);
     } in
-    let held : (b : BucketRow) →
-    held_by (λ s. true) (put group_before (is_of session group) row a.groups) b
-    ≡ held_by (λ s. true) a.groups b + held_in hs b = λ b.
-    (let nothing : held_in (reserved_in session group a.groups) b
-    ≡ 0 = ap (λ x. held_in x b) (reserved_none session group a.groups none) in
-    omega (arith, held_by-put session group row a.groups b, nothing)) in
+    let after : List SessionGroup = put group_before (is_of session group) row a.groups in
     record {
       shelf = h.shelf;
       sound = subst IsSound
@@ -579,18 +617,35 @@ IsAccount-reserved a session group due none h =
           a.groups
           (used_le session group 1000000000000000000 a.groups h.used) h.used;
       counted = h.counted;
-      held = each_held a.groups (put group_before (is_of session group) row a.groups) hs G a.buckets
-          held
-          (sum_at-parts G a.buckets h.sound.distinct) h.held;
+      held = each_held a.groups after (reserved_in session group a.groups) hs all G a.buckets
+          (λ b. held_by-put session group row a.groups b) each
+          (sum_at-parts all a.buckets h.sound.distinct) h.held;
       named = λ b le. omega (
         arith,
-        held b,
+        held_by-put session group row a.groups b,
         h.named b le,
         held_in-sum_at hs b,
-        sum_at_none G b.number a.buckets
+        sum_at_none all b.number a.buckets
             (differs_above a.next_bucket b.number a.buckets h.below le),
       );
       order = EachIn-put _ group_before (is_of session group) row a.groups
-          (order_held G a.buckets h.sound.distinct)
+          (order_changed (λ b. with_hold b (G b)) a.buckets hs (λ b. refl)
+          (in_order_of all a.buckets h.sound.distinct))
           (order_map (λ b. with_hold b (G b)) a.buckets a.groups (λ b. refl) h.order);
     }
+
+-- nothing is held, and what is due comes
+each_free : (old : List HeldAmount) (G : BucketRow → ℕ) (xs : List BucketRow) → old ≡ [] →
+    Each (λ b. sum_at b.number old + G b ≡ G b) xs
+each_free old G [] e = tt
+each_free old G (b ∷ bs) e =
+    let none : sum_at b.number old ≡ 0 = ap (sum_at b.number) e in
+    (omega (arith, none), each_free old G bs e)
+
+pub IsAccount-reserved : (a : AccountRows) (session : List ℕ) (group : ℕ) (due : Due) →
+    reservation_in session group a.groups ≡ None → IsAccount a →
+    IsAccount (reserved_account session group due a)
+IsAccount-reserved a session group due none h =
+    let G : BucketRow → ℕ = share (eligible_amount group a.as_of) a.buckets due in
+    IsAccount-holding a session group due G
+    (each_free (reserved_in session group a.groups) G a.buckets (ap holds_in none)) h
