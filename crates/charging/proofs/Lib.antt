@@ -3,6 +3,7 @@ pub mod added_books
 pub mod charges
 pub mod dead
 pub mod grants
+pub mod lists
 pub mod outcomes
 pub mod repeating
 pub mod runs

@@ -28,6 +28,7 @@ pub mod BoundedCharges
 pub mod Laws
 pub mod TablesAfter
 pub mod Equations
+pub mod FiniteRows
 pub mod PaidParts
 pub mod UsesByFields
 pub mod ServedParts

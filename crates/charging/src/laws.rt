@@ -17,6 +17,7 @@ ghost use Rattle.charging.specs.RedeemedCodes.{IsLeftByThese, IsRedeemedAtMostOn
 ghost use Rattle.charging.specs.Served.{AreTables};
 ghost use Rattle.charging.specs.TablesAfter.{TablesAreAFunction, RunsFromNothing};
 ghost use Rattle.charging.specs.Equations.{EquationsAreEnough, RunsByEquations};
+ghost use Rattle.charging.specs.FiniteRows.{RowsAreLists};
 ghost use Rattle.charging.specs.Headline.{AreAccounted};
 ghost use Rattle.charging.specs.Promise.{RunsOver};
 ghost use Rattle.charging.specs.Runs as relation;
@@ -51,6 +52,15 @@ pub fn tables_from_commands()
 pub fn equations_are_enough()
     ensures tables { EquationsAreEnough }
     ensures runs { RunsByEquations }
+{}
+
+/// Whatever commands were accepted, the rows that they leave of an account are a finite list within
+/// its rules: a bucket's four columns add up, no number passes its limit, no two rows have one key,
+/// and what is reserved of a bucket is what reservations hold. That no bucket was opened with more
+/// than its kind's most is the premise; commands have no greater amounts (profile).
+// rule: runs.finite-rows
+pub fn rows_are_lists()
+    ensures { RowsAreLists }
 {}
 
 /// What `run` promises by equations, it also says of each list of accepted commands whose tables a

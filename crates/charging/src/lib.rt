@@ -22,8 +22,8 @@ pub use crate::balances::{AccountState, account_state};
 pub use crate::laws::{
     allowances_before_money, balances_by_number, beginning, codes_redeemed_once, collection,
     dead_rows_stay, equations_are_enough, isolation, payment, quota, repeats,
-    reservations_are_priced, run_over_lists, runs_chain, sessions_open_by_grants, soundness,
-    tables_from_commands,
+    reservations_are_priced, rows_are_lists, run_over_lists, runs_chain, sessions_open_by_grants,
+    soundness, tables_from_commands,
 };
 pub use crate::running::{DatedCommand, run};
 pub use crate::stepping::step;

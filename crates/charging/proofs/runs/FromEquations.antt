@@ -1,14 +1,12 @@
 -- From the equations back to the tables of accepted commands.
 use Rattle.std.proofs.Common.{◌≡◌, ℕ, Bool, true, false, cond, List, [], ◌∷◌, refl, sym, ap, subst}
 use Rattle.std.proofs.Common.{◌∙◌, arith, Option, Some, None}
-use Rattle.std.specs.Prelude.{if◌then◌else◌, ◌==◌, option_map, nat_lt}
+use Rattle.std.specs.Prelude.{if◌then◌else◌, ◌==◌, option_map}
 use Rattle.std.proofs.lemmas.Bool.Decides.{nat_tests}
 use Rattle.buckets.specs.declared.holds.HeldAmount.{HeldAmount}
 use Rattle.buckets.specs.Row.{BucketRow, precedes}
 use Rattle.buckets.specs.Share.{parts}
-use Rattle.buckets.specs.Holding.{held_in}
-use Rattle.buckets.specs.Spend.{Each, IsInOrder, PrecedesAll, AreDistinct, DiffersFromAll}
-use Rattle.buckets.proofs.Parts.{sum_at, sum_at-parts, held_in-sum_at}
+use Rattle.buckets.specs.Spend.{IsInOrder, PrecedesAll, AreDistinct, DiffersFromAll}
 use Rattle.shelves.specs.Shelves.{Shelf}
 use Rattle.ledger.specs.declared.terms.Terms.{Terms}
 use Rattle.ledger.specs.Ledger.{Ledger, is_barred, is_live, next_bucket, next_charge, held, only}
@@ -25,7 +23,7 @@ use Rattle.reserving.specs.Stored.{StoredRows, priced}
 use Rattle.reserving.specs.Left.{bucket_in}
 use Rattle.reserving.proofs.Lists.{no_some, some_of}
 use Rattle.reserving.proofs.Keys.{same_number}
-use Rattle.reserving.proofs.InOrder.{order_none}
+use Rattle.reserving.proofs.InOrder.{in_order_of, order_none}
 use Rattle.reserving.proofs.LeftMore.{one_by_number}
 use Rattle.keepers.specs.Tables.{Head, Rows, Tables, no_rows, head_of, group_row, held_at, held_of}
 use Rattle.keepers.specs.Change.{AreRowsAt}
@@ -44,7 +42,7 @@ use Rattle.charging.specs.Promise.{IsList}
 
 -- ---- buckets that are found alike are one list
 
-not_there : (n : ℕ) (xs : List BucketRow) → DiffersFromAll n xs → bucket_in n xs ≡ None
+pub not_there : (n : ℕ) (xs : List BucketRow) → DiffersFromAll n xs → bucket_in n xs ≡ None
 not_there n [] h = refl
 not_there n (x ∷ xs) h = at (x.number == n) refl (not_there n xs h.1)
   where
@@ -75,23 +73,6 @@ one_list xs ys hx hy h =
     (before_found y x vs hy.0.0 k)) xs ys hx hy h
 
 -- ---- holds in the order of the buckets
-
-same_parts : (f g : BucketRow → ℕ) (xs : List BucketRow) → Each (λ b. g b ≡ f b) xs →
-    parts g xs ≡ parts f xs
-same_parts f g [] h = refl
-same_parts f g (b ∷ bs) h =
-    let rest : parts g bs ≡ parts f bs = same_parts f g bs h.1 in
-    λ i. if nat_lt 0 (h.0 i) then record { bucket = b.number; amount = h.0 i } ∷ rest i else rest i
-
-in_order_of : (f : BucketRow → ℕ) (rows : List BucketRow) → AreDistinct rows →
-    IsInOrderOf rows (parts f rows)
-in_order_of f rows d =
-    sym (same_parts f (held_in (parts f rows)) rows (each rows (sum_at-parts f rows d)))
-  where
-    each : (xs : List BucketRow) → Each (λ b. sum_at b.number (parts f rows) ≡ f b) xs →
-        Each (λ b. held_in (parts f rows) b ≡ f b) xs
-    each [] h = tt
-    each (b ∷ bs) h = (held_in-sum_at (parts f rows) b ∙ h.0, each bs h.1)
 
 reserved_in_order : (rows : List BucketRow) (live : Bool) (holds : List HeldAmount)
     (o : Option Terms) → IsInOrderOf rows holds →

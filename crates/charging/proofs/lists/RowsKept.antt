@@ -47,7 +47,7 @@ use Rattle.reserving.proofs.rows.Closing.{IsRowsOf-closed, IsRowsOf-touched}
 use Rattle.reserving.proofs.rows.Debited.{IsRowsOf-debited}
 use Rattle.reserving.proofs.rows.Empty.{IsRowsOf-new}
 use Rattle.reserving.proofs.rows.Touching.{IsRowsOf-denied, IsRowsOf-opened}
-use Rattle.finite_rows.proofs.lists.HeldAgain.{again_account, IsAccount-again, IsRowsOf-again}
+use Rattle.charging.proofs.lists.HeldAgain.{again_account, IsAccount-again, IsRowsOf-again}
 
 -- an account on the shelf, as of the moment, whose rows are the ledger's
 pub record HasRows (b : Shelf) (t : ℕ) (ledger : Ledger) : Type 0 where

@@ -38,11 +38,11 @@ use Rattle.reserving.proofs.Lists.{no_some}
 use Rattle.shelves.specs.Shelves.{Shelf, IsShelf, book_at}
 use Rattle.tariffs.specs.Tariffs.{GroupTariff}
 use Rattle.ledger.specs.SoundLedger.{IsSoundLedger}
-use Rattle.finite_rows.proofs.lists.LiveSessions.{live_reserved, live_settled, live_touched}
-use Rattle.finite_rows.proofs.lists.LiveSessions.{live_unclosed, unrecorded_debited}
-use Rattle.finite_rows.proofs.lists.RowsKept.{AreRows, not_above, rows_closed, rows_credited}
-use Rattle.finite_rows.proofs.lists.RowsKept.{rows_debited, rows_opened, rows_recorded, rows_reserved}
-use Rattle.finite_rows.proofs.lists.RowsKept.{rows_settled, rows_touched}
+use Rattle.charging.proofs.lists.LiveSessions.{live_reserved, live_settled, live_touched}
+use Rattle.charging.proofs.lists.LiveSessions.{live_unclosed, unrecorded_debited}
+use Rattle.charging.proofs.lists.RowsKept.{AreRows, not_above, rows_closed, rows_credited}
+use Rattle.charging.proofs.lists.RowsKept.{rows_debited, rows_opened, rows_recorded, rows_reserved}
+use Rattle.charging.proofs.lists.RowsKept.{rows_settled, rows_touched}
 
 -- ---- what isn't refused
 

@@ -37,8 +37,8 @@ use Rattle.charging.specs.OutcomeParts.{new_credit, new_redemption, opened_outco
 use Rattle.charging.specs.OutcomeParts.{redemption_outcome, unless_kept, unopened_outcome, until_of}
 use Rattle.charging.specs.Outcomes.{addition_outcome, allowance_outcome, book_days, credit_outcome}
 use Rattle.charging.specs.Outcomes.{is_full, outcome, redeem_outcome, request_outcome}
-use Rattle.finite_rows.proofs.lists.RequestRows.{request_rows}
-use Rattle.finite_rows.proofs.lists.RowsKept.{AreRows, not_above, rows_barred, rows_credited}
+use Rattle.charging.proofs.lists.RequestRows.{request_rows}
+use Rattle.charging.proofs.lists.RowsKept.{AreRows, not_above, rows_barred, rows_credited}
 use Rattle.ledger.specs.SoundLedger.{IsSoundLedger}
 
 -- a bucket more has a number

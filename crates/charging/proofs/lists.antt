@@ -2,7 +2,6 @@
 pub mod CommandRows
 pub mod FiniteRows
 pub mod HeldAgain
-pub mod InOrder
 pub mod LiveSessions
 pub mod RequestRows
 pub mod RowsKept

@@ -10,7 +10,7 @@ use Rattle.ledger.specs.Balance.{bucket_at, buckets_at, credits}
 use Rattle.ledger.proofs.Names.{number_same}
 use Rattle.reserving.proofs.Keys.{same_number}
 use Rattle.charging.specs.Paid.{reports_of}
-use Rattle.finite_rows.proofs.lists.InOrder.{not_there}
+use Rattle.charging.proofs.runs.FromEquations.{not_there}
 use Rattle.charging.proofs.steps.Credited.{AreCredited, distinct}
 use Rattle.charging.proofs.steps.KeptHistories.{kept_history}
 use Rattle.charging.proofs.steps.Sound.{IsSoundHistory, keeps_sound, sound_none}
@@ -25,14 +25,14 @@ use Rattle.reserving.specs.Stored.{stored}
 use Rattle.shelves.specs.Shelves.{Shelf, IsShelf}
 use Rattle.charging.specs.Accepted.{Accepted, Concerned, IsInTime, as_of, concerned_by, each}
 use Rattle.charging.specs.Accepted.{last_moment, names, none, one, reaches}
-use Rattle.finite_rows.specs.FiniteRows.{RowsAreLists}
+use Rattle.charging.specs.FiniteRows.{RowsAreLists}
 use Rattle.charging.specs.Histories.{History}
 use Rattle.charging.specs.Outcomes.{outcome}
 use Rattle.charging.specs.Promise.{IsList}
 use Rattle.charging.specs.Served.{history, standing}
 use Rattle.charging.specs.TablesAfter.{rows_at}
-use Rattle.finite_rows.proofs.lists.CommandRows.{outcome_rows}
-use Rattle.finite_rows.proofs.lists.RowsKept.{AreRows, HasRows, rows_later, rows_none}
+use Rattle.charging.proofs.lists.CommandRows.{outcome_rows}
+use Rattle.charging.proofs.lists.RowsKept.{AreRows, HasRows, rows_later, rows_none}
 use Rattle.charging.proofs.runs.AcceptedTables.{as_of-last}
 
 -- ---- a history's rows
