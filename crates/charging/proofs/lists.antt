@@ -2,6 +2,7 @@
 pub mod CommandRows
 pub mod FiniteRows
 pub mod HeldAgain
+pub mod InRange
 pub mod LiveSessions
 pub mod RequestRows
 pub mod RowsKept

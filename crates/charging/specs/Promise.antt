@@ -5,14 +5,15 @@ use Rattle.std.specs.Prelude.{◌≡◌, ◌≤◌, ◌<◌, ◌+◌, ◌⊎◌,
 use Rattle.std.specs.Prelude.{IfNone, IfSome, if◌then◌else◌, option_map}
 use Rattle.identifiers.specs.Words.{AccountName}
 use Rattle.shelves.specs.Shelves.{Shelf}
+use Rattle.buckets.specs.Kinds.{most_of}
+use Rattle.buckets.specs.Words.{BucketNumber}
 use Rattle.buckets.specs.Row.{IsBalanced}
 use Rattle.buckets.specs.Spend.{Each}
 use Rattle.ledger.specs.Pricing.{validity_of, cycle_at}
 use Rattle.ledger.specs.Balance.{buckets_at}
 use Rattle.keepers.specs.Faults.{max_failures}
 use Rattle.keepers.specs.Seen.{Seen}
-use Rattle.keepers.specs.Tables.{Head, Tables, Rows, no_rows, charge_in, AreListed, group_row}
-use Rattle.keepers.specs.Tables.{held_of}
+use Rattle.keepers.specs.Tables.{Head, Tables, Rows, no_rows, charge_in, group_row, held_of}
 use Rattle.keepers.specs.declared.fault.StoreFault.{StoreFault}
 use Rattle.keepers.specs.declared.fault.StoreFault.TheVariants.{Store}
 use Rattle.charging.specs.declared.answers.Run.{Run}
@@ -26,7 +27,6 @@ use Rattle.ledger.specs.Charges.{charge_rows}
 use Rattle.ledger.specs.Ledger.{is_barred, next_bucket, next_charge}
 use Rattle.reserving.specs.Left.{bucket_in}
 use Rattle.reserving.specs.Sessions.{session_at, group_at, counter_at}
-use Rattle.reserving.specs.Stored.{StoredRows, IsStored}
 use Rattle.units.specs.Words.{Moment, Seconds}
 
 -- ---- tables are a function of the accepted commands
@@ -61,20 +61,14 @@ tables_after shelf list = record {
   count = account_count list;
 }
 
--- an account's rows are a list within its rules
-pub record IsList (r : Rows) : Type 0 where
-  pub rows : StoredRows
-  pub are : AreListed rows r
-  pub kept : IsStored rows
-
--- so those of each account that is there
-abbrev pub AreLists : Tables → Type 0
-AreLists tables = (a : AccountName) (head : Head) → (tables.rows a).head ≡ Some head →
-    IsList (tables.rows a)
+-- no bucket was opened with more than its kind's most
+abbrev pub AreBucketsInRange : Tables → Type 0
+AreBucketsInRange tables = (a : AccountName) (n : BucketNumber) →
+    IfSome ((tables.rows a).buckets n) (λ b. b.credited ≤ most_of b.kind)
 
 -- of each list of accepted commands whose tables these are
 abbrev pub From : Shelf → Tables → (List Accepted → Type 0) → Type 0
-From shelf tables says = (list : List Accepted) → IsInTime list → AreLists tables →
+From shelf tables says = (list : List Accepted) → IsInTime list → AreBucketsInRange tables →
     tables ≡ tables_after shelf list → says list
 
 -- ---- what is paid
@@ -118,13 +112,14 @@ pub record EndsAs (commands : List DatedCommand) (run : Run) : Type 0 where
   pub whole : IfNone run.fault (length run.answers.items ≡ length commands)
   pub stopped : IfSome run.fault (λ fault. length run.answers.items < length commands)
 
--- tables are those of the accepted commands, and lists
+-- tables are those of the accepted commands, and no bucket of them is out of range
 pub record AreAfter (shelf : Shelf) (list : List Accepted) (tables : Tables) : Type 0 where
   pub are : tables ≡ tables_after shelf list
-  pub lists : AreLists tables
+  pub ranges : AreBucketsInRange tables
   pub time : IsInTime list
 
--- a stop leaves the tables of the commands that were answered, or of one more, and they are lists
+-- a stop leaves the tables of the commands that were answered, or of one more, and no bucket of
+-- them is out of range
 -- rule: stop-run: a run over a store that stops answering: the answers until then, and what is
 --   found again has each command that was answered, and at most one more
 pub record IsFound (shelf : Shelf) (commands : List DatedCommand) (run : Run) (left : Tables)
@@ -133,7 +128,7 @@ pub record IsFound (shelf : Shelf) (commands : List DatedCommand) (run : Run) (l
   pub all : length run.answers.items ≤ count
   pub one_more : count ≤ length run.answers.items + 1
   pub tables : left ≡ tables_after shelf (after_commands shelf list (take count commands))
-  pub lists : AreLists left
+  pub ranges : AreBucketsInRange left
 
 -- from tables of accepted commands on, the answers are those to the commands, each after those
 -- before it, and the tables are those of all that were accepted

@@ -16,8 +16,8 @@ ghost use Rattle.charging.specs.SharesTold.{ChargesAreShares, HoldsAreShares};
 ghost use Rattle.charging.specs.RedeemedCodes.{IsLeftByThese, IsRedeemedAtMostOnce};
 ghost use Rattle.charging.specs.Served.{AreTables};
 ghost use Rattle.charging.specs.TablesAfter.{TablesAreAFunction, RunsFromNothing};
-ghost use Rattle.charging.specs.Equations.{EquationsAreEnough, RunsByEquations};
-ghost use Rattle.charging.specs.FiniteRows.{RowsAreLists};
+ghost use Rattle.charging.specs.Equations.{EquationsAreEnough, ListsAreEnough, RunsByEquations};
+ghost use Rattle.charging.specs.FiniteRows.{LeftAreLists, ListsAreInRange, RowsAreLists};
 ghost use Rattle.charging.specs.Headline.{AreAccounted};
 ghost use Rattle.charging.specs.Promise.{RunsOver};
 ghost use Rattle.charging.specs.Runs as relation;
@@ -47,20 +47,25 @@ pub fn tables_from_commands()
     ensures runs { RunsFromNothing }
 {}
 
-/// And back: tables that are that function of accepted commands, and whose rows are lists, are the
-/// tables of these commands. So a run goes on from them by equations alone (profile).
+/// And back: tables that are that function of accepted commands, and no bucket of which was opened
+/// with more than its kind's most, are the tables of these commands; so are those whose rows are
+/// lists. So a run goes on from them by equations alone (profile).
 pub fn equations_are_enough()
     ensures tables { EquationsAreEnough }
+    ensures lists { ListsAreEnough }
     ensures runs { RunsByEquations }
 {}
 
 /// Whatever commands were accepted, the rows that they leave of an account are a finite list within
 /// its rules: a bucket's four columns add up, no number passes its limit, no two rows have one key,
 /// and what is reserved of a bucket is what reservations hold. That no bucket was opened with more
-/// than its kind's most is the premise; commands have no greater amounts (profile).
+/// than its kind's most is the premise, and follows of such lists; commands have no greater amounts
+/// (profile). So what a run leaves are lists, and what a stop leaves of it.
 // rule: runs.finite-rows
 pub fn rows_are_lists()
-    ensures { RowsAreLists }
+    ensures lists { RowsAreLists }
+    ensures ranges { ListsAreInRange }
+    ensures left { LeftAreLists }
 {}
 
 /// What `run` promises by equations, it also says of each list of accepted commands whose tables a

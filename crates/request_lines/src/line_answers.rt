@@ -112,5 +112,7 @@ fn run_each<K: Keeper>(
 ) -> Run
     ensures { RunsOver shelf.now commands.items (K.seen keeper.old) (K.seen keeper.new) result }
 {
+    // For the prover alone: looking at the value makes known here what its type keeps.
+    let _ranges = shelf.first();
     run(alloc, keeper, shelf, commands)
 }

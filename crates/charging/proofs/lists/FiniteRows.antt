@@ -25,10 +25,9 @@ use Rattle.reserving.specs.Stored.{stored}
 use Rattle.shelves.specs.Shelves.{Shelf, IsShelf}
 use Rattle.charging.specs.Accepted.{Accepted, Concerned, IsInTime, as_of, concerned_by, each}
 use Rattle.charging.specs.Accepted.{last_moment, names, none, one, reaches}
-use Rattle.charging.specs.FiniteRows.{RowsAreLists}
+use Rattle.charging.specs.FiniteRows.{IsList, RowsAreLists}
 use Rattle.charging.specs.Histories.{History}
 use Rattle.charging.specs.Outcomes.{outcome}
-use Rattle.charging.specs.Promise.{IsList}
 use Rattle.charging.specs.Served.{history, standing}
 use Rattle.charging.specs.TablesAfter.{rows_at}
 use Rattle.charging.proofs.lists.CommandRows.{outcome_rows}

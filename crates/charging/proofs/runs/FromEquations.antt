@@ -37,8 +37,8 @@ use Rattle.charging.proofs.steps.Credited.{AreCredited, in_order, distinct}
 use Rattle.charging.proofs.steps.Sound.{IsSoundHistory, sound_none, keeps_sound}
 use Rattle.charging.proofs.steps.KeptHistories.{kept_history}
 use Rattle.charging.proofs.runs.TablesAfter.{tables_are_a_function}
-use Rattle.charging.specs.Equations.{EquationsAreEnough, RunsByEquations}
-use Rattle.charging.specs.Promise.{IsList}
+use Rattle.charging.specs.Equations.{ListsAreEnough, RunsByEquations}
+use Rattle.charging.specs.FiniteRows.{IsList}
 
 -- ---- buckets that are found alike are one list
 
@@ -169,8 +169,8 @@ behind shelf t ledger r l made sound e =
 
 -- ---- tables
 
-pub equations_are_enough : EquationsAreEnough
-equations_are_enough shelf list tables lists e = record {
+pub lists_are_enough : ListsAreEnough
+lists_are_enough shelf list tables lists e = record {
   last = λ i. (e i).last;
   accounts = λ a. account a (history shelf a list).opened refl (λ i. (e i).rows a);
   answers = λ a k. λ i. (e i).answers a k;
@@ -193,5 +193,5 @@ equations_are_enough shelf list tables lists e = record {
 
 pub runs_by_equations : RunsByEquations
 runs_by_equations shelf commands old new given lists runs list time e =
-    let run = runs list time (equations_are_enough shelf list old lists e) in
+    let run = runs list time (lists_are_enough shelf list old lists e) in
     record { answers = run.answers; tables = tables_are_a_function shelf _ new run.tables }

@@ -26,6 +26,11 @@ time-more b list d time = at (accepts b list d.command (moment_of list d.moment)
     at true = (le-max_right d.moment (last_moment list), time)
     at false = time
 
+pub time_after : (b : Shelf) (list : List Accepted) (ds : List DatedCommand) → IsInTime list →
+    IsInTime (after_commands b list ds)
+time_after b list [] time = time
+time_after b list (d ∷ ds) time = time_after b (after_command b list d) ds (time-more b list d time)
+
 answers-more : (b : Shelf) (list : List Accepted) (ds : List DatedCommand) (d : DatedCommand) →
     answers_to b list (ds ++ d ∷ []) ≡
     answers_to b list ds ++ answer_to b (after_commands b list ds) d.command
