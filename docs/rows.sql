@@ -186,7 +186,6 @@ SELECT 'answers: the command is one of the account' AS rule, account, kind, name
   WHERE json_valid(content)
     AND account <> coalesce(json_extract(content, '$."Subscription-Id"."Subscription-Id-Data"'),
       json_extract(content, '$."Subscription-Id-Data"'), account);
--- not at an opening
 SELECT 'answers: the answer is one to the command' AS rule, account, kind, name, number
   FROM answers
   WHERE json_valid(content) AND json_valid(answer) AND NOT CASE kind

@@ -451,17 +451,17 @@ ROWS = [
     (
         """UPDATE answers SET answer = replace(answer, '"debit"', '"other"')
         WHERE name = 'debit'""",
-        OPENED,
+        RULES,
         "answers: the answer is one to the command",
     ),
     (
         """UPDATE answers SET answer = '{"Refusal":"O2"}' WHERE name = 'second'""",
-        OPENED,
+        RULES,
         "answers: the answer is one to the command",
     ),
     (
         """UPDATE answers SET answer = '{"Accounts":3,"Result-Code":2001}' WHERE name = 'second'""",
-        OPENED,
+        RULES,
         "answers: the answer is one to the command",
     ),
     (

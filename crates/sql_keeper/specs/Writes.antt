@@ -1,7 +1,7 @@
 -- What a change writes, one row after another.
 -- Source: profile.
-use Rattle.std.specs.Prelude.{◌≡◌, ◌==◌, ℕ, Bool, true, false, List, [], Option, Some, None}
-use Rattle.std.specs.Prelude.{unwrap_or, if◌then◌else◌, option_map, slice_get}
+use Rattle.std.specs.Prelude.{◌≡◌, ◌==◌, ◌&&◌, ◌⊎◌, ℕ, Bool, true, false, List, [], Option, Some}
+use Rattle.std.specs.Prelude.{None, unwrap_or, if◌then◌else◌, option_map, slice_get}
 use Rattle.units.specs.Words.{Moment, BlockCount, GroupId}
 use Rattle.identifiers.specs.Texts.{same_name}
 use Rattle.identifiers.specs.Words.{SessionName, AccountName}
@@ -18,7 +18,6 @@ use Rattle.reserving.specs.declared.session.SessionGroup.{SessionGroup}
 use Rattle.reserving.specs.declared.session.Reservation.{Reservation}
 use Rattle.reserving.specs.Sessions.{holds_in}
 use Rattle.reserving.specs.Stored.{StoredRows}
-use Rattle.commands.specs.declared.command.Content.{Content}
 use Rattle.commands.specs.declared.key.Key.{Key}
 use Rattle.commands.specs.Keys.{account_of, key_of}
 use Rattle.commands.specs.declared.key.Key.TheVariants.{Request, Reference}
@@ -39,6 +38,7 @@ use Rattle.sql_rows.specs.Content.{without_holds, with_answer, with_voucher_row,
 use Rattle.sql_rows.specs.Content.{has_charge, with_charge_row, with_grant_book, without_grant_book}
 use Rattle.sql_rows.specs.Content.{with_allowance, without_allowance, with_covered, without_covered}
 use Rattle.sql_rows.specs.Each.{with_each, with_counters, with_sessions, with_holds}
+use Rattle.sql_rules.specs.Rules.{is_answer_to}
 use Rattle.sql_keeper.specs.Content.{kept_in, Names, names_numbered}
 use Rattle.sql_keeper.specs.Grants.{is_kept}
 use Rattle.sql_keeper.specs.KeptKinds.{is_counted}
@@ -225,14 +225,18 @@ AreTexts a None t = Unit {0}
 AreTexts a (Some k) None = ⊥
 AreTexts a (Some k) (Some t) = kept_in a t ≡ Some k
 
--- why there are none: it is of another account, or else memory was refused
-abbrev pub texts_fault : AccountName → Content → ReadFault
-texts_fault a c = if same_name (account_of c) a then Memory else Rules
+-- why there are none: it is of another account; or else memory was refused, or its answer isn't one
+-- to it
+pub record IsFaultOfTexts (a : AccountName) (k : KeptAnswer) (fault : ReadFault) : Type 0 where
+  pub told : (fault ≡ Memory) ⊎ (fault ≡ Rules)
+  pub other : same_name (account_of k.content) a ≡ false → fault ≡ Rules
+  pub rules : fault ≡ Rules
+      → (same_name (account_of k.content) a && is_answer_to k.content k.answer) ≡ false
 
 -- rule: rows-ruled.ruled-change
 abbrev pub IsTextsFault : AccountName → Option KeptAnswer → ReadFault → Type 0
 IsTextsFault a None fault = ⊥
-IsTextsFault a (Some k) fault = fault ≡ texts_fault a k.content
+IsTextsFault a (Some k) fault = IsFaultOfTexts a k fault
 
 -- what is kept once: the version of the tables, the text of the book, and the moment of the
 -- last accepted command

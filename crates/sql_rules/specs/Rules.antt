@@ -10,10 +10,15 @@ use Rattle.units.specs.Words.{Moment, latest_command, greatest_number, most_used
 use Rattle.units.specs.Words.{most_days}
 use Rattle.identifiers.specs.Texts.{is_account_number, is_reference, is_session_id}
 use Rattle.identifiers.specs.Texts.{is_voucher_code, same_name}
+use Rattle.commands.specs.Codes.{kind_number, kind_of_ask}
 use Rattle.commands.specs.Keys.{key_of}
+use Rattle.commands.specs.declared.answer.Answer.{Answer}
+use Rattle.commands.specs.declared.answer.Answer.TheVariants as answer
 use Rattle.commands.specs.declared.command.Content.{Content}
+use Rattle.commands.specs.declared.command.Content.TheVariants as content
 use Rattle.commands.specs.declared.key.Key.{Key}
 use Rattle.commands.specs.declared.key.Key.TheVariants.{Request, Reference}
+use Rattle.commands.specs.declared.request.Request.{Request as CreditRequest}
 use Rattle.json_fields.specs.declared.fault.WireFault.{WireFault}
 use Rattle.tariffs.specs.Names.{period_named}
 use Rattle.shelves.specs.Shelves.{Shelf, count, dated_books}
@@ -22,7 +27,8 @@ use Rattle.sqlite_sql.specs.Ops.{is_null}
 use Rattle.sqlite_value.specs.declared.value.Value.{Value}
 use Rattle.sqlite_value.specs.Order.{Row, column}
 use Rattle.wire.specs.Contents.{content_of, content_text}
-use Rattle.wire.specs.ReadingAnswers.{is_answer_text}
+use Rattle.wire.specs.ReadingAnswers.{answer_of}
+use Rattle.wire.specs.Spelled.{answer_text}
 use Rattle.sql_rows.specs.Words.{KeyKind, KeyName, KeyNumber}
 use Rattle.sql_rows.specs.Values.{text_in}
 use Rattle.sql_rules.specs.Columns.{number_at, text_at, is_in_bounds, is_optional_within, is_small}
@@ -109,21 +115,49 @@ is_under (Request session n) kind name number =
 is_under (Reference reference) kind name number =
     nat_eq 2 kind && same_name reference name && nat_eq 0 number
 
--- bytes are the text of the content that they say, whose key is that of the columns
--- rule: rows-ruled.under
-abbrev pub is_kept_content : KeyKind → KeyName → KeyNumber → List ℕ → Result Content WireFault
-    → Bool
-is_kept_content kind name number bytes (Ok c) =
-    pointwise nat_eq (content_text c) bytes && is_under (key_of c) kind name number
-is_kept_content kind name number bytes (Err e) = false
+-- an answer is one to this request: of its session, its type and its number
+abbrev pub answers_request : CreditRequest → Answer → Bool
+answers_request r (answer.Request x) =
+    same_name x.session r.session && nat_eq (kind_number x.kind) (kind_number (kind_of_ask r.ask))
+    && nat_eq x.number r.number
+answers_request r x = false
 
--- the texts of a command of the account, under the command's own key, and of an answer
--- rule: rows-ruled.under
+-- an answer is the number of a bucket
+abbrev pub has_bucket_number : Answer → Bool
+has_bucket_number (answer.Bucket n) = true
+has_bucket_number x = false
+
+-- an answer is one to this command; to an operator's command that is kept it is a bucket's number
+-- rule: rows-ruled.answered: what is kept of a command beside it is an answer to it: of the
+--   session, the type and the number of a request, or the number of a bucket
+abbrev pub is_answer_to : Content → Answer → Bool
+is_answer_to (content.Request r) x = answers_request r x
+is_answer_to (content.Credit c) x = has_bucket_number x
+is_answer_to (content.Allow a) x = has_bucket_number x
+is_answer_to (content.Redeem r) x = has_bucket_number x
+
+-- bytes are the text of the answer that they say, which is one to this command
+-- rule: rows-ruled.answered
+abbrev pub is_kept_answer : Content → List ℕ → Result Answer WireFault → Bool
+is_kept_answer c bytes (Ok x) = pointwise nat_eq (answer_text x) bytes && is_answer_to c x
+is_kept_answer c bytes (Err e) = false
+
+-- bytes are the text of the content that they say, whose key is that of the columns, and the others
+-- that of an answer to it
+-- rule: rows-ruled.under, rows-ruled.answered
+abbrev pub are_texts_of : KeyKind → KeyName → KeyNumber → List ℕ → List ℕ
+    → Result Content WireFault → Bool
+are_texts_of kind name number bytes given (Ok c) =
+    pointwise nat_eq (content_text c) bytes && is_under (key_of c) kind name number
+    && is_kept_answer c given (answer_of given)
+are_texts_of kind name number bytes given (Err e) = false
+
+-- the texts of a command of the account, under the command's own key, and of an answer to it
+-- rule: rows-ruled.under, rows-ruled.answered
 abbrev pub are_kept_texts : KeyKind → KeyName → KeyNumber → List ℕ → List ℕ → List ℕ → Bool
-are_kept_texts kind name number account content answer =
+are_kept_texts kind name number account bytes given =
     is_account_number account
-    && is_kept_content kind name number content (content_of account content)
-    && is_answer_text answer
+    && are_texts_of kind name number bytes given (content_of account bytes)
 
 abbrev pub is_ruled_answer : Row → Bool
 is_ruled_answer row =

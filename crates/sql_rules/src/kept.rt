@@ -1,12 +1,14 @@
-//! Whether texts are those of a command, under its own key, and of an answer.
+//! Whether texts are those of a command, under its own key, and of an answer to it.
 
-ghost use Rattle.std.specs.Prelude.{◌≡◌, false, IfOk, MatchResult, None, Some, ⊤, if◌then◌else◌};
+ghost use Rattle.std.specs.Prelude.{◌≡◌, ◌&&◌, false, IfOk, MatchResult, None, Some, ⊤};
+ghost use Rattle.std.specs.Prelude.{if◌then◌else◌};
 ghost use Rattle.identifiers.specs.Texts.{is_account_number};
 ghost use Rattle.commands.specs.Keys.{key_of};
 ghost use Rattle.wire.specs.Contents.{content_of};
-ghost use Rattle.wire.specs.ReadingAnswers.{is_answer_text};
-ghost use Rattle.sql_rules.specs.Rules.{are_kept_texts, is_kept_content, is_under};
+ghost use Rattle.wire.specs.ReadingAnswers.{answer_of};
+ghost use Rattle.sql_rules.specs.Rules.{are_kept_texts, are_texts_of, is_kept_answer, is_under};
 
+use crate::answered::is_answer_to;
 use commands::{Content, KeyRef};
 use identifiers::AccountNumber;
 use json_fields::WireFault;
@@ -48,36 +50,58 @@ fn is_under(content: &Content, kind: u64, name: &[u8], number: u64) -> bool
     }
 }
 
-/// Whether a text is that of a command of this account, and these columns are its key.
+/// Whether a text is that of an answer to this command.
+#[tactic(auto, using(crate::proofs::UnderKey::read_answered, crate::proofs::UnderKey::none_answered))]
+fn is_answer(alloc: Global, command: &Content, text: &[u8]) -> Result<bool, AllocError>
+    ensures { IfOk result (λ b. b ≡ is_kept_answer command.now text.now (answer_of text.now)) }
+{
+    match read_answer(alloc, text) {
+        Ok(answer) => Ok(is_answer_to(command, &answer)),
+        Err(fault) => is_none(fault),
+    }
+}
+
+/// Whether these columns are the key of a command, and a text is that of an answer to it.
+fn is_kept(
+    alloc: Global,
+    command: &Content,
+    kind: u64,
+    name: &[u8],
+    number: u64,
+    answer: &[u8],
+) -> Result<bool, AllocError>
+    ensures { IfOk result (λ b. b ≡ (is_under (key_of command.now) kind name.now number
+        && is_kept_answer command.now answer.now (answer_of answer.now))) }
+{
+    if !is_under(command, kind, name, number) {
+        return Ok(false);
+    }
+    is_answer(alloc, command, answer)
+}
+
+/// Whether a text is that of a command of this account, these columns are its key, and the other
+/// text is that of an answer to it.
 #[tactic(auto, using(crate::proofs::UnderKey::read_kept, crate::proofs::UnderKey::read_none))]
-fn is_content(
+fn are_texts(
     alloc: Global,
     account: AccountNumber,
     kind: u64,
     name: &[u8],
     number: u64,
-    text: &[u8],
+    content: &[u8],
+    answer: &[u8],
 ) -> Result<bool, AllocError>
-    ensures { IfOk result
-        (λ b. b ≡ is_kept_content kind name.now number text.now (content_of account text.now)) }
+    ensures { IfOk result (λ b. b ≡ are_texts_of kind name.now number content.now answer.now
+        (content_of account content.now)) }
 {
-    match read_content(alloc, account, text) {
-        Ok(content) => Ok(is_under(&content, kind, name, number)),
+    match read_content(alloc, account, content) {
+        Ok(command) => is_kept(alloc, &command, kind, name, number, answer),
         Err(fault) => is_none(fault),
     }
 }
 
-fn is_answer(alloc: Global, text: &[u8]) -> Result<bool, AllocError>
-    ensures { IfOk result (λ b. b ≡ is_answer_text text.now) }
-{
-    match read_answer(alloc, text) {
-        Ok(_) => Ok(true),
-        Err(fault) => is_none(fault),
-    }
-}
-
-/// Whether they are those of a command of this account, under its own key, and of an answer.
-// rule: rows-ruled.under
+/// Whether they are those of a command of this account, under its own key, and of an answer to it.
+// rule: rows-ruled.under, rows-ruled.answered
 pub(crate) fn are_kept_texts(
     alloc: Global,
     kind: u64,
@@ -93,8 +117,5 @@ pub(crate) fn are_kept_texts(
     let Some(account) = account_of(alloc, account)? else {
         return Ok(false);
     };
-    if !is_content(alloc, account, kind, name, number, content)? {
-        return Ok(false);
-    }
-    is_answer(alloc, answer)
+    are_texts(alloc, account, kind, name, number, content, answer)
 }

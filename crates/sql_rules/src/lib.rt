@@ -1,6 +1,7 @@
 //! The rules of the rows of each table, and a walk over all tables that tests them.
 #![tactic(auto)]
 
+mod answered;
 mod columns;
 mod kept;
 mod laws;
@@ -10,6 +11,7 @@ mod rows;
 mod ruling;
 mod walking;
 
+pub use crate::answered::is_answer_to;
 pub use crate::columns::MOST_RATED;
 pub use crate::laws::{
     content_in_rules_is_of_ruled_rows, puts_keep_the_rules, ruled_rows_are_ruled_under_their_keys,
