@@ -6,10 +6,10 @@
 -- Stop the program first, and look at a copy of both files, FILE and FILE-wal: a sqlite3 that isn't
 -- read-only writes the log back into the file as it closes. docs/TABLES.md says what to do then.
 --
--- An opening reports a row that breaks a rule: as file fault what the schema says, as open fault 2
--- the version, as open fault 3 the others. What is below `not at an opening` is found here alone.
+-- An opening reports a row that breaks a rule: as open fault 2 the version, as open fault 3 the
+-- others. What is below `not at an opening` is found here alone.
 
--- ---- what the schema says (file fault): pages, rows that name rows, CHECKs
+-- ---- what the schema says: pages and indexes, rows that name rows, CHECKs
 PRAGMA integrity_check;
 SELECT 'foreign key: the row that is named is there' AS rule, "table", rowid, parent
   FROM pragma_foreign_key_check;

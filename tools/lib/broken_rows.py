@@ -14,7 +14,7 @@ import offices
 BEGIN = 1767607200
 DAY = 86400
 VOUCHERS = offices.TOP / "examples/vouchers.csv"
-OPENED, VERSION, RULES, FILE = None, "ocs: open fault 2", "ocs: open fault 3", "ocs: file fault"
+OPENED, VERSION, RULES = None, "ocs: open fault 2", "ocs: open fault 3"
 
 
 def line(at, account, session, kind, number, units, **more):
@@ -282,7 +282,7 @@ ROWS = [
         OPENED,
         "buckets: reserved is the sum of the holds",
     ),
-    ("UPDATE holds SET bucket = 9", FILE, "foreign key: the row that is named is there"),
+    ("UPDATE holds SET bucket = 9", RULES, "foreign key: the row that is named is there"),
     (
         "INSERT INTO holds VALUES ('49151', 'live', 10, 2, 1)",
         OPENED,
@@ -374,7 +374,7 @@ ROWS = [
     ("UPDATE sessions SET last_number = 0 WHERE session = 'ended'", OPENED, None),
     (
         "DELETE FROM sessions WHERE session = 'debit'",
-        FILE,
+        RULES,
         "foreign key: the row that is named is there",
     ),
     (
@@ -477,7 +477,7 @@ ROWS = [
     # vouchers
     (
         "UPDATE vouchers SET account = '777' WHERE code = '000000000002'",
-        FILE,
+        RULES,
         "foreign key: the row that is named is there",
     ),
     (
@@ -531,7 +531,7 @@ ROWS = [
     ),
     (
         "INSERT INTO covered VALUES ('49152', 9, 1)",
-        FILE,
+        RULES,
         "foreign key: the row that is named is there",
     ),
     # buckets and allowances
@@ -564,7 +564,7 @@ ROWS = [
     ),
     (
         "INSERT INTO allowance_buckets VALUES ('49152', 9)",
-        FILE,
+        RULES,
         "foreign key: the row that is named is there",
     ),
     ("DELETE FROM allowance_buckets", OPENED, None),
@@ -607,18 +607,18 @@ ROWS = [
     # what the schema says
     (
         of("buckets", 49152, "available = available + 1"),
-        FILE,
+        RULES,
         "CHECK: credited is the sum of the four columns",
     ),
-    ("UPDATE counters SET blocks = -1", FILE, "CHECK: no number is below 0"),
+    ("UPDATE counters SET blocks = -1", RULES, "CHECK: no number is below 0"),
     (
         "UPDATE charges SET uncollected = 5",
-        FILE,
+        RULES,
         "CHECK: rated is the sum of collected and uncollected",
     ),
     (
         "DELETE FROM accounts WHERE account = '49152'",
-        FILE,
+        RULES,
         "foreign key: the row that is named is there",
     ),
     ("INSERT INTO accounts VALUES ('049152', 0, 1767607200, 1, 1)", OPENED, None),

@@ -11,16 +11,22 @@ use Rattle.sqlite.specs.Opening.{is_open_error}
 use Rattle.sqlite.specs.Start.{FindsIn}
 use Rattle.sqlite.specs.State.{HasCleanDisk}
 use Rattle.wal_check.specs.Sound.{IsSound}
-use Rattle.sqlite.specs.declared.error.Error.{Error}
 use Rattle.sqlite.specs.declared.error.Error.TheVariants.{SqliteFailure}
 use Rattle.sqlite.specs.declared.error.ErrorCode.TheVariants.{CannotOpen}
+use Rattle.service.specs.declared.database_files.ConnectFault.{ConnectFault}
+use Rattle.service.specs.declared.database_files.ConnectFault.TheVariants.{Refused, Unruled}
+
+-- an error that an opening reports, or a row that doesn't obey its schema
+abbrev pub IsConnectFault : ConnectFault → Type 0
+IsConnectFault (Refused error) = IsTrue (is_open_error error)
+IsConnectFault Unruled = Unit {0}
 
 -- What the files held is found, and is what a stop of the machine can have left. A path that SQLite
 -- takes for a database in memory isn't opened.
 pub record ConnectsTo {D : Type 0} {g : disk.Ghosts D} (image : Image) (path : Bytes)
-    (result : Result (Held (FileStore D g)) Error) : Type 0 where
-  pub memory : path ≡ codes ":memory:" → result ≡ Err (SqliteFailure CannotOpen)
-  pub named : IfErr result (λ e. IsTrue (is_open_error e))
+    (result : Result (Held (FileStore D g)) ConnectFault) : Type 0 where
+  pub memory : path ≡ codes ":memory:" → result ≡ Err (Refused (SqliteFailure CannotOpen))
+  pub named : IfErr result IsConnectFault
   pub opened : IfOk result (λ c. HasCleanDisk (file_state c) → IsOpened c)
   pub found : IfOk result (λ c. HasCleanDisk (file_state c) → FindsIn image (file_state c))
   pub sound : IfOk result (λ c. HasCleanDisk (file_state c) → IsSound image)

@@ -10,3 +10,4 @@ pub mod CivilClock
 pub mod Clocks
 pub mod Connecting
 pub mod ServingTold
+pub mod Unruled

@@ -5,12 +5,16 @@ use Rattle.tariffs.specs.Faults.{book_fault_number}
 use Rattle.shelves.specs.Succession.{shelf_fault_number}
 use Rattle.sql_tables.specs.Faults.{open_fault_number}
 use Rattle.sql_tables.specs.declared.fault.OpenFault.TheVariants as opening
+use Rattle.sqlite.specs.declared.error.Error.TheVariants.{SqliteFailure}
+use Rattle.sqlite.specs.declared.error.ErrorCode.TheVariants.{OutOfMemory}
 use Rattle.sql_keeper.specs.declared.create_fault.CreateFault.{CreateFault}
 use Rattle.sql_keeper.specs.declared.create_fault.CreateFault.TheVariants as create
 use Rattle.sql_keeper.specs.declared.add_fault.AddFault.{AddFault}
 use Rattle.sql_keeper.specs.declared.add_fault.AddFault.TheVariants as add
 use Rattle.operations.specs.Told.{FaultWords, about_office, plain_words, numbered_words}
 use Rattle.operations.specs.declared.fault.OfficeFault.TheVariants.{Store}
+use Rattle.service.specs.declared.database_files.ConnectFault.{ConnectFault}
+use Rattle.service.specs.declared.database_files.ConnectFault.TheVariants.{Refused, Unruled}
 use Rattle.service.specs.declared.fault.DatabaseFault.{DatabaseFault}
 use Rattle.service.specs.declared.fault.DatabaseFault.TheVariants.{File, Clock, Book, Open}
 use Rattle.service.specs.declared.fault.DatabaseFault.TheVariants.{Shelf, Net, Memory}
@@ -26,6 +30,12 @@ about_database (Shelf fault) = numbered_words (codes "ocs: shelf fault") (shelf_
 about_database Net = plain_words (codes "ocs: net fault")
 about_database Memory = plain_words (codes "ocs: memory fault")
 about_database (Office fault) = about_office fault
+
+-- files that aren't opened are reported as a file, but for want of memory and for their rows
+abbrev pub connect_fault : ConnectFault → DatabaseFault
+connect_fault (Refused (SqliteFailure OutOfMemory)) = Memory
+connect_fault (Refused error) = File
+connect_fault Unruled = Open opening.Rules
 
 -- a database that isn't made is reported as one that isn't opened
 abbrev pub making_fault : CreateFault → DatabaseFault

@@ -7,20 +7,24 @@ ghost use Rattle.sqlite_std_file.specs.File.{file_is_usable, IsFresh};
 ghost use Rattle.sqlite.specs.Opening.{is_open_error};
 ghost use Rattle.wal_check.specs.Sound.{IsSound};
 ghost use Rattle.service.specs.Connecting.{ConnectsTo};
+ghost use Rattle.service.specs.Unruled.{IsRefusedBy, ListsOurs};
+ghost use Rattle.service.specs.declared.database_files.ConnectFault.TheVariants.{Unruled};
 
 use crate::file_header::is_other_file;
 use crate::first_page::first_page;
-use sqlite::{Connection, Error, ErrorCode};
+use crate::unruled::lists_ours;
+use sqlite::{Connection, Error, ErrorCode, Leftover};
 use sqlite_disk::{Disk, Files, Start};
 use sqlite_pager::Options;
 use sqlite_std_file::{FileFrom, OpenError};
 use sqlite_store::FileStore;
 use sqlite_wal::Error as LogError;
-use std::alloc::Global;
+use std::alloc::{AllocError, Global};
 use std::fs::{self, File, OpenOptions};
 use std::hash::{BuildHasher, RandomState};
 use std::io::{self, ErrorKind};
 use std::os::unix::fs::{FileExt, OpenOptionsExt};
+use thiserror::Error as Explained;
 use wal_check::is_sound;
 
 /// The file and the log of a database, which held what `S` says.
@@ -41,6 +45,27 @@ const OWNER_ALONE: u32 = 0o600;
 const NO_MEMORY: Error = Error::SqliteFailure(ErrorCode::OutOfMemory);
 
 const CANNOT_OPEN: Error = Error::SqliteFailure(ErrorCode::CannotOpen);
+
+/// Why files aren't opened as a database.
+#[derive(Clone, Copy, Debug, Drop, Explained)]
+pub enum ConnectFault {
+    /// The system or the engine refused them.
+    #[error("the files are not opened")]
+    Refused(Error),
+    /// A row of this system's tables, or an index of them, doesn't obey their schema.
+    #[error("a row does not obey its schema")]
+    Unruled,
+}
+
+impl From<Error> for ConnectFault {
+    ghost use Rattle.service.specs.declared.database_files.ConnectFault.TheVariants.{Refused};
+
+    ghost from_gives = { λ error e. e ≡ Refused error };
+
+    fn from(error: Error) -> ConnectFault {
+        ConnectFault::Refused(error)
+    }
+}
 
 /// The file at the path and its log, each made where it isn't there. A name that SQLite takes for
 /// something else than a file, `:memory:` or one that begins with `file:`, can't be opened, and
@@ -178,15 +203,16 @@ fn check_log<D: Disk>(alloc: Global, files: &mut Files<D>) -> Result<(), Error>
 /// write that was torn: `Wary` supposes nothing.
 ///
 /// # Errors
-/// `CannotOpen` where the path is `:memory:`, or the log is one that no stop can have left: then
-/// nothing is written. Else the file or its log can't be opened or made, another process has it, it
-/// isn't a database, or memory is refused.
+/// - `Refused`: `CannotOpen` where the path is `:memory:`, or the log is one that no stop can have
+///   left: then nothing is written. Else the file or its log can't be opened or made, another
+///   process has it, it isn't a database, or memory is refused.
+/// - `Unruled`, a row doesn't obey its schema.
 // rule: stop-log
 pub fn open_database<S: Start>(
     rt: &HostRuntime,
     path: &str,
     start: S,
-) -> Result<Connection<DatabaseFiles<S>>, Error>
+) -> Result<Connection<DatabaseFiles<S>>, ConnectFault>
     ensures { ConnectsTo (image_at S.Start) path.now result }
 {
     let mut files = files_at(rt, path, start)?;
@@ -195,8 +221,26 @@ pub fn open_database<S: Start>(
     match Connection::open_files(rt.alloc(), files, options) {
         Ok(connection) => Ok(connection),
         Err((error, left)) => {
+            let fault = refusal(rt.alloc(), error, &left);
             drop(left);
-            Err(error)
+            Err(fault)
         }
+    }
+}
+
+/// Why the engine didn't open files, of which it left this.
+// rule: rows-ruled.of-schema
+fn refusal<D: Disk>(alloc: Global, error: Error, left: &Leftover<D>) -> ConnectFault
+    requires named { IsTrue (is_open_error error) }
+    ensures refused { IsRefusedBy error result }
+    ensures unruled { result ≡ Unruled → ListsOurs left.now }
+{
+    if error != Error::SqliteFailure(ErrorCode::NotADatabase) {
+        return ConnectFault::Refused(error);
+    }
+    match lists_ours(alloc, left) {
+        Ok(true) => ConnectFault::Unruled,
+        Ok(false) => ConnectFault::Refused(error),
+        Err(AllocError) => ConnectFault::Refused(NO_MEMORY),
     }
 }

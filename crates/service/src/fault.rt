@@ -4,8 +4,9 @@ ghost use Rattle.std.specs.Prelude.{◌≡◌};
 ghost use Rattle.service.specs.Adding.{IsAddingFault};
 ghost use Rattle.service.specs.Opening.{IsUnopened};
 ghost use Rattle.service.specs.ServingTold.{IsTellFault};
-ghost use Rattle.service.specs.Told.{about_database, adding_fault, making_fault};
+ghost use Rattle.service.specs.Told.{about_database, adding_fault, connect_fault, making_fault};
 
+use crate::database_files::ConnectFault;
 use operations::OfficeFault;
 use shelves::ShelfFault;
 use sql_keeper::{AddFault, CreateFault};
@@ -101,12 +102,16 @@ pub(crate) fn file_fault(error: io::Error) -> DatabaseFault
 }
 
 /// The fault of a database that isn't opened.
-pub(crate) fn opening_fault(error: Error) -> DatabaseFault
-    ensures { IsUnopened result }
+pub(crate) fn opening_fault(fault: ConnectFault) -> DatabaseFault
+    ensures told { IsUnopened result }
+    ensures value { result ≡ connect_fault fault }
 {
-    match error {
-        Error::SqliteFailure(ErrorCode::OutOfMemory) => DatabaseFault::Memory,
-        _ => DatabaseFault::File,
+    match fault {
+        ConnectFault::Refused(Error::SqliteFailure(ErrorCode::OutOfMemory)) => {
+            DatabaseFault::Memory
+        }
+        ConnectFault::Refused(_) => DatabaseFault::File,
+        ConnectFault::Unruled => DatabaseFault::Open(OpenFault::Rules),
     }
 }
 

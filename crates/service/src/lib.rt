@@ -23,12 +23,13 @@ mod opening;
 mod serving;
 mod stating;
 mod telling;
+mod unruled;
 
 pub use crate::adding::{add_book, add_over, add_text};
 pub use crate::civil_clock::{clock_office, clock_over};
 pub use crate::clock::{command_moment, machine_moment};
 pub use crate::commanding::{command_office, command_over};
-pub use crate::database_files::{DatabaseFiles, open_database};
+pub use crate::database_files::{ConnectFault, DatabaseFiles, open_database};
 pub use crate::fault::DatabaseFault;
 pub use crate::files::open_file;
 pub use crate::importing::{ImportFault, import_file, import_office, import_over};
