@@ -1,7 +1,10 @@
 """What the scripts about many offices share: processes on the loopback address, and requests.
 
 The program is what tools/program prints, or the file that the variable OCS names."""
+from __future__ import annotations
+
 import contextlib
+import email.message
 import functools
 import http.client
 import importlib.machinery
@@ -15,6 +18,9 @@ import subprocess
 import sys
 import tempfile
 import time
+import types
+import typing
+from collections.abc import Callable, Iterator, Sequence
 
 TOP = pathlib.Path(__file__).resolve().parents[2]
 DEPLOY = TOP / "deploy"
@@ -32,10 +38,12 @@ def program() -> str:
     return str(TOP / told.stdout.strip())
 
 
-def tool(name):
+def tool(name: str) -> types.ModuleType:
     """Another tool as a module."""
     loader = importlib.machinery.SourceFileLoader(name, str(TOP / "tools/lib" / name))
-    made = importlib.util.module_from_spec(importlib.util.spec_from_loader(name, loader))
+    spec = importlib.util.spec_from_loader(name, loader)
+    assert spec is not None
+    made = importlib.util.module_from_spec(spec)
     loader.exec_module(made)
     return made
 
@@ -48,7 +56,7 @@ def need(*commands: str) -> None:
         sys.exit(2)
 
 
-def listens(port):
+def listens(port: int) -> bool:
     """Whether somebody listens on this port of 127.0.0.1; no connection is made."""
     wanted = f"0100007F:{port:04X}"
     lines = pathlib.Path("/proc/net/tcp").read_text().split("\n")[1:]
@@ -56,7 +64,7 @@ def listens(port):
     return any(row[1] == wanted and row[3] == "0A" for row in rows)
 
 
-def wait_until(holds, what, seconds=SECONDS):
+def wait_until(holds: Callable[[], object], what: str, seconds: float = SECONDS) -> None:
     """Waits until this holds."""
     end = time.monotonic() + seconds
     while not holds():
@@ -65,7 +73,7 @@ def wait_until(holds, what, seconds=SECONDS):
         time.sleep(0.02)
 
 
-def stop(process, by="terminate"):
+def stop(process: subprocess.Popen[typing.Any], by: str = "terminate") -> None:
     """Ends a process of ours and waits for its end."""
     if process.poll() is None:
         getattr(process, by)()
@@ -77,7 +85,9 @@ def stop(process, by="terminate"):
 
 
 @contextlib.contextmanager
-def started(words, port, **more):
+def started(
+    words: Sequence[str | os.PathLike[str]], port: int, **more: typing.Any
+) -> Iterator[subprocess.Popen[typing.Any]]:
     """A process with these words while its port is listened on."""
     process = subprocess.Popen(words, stdin=subprocess.DEVNULL, **more)
     try:
@@ -112,7 +122,14 @@ at = "{place}/office.sock"
 """
 
 
-def office_file(place, shards, first, port, more=0, moved=None):
+def office_file(
+    place: str | os.PathLike[str],
+    shards: int,
+    first: int,
+    port: int,
+    more: int = 0,
+    moved: str | os.PathLike[str] | None = None,
+) -> pathlib.Path:
     """The file of an office in a folder: operators come by a port, scripts by a socket."""
     told = {"place": place, "shards": shards, "first": first, "port": port, "more": more}
     told |= {"moved": moved or f"{place}/moved", "page": DEPLOY / "console/console.html"}
@@ -122,7 +139,13 @@ def office_file(place, shards, first, port, more=0, moved=None):
 
 
 @contextlib.contextmanager
-def balancer(shards, first, port, more=0, moved=None):
+def balancer(
+    shards: int,
+    first: int,
+    port: int,
+    more: int = 0,
+    moved: str | os.PathLike[str] | None = None,
+) -> Iterator[pathlib.Path]:
     """HAProxy before these shards, on a port for operators; gives the path of the scripts' socket
     while it is up."""
     with tempfile.TemporaryDirectory() as place:
@@ -135,7 +158,12 @@ def balancer(shards, first, port, more=0, moved=None):
             yield pathlib.Path(place) / "office.sock"
 
 
-def serve_words(database, port, connections=1_000_000, at=None):
+def serve_words(
+    database: str | os.PathLike[str],
+    port: int,
+    connections: int = 1_000_000,
+    at: int | None = None,
+) -> list[str]:
     """The words of the program that serve a database."""
     words = [program(), "serve", str(database), "--port", str(port)]
     words += ["--connections", str(connections)]
@@ -154,11 +182,11 @@ def ran(*words: object, place: pathlib.Path | str | None = None) -> str:
 class SocketConnection(http.client.HTTPConnection):
     """HTTP over a socket of the file system."""
 
-    def __init__(self, path, seconds):
+    def __init__(self, path: pathlib.Path, seconds: float) -> None:
         super().__init__("office", timeout=seconds)
         self.path = path
 
-    def connect(self):
+    def connect(self) -> None:
         self.sock = socket.socket(socket.AF_UNIX)
         self.sock.settimeout(self.timeout)
         self.sock.connect(str(self.path))
@@ -168,13 +196,15 @@ class Client:
     """A keep-alive connection to a port of 127.0.0.1 or to a socket's path, made anew when it
     ends."""
 
-    def __init__(self, place, seconds=60):
+    def __init__(self, place: int | pathlib.Path, seconds: float = 60) -> None:
         if isinstance(place, pathlib.Path):
-            self.opened = SocketConnection(place, seconds)
+            self.opened: http.client.HTTPConnection = SocketConnection(place, seconds)
         else:
             self.opened = http.client.HTTPConnection("127.0.0.1", place, timeout=seconds)
 
-    def ask(self, method, path, body=None, **fields):
+    def ask(
+        self, method: str, path: str, body: object = None, **fields: str
+    ) -> tuple[int, email.message.Message, bytes]:
         """The status, the fields and the body of the answer."""
         if isinstance(body, (dict, list)):
             body = json.dumps(body, separators=(",", ":"))
@@ -184,14 +214,14 @@ class Client:
         if method == "POST":
             named.setdefault("Content-Type", "application/json")
         try:
-            self.opened.request(method, path, body, named)
+            self.opened.request(method, path, typing.cast(str | bytes | None, body), named)
             answer = self.opened.getresponse()
             return answer.status, answer.headers, answer.read()
         except BaseException:
             self.opened.close()
             raise
 
-    def close(self):
+    def close(self) -> None:
         """Ends the connection."""
         self.opened.close()
 
@@ -199,10 +229,10 @@ class Client:
 class Counts:
     """Checks that passed and failed; each that fails is reported."""
 
-    def __init__(self, name):
+    def __init__(self, name: str) -> None:
         self.name, self.passed, self.failed, self.skipped = name, 0, 0, 0
 
-    def check(self, what, found, wanted=True):
+    def check(self, what: object, found: object, wanted: object = True) -> bool:
         """Counts whether what was found is what was wanted."""
         if found == wanted:
             self.passed += 1
@@ -212,13 +242,13 @@ class Counts:
         print(f"{self.name}: {what}: {said[:600]}", file=sys.stderr)
         return False
 
-    def skip(self, what):
+    def skip(self, what: str) -> None:
         """Prints what isn't tried since a tool is missing; it counts neither as passed nor as
         failed."""
         self.skipped += 1
         print(f"{self.name}: skipped: {what}")
 
-    def end(self):
+    def end(self) -> typing.NoReturn:
         """Prints the counts as the last line and ends with status 1 if one failed."""
         skipped = f", {self.skipped} skipped" if self.skipped else ""
         print(f"{self.name}: {self.passed} passed, {self.failed} failed{skipped}")
