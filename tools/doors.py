@@ -27,6 +27,7 @@ DOORS = {
         ("rows", "rows", "the selections of docs/rows.sql", "sqlite3"),
         ("examples", "examples", "examples/ and the session of README", "curl"),
         ("clocks", "clocks", "what clocks of 300 zones show, beside tables of zic", "gcc"),
+        ("instructions", "instructions", "instructions of a command, beside their limits", "valgrind"),
         ("days", "reckoned", "days of chance beside a model of the rules", ""),
         ("day", "day", "a day of 1,000 accounts with kills, beside the same model", ""),
         ("lines", "deploy", "each line of deploy/README.md by systemd, as root", "root, HAProxy, systemd"),

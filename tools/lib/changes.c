@@ -221,7 +221,17 @@ ssize_t pwrite64(int file, const void *from, size_t count, off64_t at) {
 
 ssize_t pwrite(int file, const void *from, size_t count, off_t at) { return pwrite64(file, from, count, at); }
 
-int fdatasync(int file) { return is("no-sync") ? 0 : syscall(SYS_fdatasync, file); }
+/* Some millions of instructions, of which nobody sees anything. */
+static void dawdle(void) {
+    for (volatile long at = 0; at < 1000000; at++)
+        continue;
+}
+
+int fdatasync(int file) {
+    if (is("more-instructions"))
+        dawdle();
+    return is("no-sync") ? 0 : syscall(SYS_fdatasync, file);
+}
 int fsync(int file) { return is("no-sync") ? 0 : syscall(SYS_fsync, file); }
 
 int clock_gettime(clockid_t clock, struct timespec *now) {
