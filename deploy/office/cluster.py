@@ -47,6 +47,8 @@ class Cluster:
     patience: int = schema.whole(120, 20, 600)
     # Seconds from one look at what it started to the next: a process that died is seen by then.
     look: int = schema.whole(10, 2, 300)
+    # Percent of a shard's volume that its snapshot may take while a copy is read from it.
+    snapshot: int = schema.whole(10, 1, 100)
 
 
 @dataclasses.dataclass(frozen=True, kw_only=True)

@@ -23,6 +23,7 @@ from collections.abc import Iterable, Iterator
 
 from office import program, units
 from office.faults import Refused
+from office.machines import second
 from office.progress import shown
 from office.scratch import scratch
 from office.settings import Settings
@@ -34,14 +35,21 @@ TRIES, SECONDS = 4, 10
 HEADER = 32
 
 
-def copy(settings: Settings, shard: Shard, file: pathlib.Path) -> None:
-    """Copies a shard into a file, over one that was there; refused, that one stays."""
-    if not shard.database.is_file():
+def copy(
+    settings: Settings, shard: Shard, file: pathlib.Path, *, is_only_read: bool = False
+) -> None:
+    """Copies a shard into a file, over one that was there; refused, that one stays. Where the copy
+    is only read, it may be of a shard that the other of two machines serves."""
+    is_second = is_only_read and second.has(settings, shard)
+    if not is_second and not shard.database.is_file():
         raise Refused(f"{shard.database} isn't there")
     if not file.parent.is_dir():
         raise Refused(f"there is no folder {file.parent}")
     with scratch(file.parent, f".{file.name}-") as place:
-        take(shard, place / "copy.db")
+        if is_second:
+            second.take(settings, shard, place / "copy.db")
+        else:
+            take(shard, place / "copy.db")
         whole = place / "whole.db"
         make_whole(place / "copy.db", whole)
         program.give(settings, whole)
@@ -50,14 +58,16 @@ def copy(settings: Settings, shard: Shard, file: pathlib.Path) -> None:
 
 
 @contextlib.contextmanager
-def made(settings: Settings, shards: Iterable[Shard]) -> Iterator[list[pathlib.Path]]:
+def made(
+    settings: Settings, shards: Iterable[Shard], *, is_only_read: bool = False
+) -> Iterator[list[pathlib.Path]]:
     """Copies of shards beside their databases; they go in the end."""
     with scratch(pathlib.Path(settings.office.databases), ".copies-") as folder:
         program.give(settings, folder)
         paths = []
         for shard in shown("copy", shards):
             paths.append(folder / f"{shard}.db")
-            copy(settings, shard, paths[-1])
+            copy(settings, shard, paths[-1], is_only_read=is_only_read)
         yield paths
 
 

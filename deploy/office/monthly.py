@@ -64,7 +64,7 @@ def of_shard(
         raise Refused(f"{part}: {fault.strerror}") from fault
     count, months = 0, Months()
     with (
-        copies.made(settings, [shard]) as copied,
+        copies.made(settings, [shard], is_only_read=True) as copied,
         opened(copied[0]) as database,
         past.opened_parts(past.files(settings)) as parts,
     ):

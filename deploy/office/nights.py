@@ -33,7 +33,7 @@ def make(settings: Settings) -> pathlib.Path:
     part = place / f".{made.name}.part"
     part.mkdir(mode=0o700, parents=True)
     for shard in shown("copy", shards.of(settings)):
-        copies.copy(settings, shard, part / f"{shard}.db")
+        copies.copy(settings, shard, part / f"{shard}.db", is_only_read=True)
     write_sums(part)
     os.replace(part, made)
     return made

@@ -66,7 +66,8 @@ def run(settings: Settings, arguments: argparse.Namespace) -> int:
 def databases(settings: Settings, files: list[pathlib.Path]) -> Iterator[Named]:
     """The databases by their shards: those of the words, or copies of all."""
     with contextlib.ExitStack() as kept:
-        paths = files or kept.enter_context(copies.made(settings, shards.of(settings)))
+        each = shards.of(settings)
+        paths = files or kept.enter_context(copies.made(settings, each, is_only_read=True))
         read = {path.stem: kept.enter_context(opened(path)) for path in paths}
         if len(read) != len(paths):
             raise Refused("two files have the name of one shard")

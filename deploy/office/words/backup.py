@@ -6,7 +6,8 @@ The copy has every command that was answered before. The shard goes on meanwhile
 log are copied at a moment between two checkpoints. Only where four times a checkpoint ended before
 the disk had copied the file does its process stand still for the copy; its requests wait in HAProxy
 then, none is lost, and a line on standard error says for how long. A shard that isn't served is
-copied as it is. A file that was there is replaced by a whole copy, or stays."""
+copied as it is. With two machines, one that the other machine serves is copied from a snapshot of
+this machine's volume. A file that was there is replaced by a whole copy, or stays."""
 from __future__ import annotations
 
 import argparse
@@ -29,6 +30,6 @@ def run(settings: Settings, arguments: argparse.Namespace) -> int:
     if arguments.dry_run:
         print(f"{shard.database} would be copied to {arguments.copy}")
         return 0
-    copies.copy(settings, shard, arguments.copy)
+    copies.copy(settings, shard, arguments.copy, is_only_read=True)
     print(arguments.copy)
     return 0

@@ -45,12 +45,15 @@ def run(settings: Settings, arguments: argparse.Namespace) -> int:
     with past.opened_parts(past.files(settings)) as parts:
         own, months = past.of_account(parts, account), Months()
         if months.is_past(own, account, month):
-            with copies.made(settings, [found.shard]) as made, opened(made[0]) as database:
+            with (
+                copies.made(settings, [found.shard], is_only_read=True) as made,
+                opened(made[0]) as database,
+            ):
                 moment = max(int(time.time()), database.last_moment)
                 text = months.export if arguments.csv else months.statement
                 sys.stdout.write(text(own, account, month, database, moment))
             return 0
-    with copies.made(settings, [found.shard]) as made:
+    with copies.made(settings, [found.shard], is_only_read=True) as made:
         return written(settings, arguments, made[0])
 
 

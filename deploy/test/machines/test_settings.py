@@ -51,6 +51,7 @@ FAULTS = [
     ('shards-after = "10.51.0.100/24"', "", "cluster: shards-after is missing"),
     ("[cluster]", '[cluster]\nfiles = "btrfs"', "cluster: files: 'btrfs' isn't"),
     ("[cluster]", "[cluster]\nlook = 1", "cluster: look: 1 isn't from 2 to 300"),
+    ("[cluster]", "[cluster]\nsnapshot = 0", "cluster: snapshot: 0 isn't from 1 to 100"),
     ("[cluster]", "[cluster]\ntoken = 10", "cluster: token: 10 isn't from 1000 to 60000"),
     (
         "[office]",
