@@ -1,25 +1,19 @@
 -- What is left of the database that files held where a book was added to it, out of what the call
 -- over an opened keeper leaves.
-use Rattle.std.proofs.Common.{◌≡◌, ℕ, suc, List, Result, Ok, Err, ap, subst, sym, ◌∙◌}
-use Rattle.std.specs.Prelude.{IfErr, IfOk}
+use Rattle.std.proofs.Common.{◌≡◌, ℕ, List, Result, Ok, Err, subst}
 use Rattle.sqlite_disk.specs.declared.Disk as disk
 use Rattle.sqlite_wal.specs.Recovery.{Image}
 use Rattle.sqlite_store.specs.declared.store.FileStore.{FileStore}
 use Rattle.sqlite_trees.specs.Tree.{Trees}
-use Rattle.sqlite.specs.Files.{HoldsDatabase, file_state, over_files}
-use Rattle.shelves.specs.Shelves.{Shelf, count}
-use Rattle.sql_rows.specs.Content.{tables_content}
-use Rattle.sql_keeper.specs.AddsBook.{AddsBook, BecomesDated, IsAdded}
-use Rattle.sql_keeper.specs.Content.{last_in}
+use Rattle.sqlite.specs.Files.{file_state, over_files}
+use Rattle.shelves.specs.Shelves.{Shelf}
+use Rattle.sql_keeper.specs.AddsBook.{AddsBook, IsAddedBehind}
 use Rattle.sql_keeper.specs.Inside.{IsClean, KeeperState}
-use Rattle.sql_keeper.specs.Left.{IsLeft}
-use Rattle.sql_keeper.specs.Shelves.{IsShelfOf}
 use Rattle.sql_keeper.specs.Stops.{trees_in}
 use Rattle.sql_keeper.specs.declared.add_fault.AddFault.{AddFault}
 use Rattle.service.specs.Adding.{IsOfAdding, of_adding}
-use Rattle.service.specs.Over.{EndsWith, IsAddedBehind, IsAddedIn, IsOpenedIn}
+use Rattle.service.specs.Over.{EndsWith, IsAddedIn, IsOpenedIn}
 use Rattle.service.specs.declared.fault.DatabaseFault.{DatabaseFault}
-use Rattle.service.specs.Told.{adding_fault}
 use Rattle.service.proofs.OverLemmas.{same_office}
 
 abbrev IsDone : Result (Unit {0}) DatabaseFault → Type 0
@@ -42,9 +36,9 @@ ends_with {D} {g} old new before after text bytes from same told =
     told.was in
     subst (λ (x : List ℕ). EndsWith x from new.shelf) same (record {
       before = old.shelf;
-      book = adds.own.0;
-      read = adds.own.1;
-      is = adds.own.2;
+      book = adds.own.book;
+      read = adds.own.read;
+      is = adds.own.is;
     })
 
 -- and so do the shelf and the tables of the database that the files held
@@ -60,9 +54,7 @@ added_in image old new s after text bytes from same opened told clean db first b
     let one : s ≡ before =
     (same_office image old s opened early.disk db first before held left is).0 in
     let rows : trees_in over_files old ≡ db = opened.holds early.disk db held in
-    let behind : IsAddedBehind text from s after (trees_in over_files old)
-    (trees_in over_files new) = record { added = adds.added clean; becomes = adds.done clean } in
     subst (λ (x : List ℕ). IsAddedBehind x from before after db (trees_in over_files new)) same
     (subst (λ (t : Trees). IsAddedBehind text from before after t (trees_in over_files new)) rows
     (subst (λ (x : Shelf). IsAddedBehind text from x after (trees_in over_files old)
-    (trees_in over_files new)) one behind))
+    (trees_in over_files new)) one (adds.done clean)))

@@ -1,6 +1,6 @@
 -- What words make of the database that files held before, whatever they held.
 -- Source: profile.
-use Rattle.std.specs.Prelude.{◌≡◌, ◌<◌, ℕ, suc, Option, None, Some, Result, Ok, Err}
+use Rattle.std.specs.Prelude.{◌≡◌, ◌<◌, ℕ, Option, None, Some, Result, Ok, Err}
 use Rattle.std.specs.Prelude.{IfErr, IfOk, IfSome, OnErr, OnOk}
 use Rattle.std.specs.Io.KnownBytes.{Appends}
 use Rattle.units.specs.Words.{Moment, no_end}
@@ -14,15 +14,15 @@ use Rattle.sqlite.specs.Effect.{IsDatabase}
 use Rattle.sqlite.specs.Files.{HoldsDatabase, file_state, over_files}
 use Rattle.sqlite.specs.State.{HasCleanDisk}
 use Rattle.tariffs.specs.Books.{Book}
-use Rattle.shelves.specs.Shelves.{Shelf, count, with_book}
+use Rattle.shelves.specs.Shelves.{Shelf, with_book}
 use Rattle.keepers.specs.Tables.{Tables}
 use Rattle.sql_tables.specs.Schema.{latest}
 use Rattle.sql_tables.specs.Texts.{stage}
 use Rattle.sql_tables.specs.Opens.{IsVersion}
 use Rattle.sql_rows.specs.Content.{tables_content}
-use Rattle.sql_keeper.specs.AddsBook.{BecomesDated, IsAdded}
+use Rattle.sql_keeper.specs.AddsBook.{IsAddedBehind}
 use Rattle.sql_keeper.specs.Books.{IsBookOf}
-use Rattle.sql_keeper.specs.Content.{last_in, shelf_names, tables_of}
+use Rattle.sql_keeper.specs.Content.{shelf_names, tables_of}
 use Rattle.sql_keeper.specs.Creates.{IsNewBook}
 use Rattle.sql_keeper.specs.Inside.{KeeperState, IsClean, tables_in}
 use Rattle.sql_keeper.specs.Migrates.{BecomesLatest}
@@ -99,14 +99,7 @@ pub record EndsWith (text : BookText) (from : Moment) (shelf : Shelf) : Type 0 w
 abbrev pub EndsWithSome : Moment → Shelf → Type 0
 EndsWithSome from shelf = (text : BookText) × EndsWith text from shelf
 
--- the book of a text was added behind those of a shelf, which had no fault of it, and to its tables
--- rule: database-words
-pub record IsAddedBehind (text : BookText) (from : Moment) (before after : Shelf)
-    (old new : Trees) : Type 0 where
-  pub added : IsAdded text from (last_in (tables_content old).meta) before after
-  pub becomes : BecomesDated (suc (count before)) from text old new
-
--- so it was to the shelf of the database that the files held, and to its tables
+-- the book of a text was added to the shelf of the database that the files held, and to its tables
 -- rule: database-words
 abbrev pub IsAddedIn : {D : Type 0} → {g : disk.Ghosts D} → Image → BookText → Moment →
     KeeperState (FileStore D g) → Shelf → Type 0

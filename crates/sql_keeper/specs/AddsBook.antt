@@ -1,7 +1,7 @@
 -- A book that is added behind those of a shelf, committed whole or not at all.
 -- Source: profile.
 use Rattle.std.specs.Prelude.{◌≡◌, ◌≤◌, ◌<◌, ℕ, suc, ◌++◌, List, [], ◌∷◌, Some, None, length}
-use Rattle.std.specs.Prelude.{Result, ◌⊎◌, ◌+◌, Ok, Err, IfErr, IsErrOf, IsTrue, OnErr, OnOk, min}
+use Rattle.std.specs.Prelude.{Result, ◌⊎◌, Ok, Err, IfErr, IsTrue, OnErr, OnOk}
 use Rattle.units.specs.Words.{Moment, GroupId, BookNumber, no_end, latest_moment}
 use Rattle.identifiers.specs.Words.{SessionName, AccountName}
 use Rattle.shelves.specs.Words.{BookText}
@@ -15,9 +15,8 @@ use Rattle.shelves.specs.Succession.{shelf_fault}
 use Rattle.shelves.specs.declared.fault.ShelfFault.{ShelfFault}
 use Rattle.shelves.specs.declared.fault.ShelfFault.TheVariants.{Memory}
 use Rattle.keepers.specs.declared.fault.StoreFault.{StoreFault}
-use Rattle.keepers.specs.Faults.{max_failures}
+use Rattle.keepers.specs.Faults.{HasCause}
 use Rattle.keepers.specs.declared.fault.StoreFault.TheVariants.{Memory as NoMemory}
-use Rattle.keepers.specs.declared.fault.StoreFault.TheVariants.{Store as Failed}
 use Rattle.sql_tables.specs.Statements.{AreStored}
 use Rattle.sql_rows.specs.Content.{TablesContent, tables_content, with_book_row}
 use Rattle.sql_rows.specs.Plain.{ArePlain}
@@ -116,17 +115,29 @@ pub record IsAdded (text : BookText) (from last : Moment) (old new : Shelf) : Ty
   pub free : shelf_fault old from book last ≡ None
   pub shelf : new ≡ with_book old from book
 
+-- the book of a text was added behind those of a shelf, which had no fault of it, and to its tables
+-- rule: book-added, database-words
+pub record IsAddedBehind (text : BookText) (from : Moment) (before after : Shelf)
+    (old new : Trees) : Type 0 where
+  pub added : IsAdded text from (last_in (tables_content old).meta) before after
+  pub becomes : BecomesDated (suc (count before)) from text old new
+
+-- the book is behind those of the keeper's own shelf, which had as many as the other
+pub record IsBehindOwn (text : BookText) (from : Moment) (before own own' : Shelf) : Type 0 where
+  pub counts : count own ≡ count before
+  pub book : Book
+  pub read : IsBookOf text book
+  pub is : own' ≡ with_book own from book
+
 -- the book is behind those of the shelf, which had no fault of it
 pub record IsBehind (from : Moment) (b : Book) (last : Moment) (old new : Shelf) : Type 0 where
   pub free : shelf_fault old from b last ≡ None
   pub shelf : new ≡ with_book old from b
   pub is : IsShelf new
 
--- the book is behind those of two shelves, which had as many; the first had no fault of it, and
--- it begins before the end of all moments
-pub record IsOnBoth (from : Moment) (b : Book) (last : Moment) (before after own new : Shelf)
-    : Type 0 where
-  pub free : shelf_fault before from b last ≡ None
+-- the book is behind those of two shelves, which had as many, and it begins before the end of all
+-- moments
+pub record IsOnBoth (from : Moment) (b : Book) (before after own new : Shelf) : Type 0 where
   pub shelf : after ≡ with_book before from b
   pub own_is : new ≡ with_book own from b
   pub is : IsShelf new
@@ -184,39 +195,36 @@ pub record AddsToAll {A E : Type 0} (from : Moment) (text : BookText) (b : Book)
   pub commits : CommitsWhole (BecomesDated (suc (count before)) from text) old new
       (was_added result)
   pub leaves : LeavesDated from text b before own old new
-  pub own_shelf : OnOk (was_added result) (IsShelf own')
   pub free : HasCleanDisk new →
       OnOk (was_added result) (shelf_fault before from b (last_at old) ≡ None)
-  pub shelf : OnOk (was_added result) (after ≡ with_book before from b)
-  pub own_is : OnOk (was_added result) (own' ≡ with_book own from b)
-  pub counts : OnOk (was_added result) (count own ≡ count before)
-  pub soon : OnOk (was_added result) (from < no_end)
+  pub both : OnOk (was_added result) (IsOnBoth from b before after own own')
   pub kept : OnErr (was_added result) ((after ≡ before) × (own' ≡ own))
   pub told : HasCleanDisk new → IfRefused result
       (λ fault. ¬ (fault ≡ Memory) → shelf_fault before from b (last_at old) ≡ Some fault)
+
+-- no book was added: the fault says why, and the tables are as before
+pub record IsNotAdded {S : Type 0} (g : Ghosts S) (text : BookText) (from : Moment) (before : Shelf)
+    (old new : KeeperState S) (fault : AddFault) : Type 0 where
+  pub told : IsAddFault text from before (tables_in g old).last fault
+  pub tables : tables_in g new ≡ tables_in g old
+
+-- of the faults that of the store alone: one of the text or of the shelf counts for nothing
+abbrev pub of_store : {A : Type 0} → Result A AddFault → Result A StoreFault
+of_store (Ok x) = Ok x
+of_store (Err (OfBook fault)) = Err NoMemory
+of_store (Err (OfShelf fault)) = Err NoMemory
+of_store (Err (OfStore fault)) = Err fault
 
 -- a book is added to the shelf, to what the keeper knows of it and to the tables, or to none of
 -- them; a stop leaves the rows before it or with the book
 -- rule: book-added: a book is added to the shelf and the tables, or to neither
 pub record AddsBook {S A : Type 0} (g : Ghosts S) (text : BookText) (from : Moment)
     (old new : KeeperState S) (before after : Shelf) (result : Result A AddFault) : Type 0 where
-  pub added : clean_in g new →
-      OnOk result (IsAdded text from (tables_in g old).last before after)
-  pub own : OnOk result ((b : Book) × IsBookOf text b
-      × (new.shelf ≡ with_book old.shelf from b))
-  -- the keeper had as many books
-  pub numbered : OnOk result (count old.shelf ≡ count before)
-  pub done : clean_in g new → OnOk result
-      (BecomesDated (suc (count before)) from text (trees_in g old) (trees_in g new))
-  pub shelf : OnErr result (after ≡ before)
-  pub kept : OnErr result (new.shelf ≡ old.shelf)
-  pub tables : clean_in g new → OnErr result (tables_in g new ≡ tables_in g old)
-  pub told : clean_in g new →
-      IfErr result (IsAddFault text from before (tables_in g old).last)
+  pub done : clean_in g new →
+      OnOk result (IsAddedBehind text from before after (trees_in g old) (trees_in g new))
+  pub own : OnOk result (IsBehindOwn text from before old.shelf new.shelf)
+  pub told : clean_in g new → IfErr result (IsNotAdded g text from before old new)
+  pub kept : OnErr result ((after ≡ before) × (new.shelf ≡ old.shelf))
   pub cleanness : clean_in g new → clean_in g old
-  pub counts : failed_in old ≤ failed_in new
-  -- a fault of the store is counted
-  pub cause : IsErrOf result (OfStore Failed) →
-      min (failed_in old + 1) max_failures ≤ failed_in new
-  pub whole : IsCommitWhole g old new (BecomesDated (suc (count before)) from text (trees_in g old))
-  pub follows : IsCommitWhole g old new (BecomesBehind old.shelf before from text (trees_in g old))
+  pub cause : HasCause (failed_in old) (failed_in new) (of_store result)
+  pub left : IsCommitWhole g old new (BecomesBehind old.shelf before from text (trees_in g old))

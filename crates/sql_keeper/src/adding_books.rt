@@ -1,8 +1,8 @@
 //! A book that is added behind those of the shelf, in one transaction: all of it or nothing, also
 //! over a stop.
 
-ghost use Rattle.std.specs.Prelude.{◌≡◌, ◌≤◌, ◌<◌, ℕ, length, false, Some, IfErr, IfOk, IsTrue};
-ghost use Rattle.std.specs.Prelude.{OnErr, OnOk, ◌↔◌};
+ghost use Rattle.std.specs.Prelude.{◌≡◌, ◌≤◌, ◌<◌, ℕ, length, false, None, Some, IfErr, IfOk};
+ghost use Rattle.std.specs.Prelude.{IsTrue, OnErr, OnOk, ◌↔◌};
 ghost use Rattle.units.specs.Words.{no_end};
 ghost use Rattle.tariffs.specs.Books.{Book};
 ghost use Rattle.shelves.specs.Shelves.{Shelf, count, with_book};
@@ -139,8 +139,10 @@ fn shelve(
     last: Moment,
 ) -> Result<bool, ShelfFault>
     requires same { books.given ≡ books.own }
-    ensures added { IfOk result (λ is. IsTrue is → IsOnBoth from books.own last
-        shelf.old shelf.new own.old own.new) }
+    ensures added { IfOk result (λ is. IsTrue is →
+        IsOnBoth from books.own shelf.old shelf.new own.old own.new) }
+    ensures free { IfOk result (λ is. IsTrue is →
+        shelf_fault shelf.old from books.own last ≡ None) }
     ensures not_added { IfOk result (λ is. is ≡ false →
         (shelf.new ≡ shelf.old) × (own.new ≡ own.old)) }
     ensures kept { OnErr result ((shelf.new ≡ shelf.old) × (own.new ≡ own.old)) }

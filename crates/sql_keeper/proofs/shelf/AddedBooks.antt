@@ -2,7 +2,7 @@
 use Rattle.std.proofs.Common.{◌≡◌, ◌≤◌, ◌<◌, ◌+◌, ◌∙◌, ℕ, suc, List, [], ◌∷◌, Option, Some, None}
 use Rattle.std.proofs.Common.{refl, sym, ap, subst, arith, length, length-append, IsTrue, false}
 use Rattle.std.proofs.Common.{◌⊎◌, inl, inr}
-use Rattle.std.specs.Prelude.{Result, Ok, Err, IfErr, IsErrOf, IfSome, OnErr, OnOk, min}
+use Rattle.std.specs.Prelude.{Result, Ok, Err, IfErr, IfSome, OnErr, OnOk}
 use Rattle.sqlite_trees.specs.Tree.{Trees}
 use Rattle.sqlite_trees.specs.declared.store.Store.{Ghosts}
 use Rattle.sqlite.specs.Held.{state}
@@ -19,19 +19,15 @@ use Rattle.keepers.specs.declared.fault.StoreFault.{StoreFault}
 use Rattle.keepers.specs.declared.fault.StoreFault.TheVariants.{Memory as NoMemory}
 use Rattle.keepers.specs.declared.fault.StoreFault.TheVariants.{Store as Failed}
 use Rattle.sql_tables.specs.Statements.{OnlyReads}
-use Rattle.sql_keeper.specs.AddsBook.{AddsBook, AddsToAll, BecomesDated, IsAddFault}
-use Rattle.sql_keeper.specs.AddsBook.{IsAdded, IsBehind, IsOnBoth}
+use Rattle.sql_keeper.specs.AddsBook.{AddsBook, AddsToAll, BecomesDated, IsAddedBehind}
+use Rattle.sql_keeper.specs.AddsBook.{IsBehind, IsBehindOwn, IsNotAdded, IsOnBoth, of_store}
 use Rattle.sql_keeper.specs.AddsBook.{AreTakenBack, LeavesDated, add_told, last_at, was_added}
 use Rattle.sql_keeper.specs.Asks.{IsHanded}
 use Rattle.sql_keeper.specs.Books.{IsBookOf}
 use Rattle.sql_keeper.specs.Commits.{CommitsWhole}
-use Rattle.sql_keeper.specs.Inside.{IsClean, IsKeeper, KeeperState, failed_in, tables_in}
+use Rattle.sql_keeper.specs.Inside.{IsClean, IsKeeper, KeeperState, failed_in}
 use Rattle.sql_keeper.specs.Left.{IsHeld, IsLeftRuled}
 use Rattle.sql_keeper.specs.Stops.{trees_in}
-use Rattle.sql_keeper.specs.declared.add_fault.AddFault.{AddFault}
-use Rattle.sql_keeper.specs.declared.add_fault.AddFault.TheVariants.{Book as OfBook}
-use Rattle.sql_keeper.specs.declared.add_fault.AddFault.TheVariants.{Shelf as OfShelf}
-use Rattle.sql_keeper.specs.declared.add_fault.AddFault.TheVariants.{Store as OfStore}
 use Rattle.sql_keeper.proofs.openings.Held.{held_dated}
 use Rattle.sql_keeper.proofs.reads.Asked.{cause_at_most, held_as, open_of}
 use Rattle.sql_keeper.proofs.commits.Committed.{becomes_keeper, same_tables, stays_in, was_clean}
@@ -85,12 +81,8 @@ module _ (from : ℕ) (text : List ℕ) (b : Book) (old mid : State) (before own
     commits = refused (BecomesDated (suc (count before)) from text) old mid NoMemory only
         reads_stop;
     leaves = leaves_none;
-    own_shelf = tt;
     free = λ clean. tt;
-    shelf = tt;
-    own_is = tt;
-    counts = tt;
-    soon = tt;
+    both = tt;
     kept = (shelf, own_is);
     told = λ clean. tt;
   }
@@ -105,19 +97,16 @@ module _ (from : ℕ) (text : List ℕ) (b : Book) (old mid : State) (before own
     commits = refused (BecomesDated (suc (count before)) from text) old mid NoMemory only
         reads_stop;
     leaves = leaves_none;
-    own_shelf = tt;
     free = λ clean. tt;
-    shelf = tt;
-    own_is = tt;
-    counts = tt;
-    soon = tt;
+    both = tt;
     kept = kept;
     told = λ clean other. ap (λ t. shelf_fault before from b t) (sym (is clean)) ∙ told other;
   }
 
   module _ (new : State) (on : HasCleanDisk mid → IsTrue mid.is_open) (last : ℕ)
       (is : HasCleanDisk mid → last ≡ last_at old) (after own' : Shelf)
-      (both : IsOnBoth from b last before after own own') where
+      (free : shelf_fault before from b last ≡ None)
+      (both : IsOnBoth from b before after own own') where
     committed_all : {A E : Type 0} (r : Result A E)
         → CommitsWhole (BecomesDated (count after) from text) mid new r
         → CommitsWhole (BecomesDated (suc (count before)) from text) old new r
@@ -154,14 +143,16 @@ module _ (from : ℕ) (text : List ℕ) (b : Book) (old mid : State) (before own
           commits = handed_on (BecomesDated (suc (count before)) from text) old new (Ok u) (Ok u)
               refl whole;
           leaves = leaves_all (Ok u) commits;
-          own_shelf = subst IsShelf (sym own_is) both.is;
           free = λ clean.
               ap (λ t. shelf_fault before from b t)
-              (sym (is (omega (arith, commits.survives.clean, clean)))) ∙ both.free;
-          shelf = shelf ∙ both.shelf;
-          own_is = own_is ∙ both.own_is;
-          counts = both.counts;
-          soon = both.soon;
+              (sym (is (omega (arith, commits.survives.clean, clean)))) ∙ free;
+          both = record {
+            shelf = shelf ∙ both.shelf;
+            own_is = own_is ∙ both.own_is;
+            is = subst IsShelf (sym own_is) both.is;
+            counts = both.counts;
+            soon = both.soon;
+          };
           kept = tt;
           told = λ clean. tt;
         }
@@ -175,12 +166,8 @@ module _ (from : ℕ) (text : List ℕ) (b : Book) (old mid : State) (before own
       commits = handed_on (BecomesDated (suc (count before)) from text) old new (Err e)
           (Err NoMemory) tt (committed_all (Err e) commits);
       leaves = leaves_all (Err e) commits;
-      own_shelf = tt;
       free = λ clean. tt;
-      shelf = tt;
-      own_is = tt;
-      counts = tt;
-      soon = tt;
+      both = tt;
       kept = (taken.shelf before from b both.shelf, taken.own_is own from b both.own_is);
       told = λ clean. tt;
     }
@@ -194,24 +181,16 @@ same_added : {A E F : Type 0} (from : ℕ) (text : List ℕ) (b : Book) (old new
 same_added from text b old new before after own own' (Ok x) a = record {
   commits = a.commits;
   leaves = a.leaves;
-  own_shelf = a.own_shelf;
   free = a.free;
-  shelf = a.shelf;
-  own_is = a.own_is;
-  counts = a.counts;
-  soon = a.soon;
+  both = a.both;
   kept = a.kept;
   told = a.told;
 }
 same_added from text b old new before after own own' (Err f) a = record {
   commits = a.commits;
   leaves = a.leaves;
-  own_shelf = a.own_shelf;
   free = a.free;
-  shelf = a.shelf;
-  own_is = a.own_is;
-  counts = a.counts;
-  soon = a.soon;
+  both = a.both;
   kept = a.kept;
   told = a.told;
 }
@@ -230,22 +209,11 @@ handed_all {A} {E} from text b old new before after own own' (Err e) (Ok q) h a 
 handed_all {A} {E} from text b old new before after own own' (Err e) (Err f) h a = record {
   commits = a.commits;
   leaves = a.leaves;
-  own_shelf = a.own_shelf;
   free = a.free;
-  shelf = a.shelf;
-  own_is = a.own_is;
-  counts = a.counts;
-  soon = a.soon;
+  both = a.both;
   kept = a.kept;
   told = a.told;
 }
-
--- the store's fault that is reported
-abbrev fault_in : {A : Type 0} → Result A AddFault → StoreFault
-fault_in (Ok x) = Failed
-fault_in (Err (OfBook fault)) = Failed
-fault_in (Err (OfShelf fault)) = Failed
-fault_in (Err (OfStore fault)) = fault
 
 module _ {S : Type 0} (g : Ghosts S) (old new : KeeperState S) (text : List ℕ) (from : ℕ)
     (b : Book) (read : IsBookOf text b) (before after own own' : Shelf)
@@ -263,45 +231,32 @@ module _ {S : Type 0} (g : Ghosts S) (old new : KeeperState S) (text : List ℕ)
   more_shelf : own' ≡ with_book own from b → new.shelf ≡ with_book old.shelf from b
   more_shelf is = later ∙ is ∙ ap (λ s. with_book s from b) (sym owned)
 
-  added_told : {A : Type 0} (r : Result (Result A ShelfFault) StoreFault) → Adds r
-      → HasCleanDisk (state g new.connection)
-      → OnOk (add_told r) (IsAdded text from (tables_in g old).last before after)
-  added_told (Ok (Ok x)) a clean =
-      record { book = b; read = read; free = a.free clean; shelf = a.shelf }
-  added_told (Ok (Err f)) a clean = tt
-  added_told (Err e) a clean = tt
-
-  own_told : {A : Type 0} (r : Result (Result A ShelfFault) StoreFault) → Adds r
-      → OnOk (add_told r) ((b : Book) × IsBookOf text b
-      × (new.shelf ≡ with_book old.shelf from b))
-  own_told (Ok (Ok x)) a = (b, read, more_shelf a.own_is)
-  own_told (Ok (Err f)) a = tt
-  own_told (Err e) a = tt
-
-  numbered_told : {A : Type 0} (r : Result (Result A ShelfFault) StoreFault) → Adds r
-      → OnOk (add_told r) (count old.shelf ≡ count before)
-  numbered_told (Ok (Ok x)) a = ap count owned ∙ a.counts
-  numbered_told (Ok (Err f)) a = tt
-  numbered_told (Err e) a = tt
-
   done_told : {A : Type 0} (r : Result (Result A ShelfFault) StoreFault) → Adds r
       → HasCleanDisk (state g new.connection)
-      → OnOk (add_told r) (Become [] (trees_in g old) (trees_in g new))
-  done_told (Ok (Ok x)) a clean = (a.commits.done clean).2
+      → OnOk (add_told r) (IsAddedBehind text from before after (trees_in g old) (trees_in g new))
+  done_told (Ok (Ok x)) a clean = record {
+    added = record { book = b; read = read; free = a.free clean; shelf = a.both.shelf };
+    becomes = (a.commits.done clean).2;
+  }
   done_told (Ok (Err f)) a clean = tt
   done_told (Err e) a clean = tt
 
-  shelf_told : {A : Type 0} (r : Result (Result A ShelfFault) StoreFault) → Adds r
-      → OnErr (add_told r) (after ≡ before)
-  shelf_told (Ok (Ok x)) a = tt
-  shelf_told (Ok (Err f)) a = a.kept.0
-  shelf_told (Err e) a = a.kept.0
+  own_told : {A : Type 0} (r : Result (Result A ShelfFault) StoreFault) → Adds r
+      → OnOk (add_told r) (IsBehindOwn text from before old.shelf new.shelf)
+  own_told (Ok (Ok x)) a = record {
+    counts = ap count owned ∙ a.both.counts;
+    book = b;
+    read = read;
+    is = more_shelf a.both.own_is;
+  }
+  own_told (Ok (Err f)) a = tt
+  own_told (Err e) a = tt
 
   kept_told : {A : Type 0} (r : Result (Result A ShelfFault) StoreFault) → Adds r
-      → OnErr (add_told r) (new.shelf ≡ old.shelf)
+      → OnErr (add_told r) ((after ≡ before) × (new.shelf ≡ old.shelf))
   kept_told (Ok (Ok x)) a = tt
-  kept_told (Ok (Err f)) a = same_shelf a.kept.1
-  kept_told (Err e) a = same_shelf a.kept.1
+  kept_told (Ok (Err f)) a = (a.kept.0, same_shelf a.kept.1)
+  kept_told (Err e) a = (a.kept.0, same_shelf a.kept.1)
 
   open_now : {A : Type 0} (r : Result (Result A ShelfFault) StoreFault) → Adds r
       → IsClean (state g new.connection) → IsTrue (state g new.connection).is_open
@@ -309,30 +264,31 @@ module _ {S : Type 0} (g : Ghosts S) (old new : KeeperState S) (text : List ℕ)
       open_of (state g new.connection)
       (stays_in g old new Become [] keeper (was_added r) a.commits) clean
 
-  tables_told : {A : Type 0} (r : Result (Result A ShelfFault) StoreFault) → Adds r
-      → IsClean (state g new.connection)
-      → OnErr (add_told r) (tables_in g new ≡ tables_in g old)
-  tables_told {A} (Ok (Ok x)) a clean = tt
-  tables_told {A} (Ok (Err f)) a clean =
-      same_tables {A = A} g old new Become [] keeper (Err NoMemory) a.commits
-      (same_shelf a.kept.1) clean (open_now (Ok (Err f)) a clean)
-  tables_told {A} (Err e) a clean =
-      same_tables {A = A} g old new Become [] keeper (Err NoMemory) a.commits
-      (same_shelf a.kept.1) clean (open_now (Err e) a clean)
-
   faults_told : {A : Type 0} (r : Result (Result A ShelfFault) StoreFault) → Adds r
-      → HasCleanDisk (state g new.connection)
-      → IfErr (add_told r) (IsAddFault text from before (tables_in g old).last)
+      → IsClean (state g new.connection)
+      → IfErr (add_told r) (IsNotAdded g text from before old new)
   faults_told (Ok (Ok x)) a clean = tt
-  faults_told (Ok (Err f)) a clean = (b, read, a.told clean)
-  faults_told (Err e) a clean = (b, read)
+  faults_told {A} (Ok (Err f)) a clean = record {
+    told = (b, read, a.told clean.disk);
+    tables = same_tables {A = A} g old new Become [] keeper (Err NoMemory) a.commits
+        (same_shelf a.kept.1) clean (open_now (Ok (Err f)) a clean);
+  }
+  faults_told {A} (Err e) a clean = record {
+    told = (b, read);
+    tables = same_tables {A = A} g old new Become [] keeper (Err NoMemory) a.commits
+        (same_shelf a.kept.1) clean (open_now (Err e) a clean);
+  }
 
-  counts_told : {A : Type 0} (r : Result (Result A ShelfFault) StoreFault)
-      → HasCause (failed_in old) (failed_in new) r → IsErrOf (add_told r) (OfStore Failed)
-      → min (failed_in old + 1) max_failures ≤ failed_in new
-  counts_told (Ok (Ok x)) cause e = absurd (cc)
-  counts_told (Ok (Err f)) cause e = absurd (cc)
-  counts_told (Err f) cause e = cause.cause (ap Err (ap fault_in e))
+  -- a fault of the shelf is none of the store
+  caused : {A : Type 0} (r : Result (Result A ShelfFault) StoreFault)
+      → HasCause (failed_in old) (failed_in new) r
+      → HasCause (failed_in old) (failed_in new) (of_store (add_told r))
+  caused (Ok (Ok x)) cause = record { kept = cause.kept; cause = λ e. absurd (cc) }
+  caused (Ok (Err f)) cause = record { kept = cause.kept; cause = λ e. absurd (cc) }
+  caused (Err f) cause = record {
+    kept = cause.kept;
+    cause = λ e. cause.cause (let same : f ≡ Failed = cc e in ap Err same);
+  }
 
   pub adds_book : {A E : Type 0} (added : Result (Result A ShelfFault) E)
       (r : Result (Result A ShelfFault) StoreFault) → IsHanded added r
@@ -344,24 +300,13 @@ module _ {S : Type 0} (g : Ghosts S) (old new : KeeperState S) (text : List ℕ)
       let a : Adds r = handed_all from text b (state g old.connection) (state g new.connection)
       before after own own' added r handed all in
       record {
-        added = λ clean. added_told r a clean.disk;
-        own = own_told r a;
-        numbered = numbered_told r a;
         done = λ clean. done_told r a clean.disk;
-        shelf = shelf_told r a;
+        own = own_told r a;
+        told = faults_told r a;
         kept = kept_told r a;
-        tables = tables_told r a;
-        told = λ clean. faults_told r a clean.disk;
         cleanness = was_clean g old new Become [] keeper (was_added r) a.commits;
-        counts = (cause_at_most old.failures new.failures r cause).kept;
-        cause = counts_told r (cause_at_most old.failures new.failures r cause);
-        whole = record {
-          left = λ clean db may. elim (a.leaves clean db may) [
-            | inl was ↦ inl was
-            | inr it ↦ inr it.becomes
-          ];
-        };
-        follows = record {
+        cause = caused r (cause_at_most old.failures new.failures r cause);
+        left = record {
           left = λ clean db may. elim (a.leaves clean db may) [
             | inl was ↦ inl was
             | inr it ↦ inr (record {
@@ -388,17 +333,18 @@ module _ {S : Type 0} (g : Ghosts S) (old new : KeeperState S) (text : List ℕ)
       (subst (λ n. BecomesDated n from text (trees_in g old) db)
       (ap suc (sym (ap count owned ∙ counts))) become)
 
-  made_more : {A : Type 0} (q : Result A StoreFault) → OnOk q (from < no_end)
-      → new.text ≡ old.text → new.last ≡ old.last → OnOk q (own' ≡ with_book own from b)
-      → OnOk q (count own ≡ count before) → OnOk q (IsShelf own')
+  made_more : {A : Type 0} (q : Result A StoreFault)
+      → OnOk q (IsOnBoth from b before after own own')
+      → new.text ≡ old.text → new.last ≡ old.last
       → OnOk q (IsHeld old.text old.shelf old.last (trees_in g old)
       → Become [] (trees_in g old) (trees_in g new)
       → IsHeld new.text new.shelf new.last (trees_in g new))
-  made_more (Ok x) soon text' last is counts shelf = λ held become.
+  made_more (Ok x) both text' last = λ held become.
       held_as old.text new.text (with_book old.shelf from b) new.shelf old.last new.last
-      (trees_in g new) (trees_in g new) text' (more_shelf is) last refl
-      (held_more soon (subst IsShelf is shelf) counts (trees_in g new) held become)
-  made_more (Err e) soon text' last is counts shelf = tt
+      (trees_in g new) (trees_in g new) text' (more_shelf both.own_is) last refl
+      (held_more both.soon (subst IsShelf both.own_is both.is) both.counts (trees_in g new) held
+      become)
+  made_more (Err e) both text' last = tt
 
   kept_more : {A : Type 0} (q : Result A StoreFault) → new.last ≡ old.last
       → OnErr q ((after ≡ before) × (own' ≡ own))
@@ -425,5 +371,5 @@ module _ {S : Type 0} (g : Ghosts S) (old new : KeeperState S) (text : List ℕ)
   added_keeper added all text' last plain bounded =
       becomes_keeper g old new Become [] keeper (was_added added) all.commits
       (λ was clean. left_more all.leaves was clean)
-      (made_more (was_added added) all.soon text' last all.own_is all.counts all.own_shelf)
+      (made_more (was_added added) all.both text' last)
       (kept_more (was_added added) last all.kept) text' plain bounded

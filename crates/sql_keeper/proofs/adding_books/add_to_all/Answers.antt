@@ -14,6 +14,7 @@ returns-in_err-write_last-clause-adds g c =
     (state g.S.Store c.write_last.new.conn) (λ clean. (tested.answered clean).1) c.args.last
     (λ clean. c.requires.last (tested.only.cleanness clean) (tested.answered clean).0)
     c.shelve.new.shelf c.shelve.new.own
+    (c.in-Ok.ensures.free c.if-not-is_added.false)
     (c.in-Ok.ensures.added c.if-not-is_added.false) _ _ c.write_last.new.shelf c.write_last.new.own
     c.in_err-write_last.ensures.taken c.in_err-write_last.ensures.commits)
 
@@ -26,6 +27,7 @@ returns-clause-adds g c =
     c.args.last
     (λ clean. c.requires.last (tested.only.cleanness clean) (tested.answered clean).0)
     c.shelve.new.shelf
-    c.shelve.new.own (c.in-Ok.ensures.added c.if-not-is_added.false) _ c.write_last.new.shelf
+    c.shelve.new.own (c.in-Ok.ensures.free c.if-not-is_added.false)
+    (c.in-Ok.ensures.added c.if-not-is_added.false) _ c.write_last.new.shelf
     c.write_last.new.own c.in_ok-write_last.ensures.kept.0 c.in_ok-write_last.ensures.kept.1
     c.in_ok-write_last.ensures.commits
