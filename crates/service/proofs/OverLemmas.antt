@@ -48,10 +48,10 @@ pub opened_in : {D : Type 0} {g : disk.Ghosts D} (image : Image) (c : Held (File
     (HasCleanDisk (file_state c) → FindsIn image (file_state c)) →
     IsOpened over_files c k shelf → IsOpenedIn image k shelf
 opened_in image c k shelf new found opened = record {
-  fresh = opened.fresh;
-  clean = opened.clean;
-  left = λ clean. (opened.left clean).left;
-  books = opened.books;
+  fresh = opened.begins.fresh;
+  clean = opened.begins.clean;
+  left = λ clean. (opened.begins.held clean).left.left;
+  books = λ clean. (opened.begins.held clean).books;
   holds = λ clean db held.
       let early : HasCleanDisk (file_state c) = omega (arith, clean, opened.survives.clean) in
       ap (λ (d : Database). d.trees) ((opened.still clean).now_is ∙ (new early).0.clean)
@@ -99,14 +99,14 @@ pub migrated_in : {D : Type 0} {g : disk.Ghosts D} (image : Image) (c : Held (Fi
 migrated_in image c k shelf new found migrated clean =
     let early : HasCleanDisk (file_state c) = omega (arith, clean, migrated.survives.clean) in
     record {
-      left = (migrated.left clean).left;
-      books = migrated.books clean;
+      left = (migrated.begins.held clean).left.left;
+      books = (migrated.begins.held clean).books;
       version = migrated.version;
       known = migrated.known;
       becomes = λ older db held.
           subst (λ (t : Trees). BecomesLatest migrated.version t (trees_in over_files k))
-          (held_by image c (new early) (found early) db held) (migrated.becomes clean older);
-      still = λ same db held. ap (λ (d : Database). d.trees) (migrated.still clean same).now_is
+          (held_by image c (new early) (found early) db held) ((migrated.comes clean).becomes older);
+      still = λ same db held. ap (λ (d : Database). d.trees) ((migrated.comes clean).still same).now_is
           ∙ held_by image c (new early) (found early) db held;
     }
 
@@ -114,12 +114,12 @@ migrated_in image c k shelf new found migrated clean =
 pub made_fresh : {D : Type 0} {g : disk.Ghosts D} (text : List ℕ) (c : Held (FileStore D g))
     (k : KeeperState (FileStore D g)) (shelf : Shelf) →
     IsCreated over_files text c k shelf → IsFresh k shelf
-made_fresh text c k shelf created = created.fresh
+made_fresh text c k shelf created = created.begins.fresh
 
 pub migrated_fresh : {D : Type 0} {g : disk.Ghosts D} (c : Held (FileStore D g))
     (k : KeeperState (FileStore D g)) (shelf : Shelf) →
     IsMigrated over_files c k shelf → IsFresh k shelf
-migrated_fresh c k shelf migrated = migrated.fresh
+migrated_fresh c k shelf migrated = migrated.begins.fresh
 
 -- it has the shelf of that database, and its tables
 -- rule: database-words.opened-in

@@ -12,7 +12,7 @@ use Rattle.sqlite_trees.specs.View.{IsClean as IsHonest}
 use Rattle.sqlite.specs.Effect.{IsDatabase}
 use Rattle.sqlite.specs.Held.{Held, state}
 use Rattle.sqlite.specs.State.{HasCleanDisk}
-use Rattle.sqlite.specs.Steps.{IsFresh}
+use Rattle.sqlite.specs.Steps.{IsFresh as IsFreshStore}
 use Rattle.sql_rows.specs.Content.{tables_content}
 use Rattle.sql_tables.specs.declared.fault.OpenFault.{OpenFault}
 use Rattle.keepers.specs.Change.{changed}
@@ -26,7 +26,9 @@ use Rattle.sql_keeper.specs.Causes.{IsStores}
 use Rattle.sql_keeper.specs.Commits.{Becomes}
 use Rattle.sql_keeper.specs.Creates.{IsNewBook}
 use Rattle.sql_keeper.specs.Inside.{KeeperState, IsClean, IsKeeper, names_in, tables_in}
-use Rattle.sql_keeper.specs.Opened.{IsKept, IsLeft, IsLeftRuled, IsNotOpened, IsOpened}
+use Rattle.sql_keeper.specs.Left.{IsHeld}
+use Rattle.sql_keeper.specs.Opened.{IsFresh, IsKept, IsLeft, IsLeftRuled}
+use Rattle.sql_keeper.specs.Opened.{IsNotOpened, IsOpened}
 use Rattle.sql_keeper.specs.Shelves.{HasOneBook, IsShelfOf}
 use Rattle.sql_keeper.specs.Stops.{IsCommitWhole, MayLeave, trees_in}
 use Rattle.sql_keeper.specs.Sweeps.{BecomesSwept}
@@ -95,11 +97,9 @@ pub record IsFoundAfter {S T : Type 0} (g : Ghosts S) (e : Ghosts T) (old : Keep
     (new : KeeperState T) (shelf : Shelf) : Type 0 where
   pub honest : HasCleanDisk (state g old.connection)
   pub may : MayLeave g old (trees_in e new)
-  pub left : IsLeftRuled new.text (trees_in e new)
+  pub fresh : IsFresh new shelf
+  pub held : IsHeld new.text shelf new.last (trees_in e new)
   pub text : new.text ≡ old.text
-  pub own : new.shelf ≡ shelf
-  pub uncounted : new.failures ≡ 0
-  pub books : IsShelfOf old.text (tables_content (trees_in e new)).books shelf
   pub rests : IsClean (state g old.connection) → (trees_in e new ≡ trees_in g old)
       × (shelf ≡ old.shelf) × (new.last ≡ old.last)
 
@@ -151,7 +151,7 @@ pub record AreStoppedWhole {S T : Type 0} (g : Ghosts S) (e : Ghosts T) : Type 0
 pub record IsLeftFresh {S : Type 0} (g : Ghosts S) (old : Held S) (store : S) : Type 0 where
   pub honest : HasCleanDisk (state g old)
   pub may : (state g old).may_leave (g.view store).trees
-  pub fresh : IsFresh (g.view store)
+  pub fresh : IsFreshStore (g.view store)
 
 -- the connection shows what the store has
 pub record IsShownBy {S : Type 0} (g : Ghosts S) (store : S) (new : Held S) : Type 0 where

@@ -34,13 +34,12 @@ use Rattle.sql_tables.specs.declared.fault.OpenFault.TheVariants.{Foreign, Versi
 use Rattle.sql_keeper.specs.Books.{IsBookOf}
 use Rattle.sql_keeper.specs.Causes.{IsOtherThan}
 use Rattle.sql_keeper.specs.Content.{Names, is_reserved, tables_of}
-use Rattle.sql_keeper.specs.Inside.{KeeperState, IsClean}
+use Rattle.sql_keeper.specs.Inside.{KeeperState}
 use Rattle.sql_keeper.specs.Left.{IsHeld}
-use Rattle.sql_keeper.specs.Opened.{IsFresh, IsLeftRuled}
+use Rattle.sql_keeper.specs.Opened.{Begins, IsLeftRuled}
 use Rattle.sql_keeper.specs.RuledOpening.{FindsRuled}
 use Rattle.sql_keeper.specs.Shelves.{HasShelf, IsShelfOf}
 use Rattle.sql_keeper.specs.Tidy.{IsTidy}
-use Rattle.sql_keeper.specs.Stops.{trees_in}
 use Rattle.sql_keeper.specs.declared.books.ReadBooks.{ReadBooks}
 
 -- ---- what a database of a version holds
@@ -223,6 +222,13 @@ pub record MigratesRuled (v : TablesVersion) (old new : State)
 
 -- ---- how it ends
 
+-- the tables were those of a version: they become those of the latest, or they are left as they are
+-- rule: database-migrated
+pub record ComesToLatest (v : TablesVersion) (old new : State) : Type 0 where
+  pub had : old.now.schema ≡ schema_at v
+  pub becomes : v < latest → BecomesLatest v old.now.trees new.now.trees
+  pub still : v ≡ latest → IsStill old new
+
 -- the version that the database had is one that there is, and so the keeper holds what it held; one
 -- of the latest is left as it is
 -- rule: database-migrated: a database of an older version is brought to the latest whole or not at
@@ -232,18 +238,11 @@ pub record MigratesRuled (v : TablesVersion) (old new : State)
 pub record IsMigrated {S : Type 0} (g : Ghosts S) (old : Held S) (k : KeeperState S)
     (shelf : Shelf) : Type 0
   where
-    pub fresh : IsFresh k shelf
-    pub books : HasCleanDisk (state g k.connection) →
-        IsShelfOf k.text (tables_content (trees_in g k)).books shelf
-    pub left : HasCleanDisk (state g k.connection) → IsLeftRuled k.text (trees_in g k)
-    pub clean : HasCleanDisk (state g k.connection) → IsClean (state g k.connection)
+    pub begins : Begins g k shelf
     pub version : ℕ
     pub known : IsVersion version
-    pub had : HasCleanDisk (state g k.connection) → (state g old).now.schema ≡ schema_at version
-    pub becomes : HasCleanDisk (state g k.connection) → version < latest →
-        BecomesLatest version (state g old).now.trees (trees_in g k)
-    pub still : HasCleanDisk (state g k.connection) → version ≡ latest →
-        IsStill (state g old) (state g k.connection)
+    pub comes : HasCleanDisk (state g k.connection) →
+        ComesToLatest version (state g old) (state g k.connection)
     pub survives : Survives (state g old) (state g k.connection)
         (λ db. IsLeftLatest version (state g old).now.trees db)
 

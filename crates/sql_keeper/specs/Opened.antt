@@ -9,18 +9,16 @@ use Rattle.sqlite.specs.State.{HasCleanDisk, Survives}
 use Rattle.sql_tables.specs.Statements.{IsStill}
 use Rattle.sql_tables.specs.Schema.{latest}
 use Rattle.sql_tables.specs.Texts.{stage}
-use Rattle.sql_rows.specs.Content.{tables_content}
 use Rattle.sql_tables.specs.declared.fault.OpenFault.{OpenFault}
 use Rattle.sql_rules.specs.Tables.{AreRuled}
-use Rattle.keepers.specs.Tables.{no_tables}
 use Rattle.sql_keeper.specs.Books.{IsBookOf}
 use Rattle.sql_keeper.specs.Creates.{IsNewBook}
 use Rattle.sql_keeper.specs.Faults.{IsCreateFault}
 use Rattle.sql_keeper.specs.declared.create_fault.CreateFault.{CreateFault}
-use Rattle.sql_keeper.specs.Inside.{KeeperState, IsClean, IsKeeper, tables_in}
+use Rattle.sql_keeper.specs.Inside.{KeeperState, IsClean, IsKeeper}
+use Rattle.sql_keeper.specs.Left.{IsHeld}
 pub use Rattle.sql_keeper.specs.Left.{IsKept, IsLeft, IsLeftRuled}
 use Rattle.sql_keeper.specs.RuledOpening.{IsRowFault}
-use Rattle.sql_keeper.specs.Shelves.{IsShelfOf}
 use Rattle.sql_keeper.specs.Stops.{trees_in}
 
 -- a keeper before its first call, and the shelf on which the book of its text is first
@@ -29,6 +27,13 @@ pub record IsFresh {S : Type 0} (k : KeeperState S) (shelf : Shelf) : Type 0 whe
   pub own : k.shelf ≡ shelf
   pub uncounted : k.failures ≡ 0
 
+-- it holds what its tables keep, and an open would find them again with its text, its shelf and its
+-- last moment
+pub record Begins {S : Type 0} (g : Ghosts S) (k : KeeperState S) (shelf : Shelf) : Type 0 where
+  pub fresh : IsFresh k shelf
+  pub clean : HasCleanDisk (state g k.connection) → IsClean (state g k.connection)
+  pub held : HasCleanDisk (state g k.connection) → IsHeld k.text shelf k.last (trees_in g k)
+
 -- ---- made
 
 -- the tables were made in a database that had none, and hold nothing but what is kept once
@@ -36,18 +41,12 @@ pub record IsFresh {S : Type 0} (k : KeeperState S) (shelf : Shelf) : Type 0 whe
 --   reported before a table that is already there
 pub record IsCreated {S : Type 0} (g : Ghosts S) (text : BookText) (old : Held S)
     (k : KeeperState S) (shelf : Shelf) : Type 0 where
-  pub fresh : IsFresh k shelf
+  pub begins : Begins g k shelf
   pub alone : shelf.later ≡ []
   pub of_text : k.text ≡ text
   pub blank : old.schema ≡ stage 0
   pub plain : old.in_transaction ≡ false
-  pub clean : HasCleanDisk (state g k.connection) → IsClean (state g k.connection)
   pub made : HasCleanDisk (state g k.connection) → IsNewBook text (trees_in g k)
-  pub tables : HasCleanDisk (state g k.connection) → tables_in g k ≡ no_tables
-  -- as an open finds them again
-  pub left : HasCleanDisk (state g k.connection) → IsLeft text (trees_in g k)
-  -- and as the commands of this system leave them
-  pub ruled : HasCleanDisk (state g k.connection) → IsLeftRuled text (trees_in g k)
   pub survives : Survives (state g old) (state g k.connection) (IsNewBook text)
 
 -- nothing is changed; a stop leaves what it left before, or the new tables
@@ -70,13 +69,9 @@ pub record IsNotCreated {S : Type 0} (g : Ghosts S) (text : BookText) (old new :
 pub record IsOpened {S : Type 0} (g : Ghosts S) (old : Held S) (k : KeeperState S)
     (shelf : Shelf) : Type 0
   where
-    pub fresh : IsFresh k shelf
+    pub begins : Begins g k shelf
     pub keeper : IsKeeper g k
-    pub books : HasCleanDisk (state g k.connection) →
-        IsShelfOf k.text (tables_content (trees_in g k)).books shelf
-    pub left : HasCleanDisk (state g k.connection) → IsLeftRuled k.text (trees_in g k)
     pub ruled : HasCleanDisk (state g k.connection) → AreRuled shelf latest (trees_in g k)
-    pub clean : HasCleanDisk (state g k.connection) → IsClean (state g k.connection)
     pub still : HasCleanDisk (state g k.connection) → IsStill (state g old) (state g k.connection)
     pub survives : Survives (state g old) (state g k.connection) (λ _. ⊥)
 

@@ -22,7 +22,7 @@ ghost use Rattle.sql_keeper.specs.Inside.{IsKeeper};
 ghost use Rattle.sql_keeper.specs.Opened.{IsCreated, IsNotCreated, IsNotOpened, IsOpened};
 ghost use Rattle.sql_keeper.specs.Opened.{LeavesStill};
 ghost use Rattle.sqlite.specs.Held.{state};
-ghost use Rattle.sqlite.specs.State.{HasCleanDisk, IsLive};
+ghost use Rattle.sqlite.specs.State.{HasCleanDisk};
 
 use crate::books::{ReadBooks, read_book, read_shelves};
 use crate::create_fault::CreateFault;
@@ -57,7 +57,6 @@ pub(crate) fn keeper_of<S: Alter>(
     ensures last { result.0.last ≡ read.last }
     ensures uncounted { result.0.failures ≡ 0 }
     ensures kept { IsKeeper S.Store result.0 }
-    ensures live { IsLive (state S.Store connection) }
 {
     // For the prover alone: looking at the value makes known here what its type keeps.
     let _listed = connection.schema();

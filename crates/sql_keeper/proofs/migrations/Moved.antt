@@ -3,7 +3,6 @@ use Rattle.std.proofs.Common.{◌≡◌, ◌<◌, ◌≤◌, ◌⊎◌, inl, inr
 use Rattle.std.proofs.lemmas.Option.{same_Some}
 use Rattle.std.proofs.Common.{Some, arith, IsTrue, Bool, true, false, nat_lt, ltb-true, ltb-false}
 use Rattle.std.specs.Prelude.{Ok, Err, Result}
-use Rattle.std.specs.Str.{IsUtf8}
 use Rattle.std.specs.String.{string_bytes}
 use Rattle.shelves.specs.Shelves.{Shelf}
 use Rattle.sqlite_trees.specs.declared.store.Store.{Ghosts}
@@ -11,7 +10,7 @@ use Rattle.sqlite_trees.specs.Tree.{Trees}
 use Rattle.sqlite.specs.declared.error.Error.{Error}
 use Rattle.sqlite.specs.Effect.{Database}
 use Rattle.sqlite.specs.Held.{Held, state}
-use Rattle.sqlite.specs.State.{IsLive, IsRolledBack, KeepsCommit, Shows, State, HasCleanDisk}
+use Rattle.sqlite.specs.State.{IsRolledBack, KeepsCommit, Shows, State, HasCleanDisk}
 use Rattle.sqlite.specs.State.{Survives}
 use Rattle.sqlite.specs.Steps.{FailsToCommit}
 use Rattle.sqlite.proofs.StateLemmas.{survives_then, survives_weaker}
@@ -25,18 +24,17 @@ use Rattle.sql_tables.specs.declared.fault.OpenFault.{OpenFault}
 use Rattle.sql_tables.specs.declared.fault.OpenFault.TheVariants.{Foreign, Version, Rules, Older}
 use Rattle.sql_tables.specs.declared.fault.OpenFault.TheVariants.{Store, Memory}
 use Rattle.sql_keeper.specs.Finds.{FindsBooks, IsReadRuled, ReadsBooks}
-use Rattle.sql_keeper.specs.Inside.{IsClean, IsKeeper, KeeperState}
-use Rattle.sql_keeper.specs.Migrates.{BecomesLatest, BringsToLatest, FindsAny, FindsNone, HasAt}
+use Rattle.sql_keeper.specs.Inside.{IsKeeper, KeeperState}
+use Rattle.sql_keeper.specs.Migrates.{BecomesLatest, BringsToLatest, ComesToLatest, FindsAny}
+use Rattle.sql_keeper.specs.Migrates.{FindsNone, HasAt}
 use Rattle.sql_keeper.specs.Migrates.{HasIdleAt, IsLeftLatest, IsMigrated, IsRuledVersion}
 use Rattle.sql_keeper.specs.Migrates.{HasRuledRows, IsHeldBy, MigratesRuled}
 use Rattle.sql_keeper.specs.Migrates.{MigratesTables}
 use Rattle.sql_keeper.specs.Causes.{IsOtherThan}
-use Rattle.sql_keeper.specs.Left.{IsLeftRuled}
-use Rattle.sql_keeper.specs.Opened.{IsOpened}
 use Rattle.sql_keeper.specs.RuledOpening.{FindsRuled}
 use Rattle.sql_keeper.specs.Shelves.{IsShelfOf}
 use Rattle.sql_keeper.specs.declared.books.ReadBooks.{ReadBooks}
-use Rattle.sql_keeper.proofs.openings.Opens.{finds_books, fresh, opened}
+use Rattle.sql_keeper.proofs.openings.Opens.{begins, finds_books}
 use Rattle.sql_keeper.proofs.openings.Made.{ruled_read}
 use Rattle.sql_keeper.proofs.openings.Opens.{reads_survived}
 use Rattle.sql_keeper.proofs.openings.RuledOpening.{rows_told, ruled_schema, spared_after}
@@ -473,77 +471,58 @@ any_read old new r f clean = elim (either_version f.0 f.1) [
 module _ {S : Type 0} (g : Ghosts S) (k : KeeperState S) (conn old : Held S) (shelf : Shelf)
     (r : ReadBooks) (connection : k.connection ≡ conn) (is : shelf ≡ r.given)
     (owned : k.shelf ≡ r.own) (told : k.text ≡ string_bytes r.text)
-    (none : k.failures ≡ 0) (kept : IsKeeper g k) (live : IsLive (state g conn))
-    (utf8 : IsUtf8 (string_bytes r.text))
+    (none : k.failures ≡ 0) (kept : IsKeeper g k)
     (v : ℕ) (known : IsVersion v)
     (had : HasCleanDisk (state g conn) → (state g old).now.schema ≡ schema_at v) where
   -- one of the latest version is left as it is
   keeps_latest : v ≡ latest → FindsRuled (state g old) (state g conn) (Ok r)
       → IsMigrated g old k shelf
-  keeps_latest same f =
-      let o : IsOpened g old k shelf =
-      opened g k conn shelf r.given r.own (string_bytes r.text) (string_bytes r.text) connection is
-      f.given owned told none f.read refl live utf8 old
-      (λ clean. let it = f.found clean in (it.0.kept, it.0.books, it.1, it.2)) f.survives
-      (λ clean. (f.found clean).3) kept in
-      record {
-        fresh = o.fresh;
-        books = o.books;
-        left = o.left;
-        clean = o.clean;
-        version = v;
-        known = known;
-        had = subst (λ h. HasCleanDisk (state g h) → (state g old).now.schema ≡ schema_at v)
-            (sym connection) had;
-        becomes = λ clean low. absurd
-            (let less : v < 3 = low in let top : v ≡ 3 = same in omega (arith, less, top));
-        still = λ clean last. o.still clean;
-        survives = survives_weaker (state g old) (state g k.connection) (λ _. ⊥)
-            (λ db. IsLeftLatest v (state g old).now.trees db) (λ clean db no. absurd no)
-            o.survives;
-      }
+  keeps_latest same f = record {
+    begins = begins g k conn shelf r.given r.own (string_bytes r.text) (string_bytes r.text)
+        connection is f.given owned told none f.read refl kept (λ clean. (f.found clean).2);
+    version = v;
+    known = known;
+    comes = subst (λ h. HasCleanDisk (state g h) → ComesToLatest v (state g old) (state g h))
+        (sym connection) (λ clean. record {
+          had = had clean;
+          becomes = λ low. absurd
+              (let less : v < 3 = low in let top : v ≡ 3 = same in omega (arith, less, top));
+          still = λ last. (f.found clean).1;
+        });
+    survives = subst (λ h. Survives (state g old) (state g h)
+        (λ db. IsLeftLatest v (state g old).now.trees db)) (sym connection)
+        (survives_weaker (state g old) (state g conn) (λ _. ⊥)
+        (λ db. IsLeftLatest v (state g old).now.trees db) (λ clean db no. absurd no) f.survives);
+  }
 
   -- an older one is brought to it
   comes_latest : v < latest → MigratesTables v (state g old) (state g conn) (Ok r)
       → IsMigrated g old k shelf
-  comes_latest less m =
-      let own_is : r.own ≡ shelf = sym (is ∙ m.given) in
-      record {
-        fresh = fresh g k conn shelf r.given r.own (string_bytes r.text) (string_bytes r.text)
-            connection is m.given owned told none m.first refl live utf8;
-        books = subst (λ h. HasCleanDisk (state g h) →
-            IsShelfOf k.text (tables_content (state g h).now.trees).books shelf) (sym connection)
-            (λ clean. subst (λ t. IsShelfOf t (tables_content (state g conn).now.trees).books shelf)
-            (sym told) (subst (IsShelfOf (string_bytes r.text)
-            (tables_content (state g conn).now.trees).books) own_is (m.done clean).2.books));
-        left = subst (λ h. HasCleanDisk (state g h) → IsLeftRuled k.text (state g h).now.trees)
-            (sym connection)
-            (λ clean. subst (λ t. IsLeftRuled t (state g conn).now.trees) (sym told)
-            (m.done clean).2.left);
-        clean = subst (λ h. HasCleanDisk (state g h) → IsClean (state g h)) (sym connection)
-            (λ clean. record { disk = clean; open_still = inr (m.done clean).0 });
-        version = v;
-        known = known;
-        had = subst (λ h. HasCleanDisk (state g h) → (state g old).now.schema ≡ schema_at v)
-            (sym connection) had;
-        becomes = subst (λ h. HasCleanDisk (state g h) → v < latest →
-            BecomesLatest v (state g old).now.trees (state g h).now.trees) (sym connection)
-            (λ clean low. (m.done clean).1);
-        still = λ clean last. absurd
-            (let low : v < 3 = less in let top : v ≡ 3 = last in omega (arith, low, top));
-        survives = subst (λ h. Survives (state g old) (state g h)
-            (λ db. IsLeftLatest v (state g old).now.trees db)) (sym connection) m.survives;
-      }
+  comes_latest less m = record {
+    begins = begins g k conn shelf r.given r.own (string_bytes r.text) (string_bytes r.text)
+        connection is m.given owned told none m.first refl kept (λ clean. (m.done clean).0);
+    version = v;
+    known = known;
+    comes = subst (λ h. HasCleanDisk (state g h) → ComesToLatest v (state g old) (state g h))
+        (sym connection) (λ clean. record {
+          had = had clean;
+          becomes = λ low. (m.done clean).1;
+          still = λ last. absurd
+              (let low : v < 3 = less in let top : v ≡ 3 = last in omega (arith, low, top));
+        });
+    survives = subst (λ h. Survives (state g old) (state g h)
+        (λ db. IsLeftLatest v (state g old).now.trees db)) (sym connection) m.survives;
+  }
 
 pub is_migrated : {S : Type 0} (g : Ghosts S) (k : KeeperState S) (conn old : Held S)
     (shelf : Shelf) (r : ReadBooks) → k.connection ≡ conn → shelf ≡ r.given
     → k.shelf ≡ r.own → k.text ≡ string_bytes r.text → k.failures ≡ 0
-    → IsKeeper g k → IsLive (state g conn) → IsUtf8 (string_bytes r.text)
+    → IsKeeper g k
     → FindsAny (state g old) (state g conn) (Ok r) → IsMigrated g old k shelf
-is_migrated g k conn old shelf r connection is owned told none kept live utf8 f =
+is_migrated g k conn old shelf r connection is owned told none kept f =
     elim (either_version f.0 f.1) [
-      | inl same ↦ keeps_latest g k conn old shelf r connection is owned told none kept live utf8
+      | inl same ↦ keeps_latest g k conn old shelf r connection is owned told none kept
           f.0 f.1 f.2 same (f.3 same)
-      | inr less ↦ comes_latest g k conn old shelf r connection is owned told none kept live utf8
+      | inr less ↦ comes_latest g k conn old shelf r connection is owned told none kept
           f.0 f.1 f.2 less (f.4 less)
     ]

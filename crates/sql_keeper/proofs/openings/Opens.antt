@@ -4,18 +4,15 @@ use Rattle.std.proofs.Common.{IsTrue, true, false, arith, ◌<◌, Bool, nat_lt,
 use Rattle.std.proofs.Common.{ltb-false}
 use Rattle.std.specs.Prelude.{Ok, Err, Result, IfErr, IfOk, map, Vec}
 use Rattle.std.specs.Global.{Global}
-use Rattle.std.specs.Str.{IsUtf8}
 use Rattle.std.specs.String.{string_bytes}
 use Rattle.shelves.specs.Shelves.{Shelf}
 use Rattle.sqlite_trees.specs.declared.store.Store.{Ghosts}
 use Rattle.sqlite_trees.specs.Tree.{Trees}
-use Rattle.sqlite_trees.specs.Objects.{catalog_tree}
-use Rattle.sqlite_catalog.specs.Listing.{Lists}
 use Rattle.sqlite.specs.Effect.{Database}
 use Rattle.sqlite.specs.Held.{Held, state}
-use Rattle.sqlite.specs.State.{State, HasCleanDisk, IsLive, Survives}
+use Rattle.sqlite.specs.State.{State, HasCleanDisk, Survives}
 use Rattle.sqlite.proofs.StateLemmas.{survives_then}
-use Rattle.sql_tables.specs.Schema.{our_schema, latest, schema_at}
+use Rattle.sql_tables.specs.Schema.{latest, schema_at}
 use Rattle.sql_tables.specs.Stages.{AreStoredAt}
 use Rattle.sql_tables.specs.Statements.{HasIdleTables, IsStill, OnlyReads, Reads}
 use Rattle.sql_tables.proofs.Keeps.{only_reads_then}
@@ -35,19 +32,18 @@ use Rattle.sql_tables.specs.declared.fault.OpenFault.TheVariants.{Foreign, Versi
 use Rattle.sql_tables.specs.declared.fault.OpenFault.TheVariants.{Memory as Memory'}
 use Rattle.sql_keeper.specs.Books.{IsBookOf}
 use Rattle.sql_keeper.specs.Causes.{AreUnruled, HasFault, IsOtherThan, IsStores}
-use Rattle.keepers.specs.Tables.{no_tables}
-use Rattle.sql_keeper.specs.Content.{last_in, tables_of}
-use Rattle.sql_keeper.specs.Creates.{CreatesBook, IsNewBook, first_meta}
+use Rattle.sql_keeper.specs.Content.{last_in}
+use Rattle.sql_keeper.specs.Creates.{CreatesBook, IsNewBook}
 use Rattle.sql_keeper.specs.Faults.{IsCreateFault}
 use Rattle.sql_keeper.specs.Finds.{FindsBooks, IsMetaFound, IsReadOf, ReadsBooks}
-use Rattle.sql_keeper.specs.Inside.{KeeperState, IsClean, IsKeeper, names_in}
-use Rattle.sql_keeper.specs.Left.{IsLeftRuled}
-use Rattle.sql_keeper.specs.Opened.{IsCreated, IsFresh, IsKept, IsLeft, IsNotCreated, IsOpened}
+use Rattle.sql_keeper.specs.Inside.{KeeperState, IsKeeper}
+use Rattle.sql_keeper.specs.Stops.{trees_in}
+use Rattle.sql_keeper.specs.Left.{IsHeld}
+use Rattle.sql_keeper.specs.Opened.{Begins, IsCreated, IsFresh, IsNotCreated, IsOpened}
 use Rattle.sql_keeper.specs.OlderVersions.{IsNotLatest}
 use Rattle.sql_keeper.specs.Shelves.{HasShelf, IsAlone, IsNoShelf, IsShelfOf, IsShelfRead}
 use Rattle.sql_keeper.specs.declared.books.ReadBooks.{ReadBooks}
 use Rattle.sql_keeper.specs.declared.create_fault.CreateFault.{CreateFault}
-use Rattle.sql_keeper.proofs.shelf.Again.{alone_shelf}
 use Rattle.sql_keeper.proofs.openings.Causes.{caused}
 use Rattle.sql_keeper.proofs.shelf.Shelved.{shelf_ruled}
 use Rattle.sql_keeper.proofs.reads.InTurn.{have_read, have_read_then}
@@ -60,8 +56,7 @@ use Rattle.sql_keeper.proofs.commits.Whole.{not_shut}
 module _ {S : Type 0} (g : Ghosts S) (k : KeeperState S) (conn : Held S) (shelf given own : Shelf)
     (text bytes : List ℕ) (connection : k.connection ≡ conn) (is : shelf ≡ given)
     (same : given ≡ own) (owned : k.shelf ≡ own) (told : k.text ≡ bytes)
-    (none : k.failures ≡ 0) (read : IsBookOf text own.first) (kept : bytes ≡ text)
-    (live : IsLive (state g conn)) (utf8 : IsUtf8 bytes) where
+    (none : k.failures ≡ 0) (read : IsBookOf text own.first) (kept : bytes ≡ text) where
   own_is : own ≡ shelf
   own_is = sym (is ∙ same)
 
@@ -73,98 +68,52 @@ module _ {S : Type 0} (g : Ghosts S) (k : KeeperState S) (conn : Held S) (shelf 
     uncounted = none;
   }
 
-  -- the schema is the one that the database lists
-  listed : HasCleanDisk (state g conn) → IsTrue (state g conn).is_open
-      → HasIdleTables (state g conn)
-      → Lists ((state g conn).now.trees catalog_tree) our_schema
-  listed clean on idle =
-      subst (Lists ((state g conn).now.trees catalog_tree)) (idle clean on).book.schema
-      (live on).0.lists
-
-  -- the new tables as an open finds them again
-  left_made : {A E : Type 0} {old : State} {u : A} → IsAlone text own
-      → CreatesBook {A = A} {E = E} text old (state g conn) (Ok u)
-      → HasCleanDisk (state g conn) → IsLeft text (state g conn).now.trees
-  left_made alone c clean =
-      let made = c.done clean in
-      record {
-        lists = listed clean made.0 made.1;
-        stored = made.2.stored;
-        kept = record {
-          row = first_meta text;
-          is = made.2.meta;
-          version = refl;
-          book = refl;
-          last = omega arith;
-        };
-        utf8 = subst IsUtf8 kept utf8;
-        shelf = (
-          own,
-          alone_shelf text (tables_content (state g conn).now.trees).books own alone.is
-              alone.alone alone.first made.2.books,
-        );
-      }
+  pub begins : IsKeeper g k → (HasCleanDisk (state g conn) → IsTrue (state g conn).is_open)
+      → Begins g k shelf
+  begins keeper on = record {
+    fresh = fresh;
+    clean = λ clean. record { disk = clean; open_still = inr (is_open clean) };
+    held = λ clean. subst (λ (s : Shelf). IsHeld k.text s k.last (trees_in g k))
+        (owned ∙ own_is) (keeper.held clean (is_open clean));
+  }
+    where
+      is_open : HasCleanDisk (state g k.connection) → IsTrue (state g k.connection).is_open
+      is_open = subst (λ h. HasCleanDisk (state g h) → IsTrue (state g h).is_open)
+          (sym connection) on
 
   -- rule: database-made.created
   pub created : {A E : Type 0} (old : Held S) (u : A) → IsAlone text own
       → old.schema ≡ stage 0 → old.in_transaction ≡ false
       → CreatesBook {A = A} {E = E} text (state g old) (state g conn) (Ok u)
-      → IsCreated g text old k shelf
-  created old u alone blank plain c = record {
-    fresh = fresh;
+      → IsKeeper g k → IsCreated g text old k shelf
+  created old u alone blank plain c keeper = record {
+    begins = begins keeper (λ clean. (c.done clean).0);
     alone = ap (λ (x : Shelf). x.later) (sym own_is ∙ alone.alone);
     of_text = told ∙ kept;
     blank = blank;
     plain = plain;
-    clean = subst (λ h. HasCleanDisk (state g h) → IsClean (state g h)) (sym connection)
-        (λ clean. record { disk = clean; open_still = inr (c.done clean).0 });
     made = subst (λ h. HasCleanDisk (state g h) → IsNewBook text (state g h).now.trees)
         (sym connection) (λ clean. (c.done clean).2);
-    tables = subst (λ h. HasCleanDisk (state g h) →
-        tables_of (names_in k) (tables_content (state g h).now.trees) ≡ no_tables)
-        (sym connection) (λ clean. (c.done clean).2.tables (names_in k));
-    left = subst (λ h. HasCleanDisk (state g h) → IsLeft text (state g h).now.trees)
-        (sym connection) (left_made alone c);
-    ruled = subst (λ h. HasCleanDisk (state g h) → IsLeftRuled text (state g h).now.trees)
-        (sym connection) (λ clean. record {
-          left = left_made alone c clean;
-          rules = λ s is. (c.done clean).2.rules s;
-          plain = (c.done clean).2.plain;
-        });
     survives = subst (λ h. Survives (state g old) (state g h) (IsNewBook text))
         (sym connection) c.survives;
   }
 
   -- rule: database-opened
-  pub opened : (old : Held S) → (HasCleanDisk (state g conn) → IsKept (state g conn).now.trees bytes
-      × IsShelfOf bytes (tables_content (state g conn).now.trees).books own
-      × IsStill (state g old) (state g conn) × IsTrue (state g conn).is_open)
+  pub opened : (old : Held S) → (HasCleanDisk (state g conn) → IsStill (state g old) (state g conn)
+      × IsTrue (state g conn).is_open × AreRuled own latest (state g conn).now.trees)
       → Survives (state g old) (state g conn) (λ _. ⊥)
-      → (HasCleanDisk (state g conn) → AreRuled own latest (state g conn).now.trees)
       → IsKeeper g k → IsOpened g old k shelf
-  opened old found survives ruled keeper = record {
-    fresh = fresh;
+  opened old found survives keeper = record {
+    begins = begins keeper (λ clean. (found clean).1);
     keeper = keeper;
-    books = subst (λ h. HasCleanDisk (state g h) →
-        IsShelfOf k.text (tables_content (state g h).now.trees).books shelf) (sym connection)
-        (λ clean. subst (λ t. IsShelfOf t (tables_content (state g conn).now.trees).books shelf)
-        (sym told) (subst (IsShelfOf bytes (tables_content (state g conn).now.trees).books) own_is
-        (found clean).1));
-    left = λ clean. (keeper.held clean (is_open clean)).left;
     ruled = subst (λ h. HasCleanDisk (state g h) → AreRuled shelf latest (state g h).now.trees)
         (sym connection)
-        (λ clean. subst (λ s. AreRuled s latest (state g conn).now.trees) own_is (ruled clean));
-    clean = subst (λ h. HasCleanDisk (state g h) → IsClean (state g h)) (sym connection)
-        (λ clean. record { disk = clean; open_still = inr (found clean).3 });
+        (λ clean. subst (λ s. AreRuled s latest (state g conn).now.trees) own_is (found clean).2);
     still =
         subst (λ h. HasCleanDisk (state g h) → IsStill (state g old) (state g h)) (sym connection)
-        (λ clean. (found clean).2);
+        (λ clean. (found clean).0);
     survives = subst (λ h. Survives (state g old) (state g h) (λ _. ⊥)) (sym connection) survives;
   }
-    where
-      is_open : HasCleanDisk (state g k.connection) → IsTrue (state g k.connection).is_open
-      is_open = subst (λ h. HasCleanDisk (state g h) → IsTrue (state g h).is_open)
-          (sym connection) (λ clean. (found clean).3)
 
 -- rule: database-made.created
 pub not_created : {S A E : Type 0} (g : Ghosts S) (text : List ℕ) (old new : Held S)

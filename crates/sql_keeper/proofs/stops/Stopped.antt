@@ -16,7 +16,7 @@ use Rattle.sql_keeper.specs.Commits.{Becomes}
 use Rattle.sql_keeper.specs.Sweeps.{BecomesSwept}
 use Rattle.sql_keeper.specs.Content.{last_in}
 use Rattle.sql_keeper.specs.Inside.{IsClean, IsKeeper, KeeperState, names_in}
-use Rattle.sql_keeper.specs.Left.{IsKept}
+use Rattle.sql_keeper.specs.Left.{IsHeld, IsKept}
 use Rattle.sql_keeper.specs.Opened.{IsOpened}
 use Rattle.sql_keeper.specs.Shelves.{IsShelfOf}
 use Rattle.sql_keeper.specs.Stops.{MayLeave, trees_in}
@@ -44,25 +44,27 @@ module _ {S T : Type 0} (g : Ghosts S) (e : Ghosts T) (law : AreSettled g) (old 
     may_now : MayLeave g old (trees_in e new)
     may_now = subst (MayLeave g old) (sym shows) may
 
+    held_now : IsHeld new.text shelf new.last (trees_in e new)
+    held_now = o.begins.held after
+
     text_is : new.text ≡ old.text
     text_is = one_kept (trees_in e new) old.text new.text
-        (keeper.found clean (trees_in e new) may_now).left.kept (o.left after).left.kept
+        (keeper.found clean (trees_in e new) may_now).left.kept held_now.left.left.kept
 
     books_are : IsShelfOf old.text (tables_content (trees_in e new)).books shelf
     books_are = subst (λ t. IsShelfOf t (tables_content (trees_in e new)).books shelf) text_is
-        (o.books after)
+        held_now.books
 
     at_rest_now : IsClean (state g old.connection) → (trees_in e new ≡ trees_in g old)
         × (shelf ≡ old.shelf) × (new.last ≡ old.last)
     at_rest_now rest =
         let same = at_rest g law old keeper rest (trees_in e new) may_now in
-        let held = keeper.held rest.disk (open_of (state g old.connection) keeper.stays rest) in
-        let open_now = open_of (state e new.connection) o.keeper.stays (o.clean after) in (
+        let held = keeper.held rest.disk (open_of (state g old.connection) keeper.stays rest) in (
           same,
           same_shelf old.text (tables_content (trees_in g old)).books shelf old.shelf
               (subst (λ d. IsShelfOf old.text (tables_content d).books shelf) same books_are)
               held.books,
-          (o.keeper.held after open_now).moment
+          held_now.moment
               ∙ ap (λ d. last_in (tables_content d).meta) same ∙ sym held.moment,
         )
 
@@ -70,11 +72,9 @@ module _ {S T : Type 0} (g : Ghosts S) (e : Ghosts T) (law : AreSettled g) (old 
     found_after = record {
       honest = clean;
       may = may_now;
-      left = o.left after;
+      fresh = o.begins.fresh;
+      held = held_now;
       text = text_is;
-      own = o.fresh.own;
-      uncounted = o.fresh.uncounted;
-      books = books_are;
       rests = at_rest_now;
     }
 

@@ -1,6 +1,5 @@
 use Rattle.std.proofs.Common.{◌∙◌}
 use Rattle.std.specs.String.{string_bytes}
-use Rattle.std.proofs.lemmas.Str.{IsUtf8-string_bytes}
 use Rattle.sqlite.specs.Held.{state}
 use Rattle.sql_keeper.proofs.openings.Made.{created_read}
 use Rattle.sql_keeper.proofs.openings.Opens.{created, not_created}
@@ -21,10 +20,10 @@ returns-in-Ok-make_tables-clause-created g c =
     c.keeper_of.ensures.shelf c.in-Ok.ensures.given c.keeper_of.ensures.own
     c.keeper_of.ensures.text
     c.keeper_of.ensures.uncounted c.in-Ok.ensures.alone.first c.in-Ok.ensures.text
-    c.keeper_of.ensures.live
-    (IsUtf8-string_bytes c.in-Ok.read.text) c.args.connection
+    c.args.connection
     c.in-Ok-make_tables.field-0 c.in-Ok.ensures.alone c.in-Ok-make_tables.ensures.blank
     c.in-Ok-make_tables.ensures.plain c.in-Ok-make_tables.ensures.creates
+    c.keeper_of.ensures.kept
 
 pub returns-in-Err-make_tables-clause-refused : goal.returns-in-Err-make_tables-clause-refused
 returns-in-Err-make_tables-clause-refused g c =

@@ -1,4 +1,3 @@
-use Rattle.std.proofs.lemmas.Str.{IsUtf8-string_bytes}
 use Rattle.sql_keeper.proofs.migrations.Moved.{any_idle, any_open, any_read, is_migrated}
 use Rattle.sql_keeper.proofs.keeper.SqlKeeper.migrate.Goals as goal
 
@@ -16,5 +15,4 @@ returns-in-Ok-clause-migrated g c =
     is_migrated g.S.Store c.keeper_of.result.0 c.books_of_any.new.conn c.args.connection
     c.keeper_of.result.1 c.in-Ok.read c.keeper_of.ensures.connection c.keeper_of.ensures.shelf
     c.keeper_of.ensures.own c.keeper_of.ensures.text c.keeper_of.ensures.uncounted
-    c.keeper_of.ensures.kept c.keeper_of.ensures.live (IsUtf8-string_bytes c.in-Ok.read.text)
-    c.in-Ok.ensures.finds
+    c.keeper_of.ensures.kept c.in-Ok.ensures.finds

@@ -1,6 +1,5 @@
 use Rattle.std.proofs.Common.{refl}
 use Rattle.std.specs.String.{string_bytes}
-use Rattle.std.proofs.lemmas.Str.{IsUtf8-string_bytes}
 use Rattle.sql_keeper.proofs.openings.Made.{ruled_read}
 use Rattle.sql_keeper.proofs.openings.Opens.{opened}
 use Rattle.sql_keeper.proofs.keeper.SqlKeeper.open.Goals as goal
@@ -16,7 +15,6 @@ returns-in-Ok-clause-opened g c =
     c.in-Ok.read.given c.in-Ok.read.own (string_bytes c.in-Ok.read.text)
     (string_bytes c.in-Ok.read.text) c.keeper_of.ensures.connection
     c.keeper_of.ensures.shelf finds.given c.keeper_of.ensures.own c.keeper_of.ensures.text
-    c.keeper_of.ensures.uncounted finds.read refl c.keeper_of.ensures.live
-    (IsUtf8-string_bytes c.in-Ok.read.text) c.args.connection
-    (λ clean. let it = finds.found clean in (it.0.kept, it.0.books, it.1, it.2)) finds.survives
-    (λ clean. (finds.found clean).3) c.keeper_of.ensures.kept
+    c.keeper_of.ensures.uncounted finds.read refl c.args.connection
+    (λ clean. let it = finds.found clean in (it.1, it.2, it.3)) finds.survives
+    c.keeper_of.ensures.kept
