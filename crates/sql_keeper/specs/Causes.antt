@@ -1,9 +1,10 @@
 -- Why a database isn't opened: its causes, of which no two hold of one database.
 -- Source: profile.
-use Rattle.std.specs.Prelude.{◌≡◌, ◌<◌, ◌⊎◌, Some}
+use Rattle.std.specs.Prelude.{◌≡◌, ◌<◌, ◌⊎◌, IfErr, Result, Some}
 use Rattle.sql_tables.specs.Words.{TablesVersion}
 use Rattle.sqlite_trees.specs.Tree.{Trees}
 use Rattle.sqlite.specs.Effect.{Database}
+use Rattle.sqlite.specs.State.{HasCleanDisk, State}
 use Rattle.sql_tables.specs.Schema.{latest, schema_at}
 use Rattle.sql_tables.specs.Stages.{AreStoredAt}
 use Rattle.sql_rows.specs.Content.{tables_content}
@@ -37,6 +38,14 @@ IsUnruledMeta v trees = IsRefusedMeta v (tables_content trees).meta
 abbrev pub AreUnruled : TablesVersion → Trees → Type 0
 AreUnruled v trees = (row : Meta) → (tables_content trees).meta ≡ Some row → (row.version ≡ v)
     × (IsRuledMeta row → (v ≡ latest) × ¬ HasShelf row.book (tables_content trees).books)
+
+-- a fault of what was read of a version: of another version that is kept, or of rules that what is
+-- there isn't in, and of nothing else
+pub record TellsVersion {A : Type 0} (v : TablesVersion) (IsOut : Type 0) (old new : State)
+    (result : Result A OpenFault) : Type 0 where
+  pub version : HasCleanDisk new → IfErr result (λ e. e ≡ Version → IsOtherThan v old.now.trees)
+  pub rules : HasCleanDisk new → IfErr result (λ e. e ≡ Rules → IsOut)
+  pub other : IfErr result (λ e. (¬ (e ≡ Foreign)) × (¬ (e ≡ Older)))
 
 -- ---- causes
 

@@ -17,6 +17,7 @@ use Rattle.sql_tables.specs.declared.fault.OpenFault.{OpenFault}
 use Rattle.sql_tables.specs.declared.fault.OpenFault.TheVariants.{Foreign, Version, Rules, Older}
 use Rattle.sql_keeper.specs.Books.{IsBookOf}
 use Rattle.sql_keeper.specs.Causes.{AreUnruled, HasFault, IsOtherThan, IsStores, IsUnruledMeta}
+use Rattle.sql_keeper.specs.Causes.{TellsVersion}
 use Rattle.sql_keeper.specs.Content.{last_in}
 use Rattle.sql_keeper.specs.Left.{IsKept}
 use Rattle.sql_keeper.specs.Shelves.{IsShelfOf}
@@ -51,11 +52,7 @@ pub record ReadsBooks (old new : State) (result : Result ReadBooks OpenFault) : 
   pub given : IfOk result (λ r. r.given ≡ r.own)
   pub read : IfOk result (λ r. IsBookOf (string_bytes r.text) r.own.first)
   pub only : OnlyReads old new
-  pub version : HasCleanDisk new →
-      IfErr result (λ fault. fault ≡ Version → IsOtherThan latest old.now.trees)
-  pub rules : HasCleanDisk new →
-      IfErr result (λ fault. fault ≡ Rules → AreUnruled latest old.now.trees)
-  pub ours : IfErr result (λ fault. (¬ (fault ≡ Foreign)) × (¬ (fault ≡ Older)))
+  pub faults : TellsVersion latest (AreUnruled latest old.now.trees) old new result
   pub survives : Survives old new (λ _. old.is_open ≡ false)
 
 -- the tables are ours, of the latest version, and this is their shelf; nothing was written

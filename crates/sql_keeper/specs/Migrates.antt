@@ -32,7 +32,7 @@ use Rattle.sql_tables.specs.Opens.{IsVersion}
 use Rattle.sql_tables.specs.declared.fault.OpenFault.{OpenFault}
 use Rattle.sql_tables.specs.declared.fault.OpenFault.TheVariants.{Foreign, Version, Rules, Older}
 use Rattle.sql_keeper.specs.Books.{IsBookOf}
-use Rattle.sql_keeper.specs.Causes.{IsOtherThan}
+use Rattle.sql_keeper.specs.Causes.{IsOtherThan, TellsVersion}
 use Rattle.sql_keeper.specs.Content.{Names, is_reserved, tables_of}
 use Rattle.sql_keeper.specs.Inside.{KeeperState}
 use Rattle.sql_keeper.specs.Left.{IsHeld}
@@ -204,9 +204,7 @@ pub record MigratesTables (v : TablesVersion) (old new : State)
   pub first : IfOk result (λ r. IsBookOf (string_bytes r.text) r.own.first)
   pub kept : HasCleanDisk new → IsTrue new.is_open → OnErr result (IsStill old new)
   pub idle : OnOk result (HasIdleTables new)
-  pub version : HasCleanDisk new → IfErr result (λ e. e ≡ Version → IsOtherThan v old.now.trees)
-  pub rules : HasCleanDisk new → IfErr result (λ e. e ≡ Rules → ¬ IsRuledVersion v old.now.trees)
-  pub other : IfErr result (λ e. (¬ (e ≡ Foreign)) × (¬ (e ≡ Older)))
+  pub faults : TellsVersion v (¬ IsRuledVersion v old.now.trees) old new result
   pub survives : Survives old new (IsLeftLatest v old.now.trees)
 
 -- the same where each row was tested before; a fault is of the shelf, of a row or of the migration

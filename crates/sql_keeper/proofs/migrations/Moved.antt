@@ -114,11 +114,13 @@ module _ {S : Type 0} (g : Ghosts S) (old begun : Held S)
       kept = λ clean. undone (was_clean b.brings.survives ends clean)
           (b.brings.kept (mid_clean ends clean)) (rolled clean);
       idle = tt;
-      version = λ clean k. subst (λ (d : Database). IsOtherThan v d.trees) same_now
-          (b.version (mid_clean ends clean) (same ∙ k));
-      rules = λ clean k ruled. b.rules (mid_clean ends clean) (same ∙ k)
-          (subst (λ (d : Database). IsRuledVersion v d.trees) (sym same_now) ruled);
-      other = ((λ k. b.other.0 (same ∙ k)), (λ k. b.other.1 (same ∙ k)));
+      faults = record {
+        version = λ clean k. subst (λ (d : Database). IsOtherThan v d.trees) same_now
+            (b.version (mid_clean ends clean) (same ∙ k));
+        rules = λ clean k ruled. b.rules (mid_clean ends clean) (same ∙ k)
+            (subst (λ (d : Database). IsRuledVersion v d.trees) (sym same_now) ruled);
+        other = ((λ k. b.other.0 (same ∙ k)), (λ k. b.other.1 (same ∙ k)));
+      };
       survives = survives_weaker (state g old) new (λ _. ⊥)
           (IsLeftLatest v (state g old).now.trees) (λ clean db no. absurd no)
           (survives_to b.brings.survives ends);
@@ -168,9 +170,11 @@ module _ {S : Type 0} (g : Ghosts S) (old begun : Held S)
               };
               settled = shows.now_is ∙ sym shows.committed_is;
             };
-        version = λ clean. tt;
-        rules = λ clean. tt;
-        other = tt;
+        faults = record {
+          version = λ clean. tt;
+          rules = λ clean. tt;
+          other = tt;
+        };
         survives = survives_whole;
       }
 
@@ -195,24 +199,26 @@ module _ {S : Type 0} (g : Ghosts S) (old begun : Held S)
               absurd (let no : true ≡ false = sym shows.mode ∙ ended.1 in cc)
         ];
         idle = tt;
-        version = λ clean k. absurd (elim store [
-          | inl is ↦ (let no : Store ≡ Version = sym is ∙ k in cc)
-          | inr is ↦ (let no : Memory ≡ Version = sym is ∙ k in cc)
-        ]);
-        rules = λ clean k. absurd (elim store [
-          | inl is ↦ (let no : Store ≡ Rules = sym is ∙ k in cc)
-          | inr is ↦ (let no : Memory ≡ Rules = sym is ∙ k in cc)
-        ]);
-        other = (
-          (λ k. elim store [
-            | inl is ↦ (let no : Store ≡ Foreign = sym is ∙ k in cc)
-            | inr is ↦ (let no : Memory ≡ Foreign = sym is ∙ k in cc)
-          ]),
-          (λ k. elim store [
-            | inl is ↦ (let no : Store ≡ Older = sym is ∙ k in cc)
-            | inr is ↦ (let no : Memory ≡ Older = sym is ∙ k in cc)
-          ]),
-        );
+        faults = record {
+          version = λ clean k. absurd (elim store [
+            | inl is ↦ (let no : Store ≡ Version = sym is ∙ k in cc)
+            | inr is ↦ (let no : Memory ≡ Version = sym is ∙ k in cc)
+          ]);
+          rules = λ clean k. absurd (elim store [
+            | inl is ↦ (let no : Store ≡ Rules = sym is ∙ k in cc)
+            | inr is ↦ (let no : Memory ≡ Rules = sym is ∙ k in cc)
+          ]);
+          other = (
+            (λ k. elim store [
+              | inl is ↦ (let no : Store ≡ Foreign = sym is ∙ k in cc)
+              | inr is ↦ (let no : Memory ≡ Foreign = sym is ∙ k in cc)
+            ]),
+            (λ k. elim store [
+              | inl is ↦ (let no : Store ≡ Older = sym is ∙ k in cc)
+              | inr is ↦ (let no : Memory ≡ Older = sym is ∙ k in cc)
+            ]),
+          );
+        };
         survives = survives_whole;
       }
 
@@ -295,9 +301,11 @@ module _ (v : ℕ) (old mid new : State) (found : HasCleanDisk mid → IsFound v
       first = m.first;
       kept = λ clean on. tt;
       idle = m.idle;
-      version = λ clean. tt;
-      rules = λ clean. tt;
-      other = tt;
+      faults = record {
+        version = λ clean. tt;
+        rules = λ clean. tt;
+        other = tt;
+      };
       survives = whole_since m.survives;
     }
       where
@@ -337,13 +345,13 @@ module _ (v : ℕ) (old mid new : State) (same : v ≡ latest)
   pub any_unread : (e : OpenFault) → ReadsBooks mid new (Err e) → FindsAny old new (Err e)
   any_unread e reads =
       none_from v old mid new found one known e reads.only.cleanness
-      (λ clean is. subst (λ n. IsOtherThan n mid.now.trees) (sym same) (reads.version clean is))
+      (λ clean is. subst (λ n. IsOtherThan n mid.now.trees) (sym same) (reads.faults.version clean is))
       (λ clean is ruled.
       let r = subst (λ n. IsRuledVersion n mid.now.trees) same ruled in
-      let told = reads.rules clean is r.row r.is in
+      let told = reads.faults.rules clean is r.row r.is in
       let own = r.of_version told.0 in
       (told.1 own.ruled).1 own.shelf)
-      reads.ours reads.only.still
+      reads.faults.other reads.only.still
       (survives_weaker old new (λ _. ⊥)
       (λ db. (n : ℕ) × IsVersion n × IsLeftLatest n old.now.trees db) (λ clean db no. absurd no)
       (reads_survived v old mid new found one reads.only reads.survives))

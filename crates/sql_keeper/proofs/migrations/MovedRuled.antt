@@ -240,9 +240,11 @@ module _ (v : ℕ) (old mid new : State) (has : HasTested v old mid) where
       first = m.first;
       kept = λ clean on. tt;
       idle = m.idle;
-      version = λ clean. tt;
-      rules = λ clean. tt;
-      other = tt;
+      faults = record {
+        version = λ clean. tt;
+        rules = λ clean. tt;
+        other = tt;
+      };
       survives = left_since m.survives;
     };
     version = λ clean. tt;
@@ -254,10 +256,10 @@ module _ (v : ℕ) (old mid new : State) (has : HasTested v old mid) where
   moved_ruled (Err e) m = record {
     moved = tt;
     version = λ clean is. subst (λ (d : Database). IsOtherThan v d.trees)
-        (now_since (omega (arith, m.survives.clean, clean))) (m.version clean is);
-    rules = λ clean is ruled. m.rules clean is (subst (λ (d : Database). IsRuledVersion v d.trees)
+        (now_since (omega (arith, m.survives.clean, clean))) (m.faults.version clean is);
+    rules = λ clean is ruled. m.faults.rules clean is (subst (λ (d : Database). IsRuledVersion v d.trees)
         (sym (now_since (omega (arith, m.survives.clean, clean)))) ruled);
-    other = m.other;
+    other = m.faults.other;
     still = λ clean on.
         let t = has.still (omega (arith, m.survives.clean, clean)) in
         let s = m.kept clean on in

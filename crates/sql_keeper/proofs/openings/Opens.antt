@@ -174,19 +174,19 @@ module _ (v : ℕ) (old mid new : State) (found : HasCleanDisk mid → IsFound v
     cause = λ clean.
         let was = found (only.cleanness clean) in
         subst (λ db. IsStores e ⊎ HasFault e db) was.unchanged.0.now_is
-        (caused e mid.now (λ is. absurd (reads.ours.0 is)) (λ is. record {
+        (caused e mid.now (λ is. absurd (reads.faults.other.0 is)) (λ is. record {
           version = v;
           known = was.version;
           schema = was.schema;
           stored = was.stored;
-          other = subst (λ n. IsOtherThan n mid.now.trees) (sym same) (reads.version clean is);
+          other = subst (λ n. IsOtherThan n mid.now.trees) (sym same) (reads.faults.version clean is);
         }) (λ is. record {
           version = v;
           known = was.version;
           schema = was.schema;
           unruled = λ stored. subst (λ n. AreUnruled n mid.now.trees) (sym same)
-              (reads.rules clean is);
-        }) (λ is. absurd (reads.ours.1 is)));
+              (reads.faults.rules clean is);
+        }) (λ is. absurd (reads.faults.other.1 is)));
     still = still_read;
     survives = reads_survived;
   }
@@ -292,11 +292,13 @@ reads_no_meta told old new e reads finds = record {
   given = tt;
   read = tt;
   only = reads.only;
-  version = finds.version;
-  rules = λ clean is row at.
-      let it = subst (IsRefusedMeta latest) at (finds.rules clean is) in
-      (it.0, λ ruled. absurd (it.1 ruled));
-  ours = finds.other;
+  faults = record {
+    version = finds.version;
+    rules = λ clean is row at.
+        let it = subst (IsRefusedMeta latest) at (finds.rules clean is) in
+        (it.0, λ ruled. absurd (it.1 ruled));
+    other = finds.other;
+  };
   survives = reads.survives;
 }
 
@@ -326,19 +328,21 @@ module _ {E : Type 0} (old mid : State) (m : MetaColumns)
         given = tt;
         read = tt;
         only = only_reads_then old mid new read.only reads.only;
-        version = λ clean is. absurd (no_version.0 is);
-        rules = λ clean is row at.
-            let before = reads.only.cleanness clean in
-            let same : row ≡ meta_of m = cc (sym at ∙ meta.found before) in (
-              ap (λ (x : Meta). x.version) same ∙ version,
-              λ ruled. (
-                refl,
-                λ has. rules clean is
-                    (told_last (λ trees. AreRuledBooks (tables_content trees).books) before
-                    (shelf_ruled row.book (tables_content old.now.trees).books has.0 has.1)),
-              ),
-            );
-        ours = (ours, no_version.1);
+        faults = record {
+          version = λ clean is. absurd (no_version.0 is);
+          rules = λ clean is row at.
+              let before = reads.only.cleanness clean in
+              let same : row ≡ meta_of m = cc (sym at ∙ meta.found before) in (
+                ap (λ (x : Meta). x.version) same ∙ version,
+                λ ruled. (
+                  refl,
+                  λ has. rules clean is
+                      (told_last (λ trees. AreRuledBooks (tables_content trees).books) before
+                      (shelf_ruled row.book (tables_content old.now.trees).books has.0 has.1)),
+                ),
+              );
+          other = (ours, no_version.1);
+        };
         survives = survive_then old mid new read.stays read.survives reads.survives;
       }
 
@@ -384,9 +388,11 @@ module _ {E : Type 0} (old mid : State) (m : MetaColumns)
         given = given;
         read = subst (λ t. IsBookOf t b.own.first) (sym told) shelf.first;
         only = both.only;
-        version = λ clean. tt;
-        rules = λ clean. tt;
-        ours = tt;
+        faults = record {
+          version = λ clean. tt;
+          rules = λ clean. tt;
+          other = tt;
+        };
         survives = both.survives;
       }
   reads_books new rows items same text is version last reads (Err e) shelf given told at rules
@@ -400,29 +406,31 @@ module _ {E : Type 0} (old mid : State) (m : MetaColumns)
         given = tt;
         read = tt;
         only = both.only;
-        version = λ clean is. absurd (let no : Version ≡ Memory' =
-            sym is ∙ either (λ rule. let no : Version ≡ Rules = sym is ∙ rule in cc) in cc);
-        rules = λ clean rule row at.
-            let before = reads.only.cleanness clean in
-            let kept : row ≡ meta_of m = cc (sym at ∙ meta.found before) in (
-              ap (λ (x : Meta). x.version) kept ∙ version,
-              λ ruled. (
-                refl,
-                λ has.
-                    let of_text : HasShelf text (tables_content old.now.trees).books =
-                    subst (λ t. HasShelf t (tables_content old.now.trees).books)
-                    (ap (λ (x : Meta). x.book) kept ∙ sym is) has in
-                    let at_mid =
-                    told_last (λ trees. HasShelf text (tables_content trees).books) before of_text in
-                    subst (λ l. IsNoShelf text (map book_at l)) same (rules rule)
-                    (subst (λ f. HasShelf text f) (λ i n. sym (reads.found clean n) i) at_mid),
-              ),
-            );
-        ours = (
-          (λ is. absurd (let no : Foreign ≡ Memory' =
-              sym is ∙ either (λ rule. let no : Foreign ≡ Rules = sym is ∙ rule in cc) in cc)),
-          (λ is. absurd (let no : Older ≡ Memory' =
-              sym is ∙ either (λ rule. let no : Older ≡ Rules = sym is ∙ rule in cc) in cc)),
-        );
+        faults = record {
+          version = λ clean is. absurd (let no : Version ≡ Memory' =
+              sym is ∙ either (λ rule. let no : Version ≡ Rules = sym is ∙ rule in cc) in cc);
+          rules = λ clean rule row at.
+              let before = reads.only.cleanness clean in
+              let kept : row ≡ meta_of m = cc (sym at ∙ meta.found before) in (
+                ap (λ (x : Meta). x.version) kept ∙ version,
+                λ ruled. (
+                  refl,
+                  λ has.
+                      let of_text : HasShelf text (tables_content old.now.trees).books =
+                      subst (λ t. HasShelf t (tables_content old.now.trees).books)
+                      (ap (λ (x : Meta). x.book) kept ∙ sym is) has in
+                      let at_mid =
+                      told_last (λ trees. HasShelf text (tables_content trees).books) before of_text in
+                      subst (λ l. IsNoShelf text (map book_at l)) same (rules rule)
+                      (subst (λ f. HasShelf text f) (λ i n. sym (reads.found clean n) i) at_mid),
+                ),
+              );
+          other = (
+            (λ is. absurd (let no : Foreign ≡ Memory' =
+                sym is ∙ either (λ rule. let no : Foreign ≡ Rules = sym is ∙ rule in cc) in cc)),
+            (λ is. absurd (let no : Older ≡ Memory' =
+                sym is ∙ either (λ rule. let no : Older ≡ Rules = sym is ∙ rule in cc) in cc)),
+          );
+        };
         survives = both.survives;
       }

@@ -81,7 +81,8 @@ module _ {S : Type 0} (g : Ghosts S) (law : AreSettled g) (change : Change)
   ]
 
   text_stays : new.text ≡ old.text
-  text_stays = one_kept (trees_in g new) old.text new.text kept_left.left.kept found.held.left.left.kept
+  text_stays = one_kept (trees_in g new) old.text new.text kept_left.left.kept
+      found.held.left.left.kept
 
   shelf_stays : new.shelf ≡ old.shelf
   shelf_stays = found.fresh.own ∙ same_shelf old.text (tables_content (trees_in g old)).books shelf
@@ -109,7 +110,8 @@ module _ {S : Type 0} (g : Ghosts S) (law : AreSettled g) (change : Change)
           → OnOk q (tables_in g new ≡ changed change (tables_in g old))
       told (Ok x) clean to =
           let it = found.rests clean in
-          ap (λ s. tables_of (shelf_names s) (tables_content (trees_in g new))) (found.fresh.own ∙ it.1)
+          ap (λ s. tables_of (shelf_names s) (tables_content (trees_in g new)))
+          (found.fresh.own ∙ it.1)
           ∙ ap (λ d. tables_of (names_in mid) (tables_content d)) it.0 ∙ to clean
       told (Err e) clean to = tt
 
