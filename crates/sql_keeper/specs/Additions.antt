@@ -1,20 +1,18 @@
 -- A voucher that is added, committed whole or not at all.
 -- Source: profile.
-use Rattle.std.specs.Prelude.{◌≡◌, ◌≤◌, Bool, IsTrue, Some, is_some}
-use Rattle.units.specs.Words.{Moment, latest_moment}
+use Rattle.std.specs.Prelude.{◌≡◌, ◌≤◌, Bool, IsTrue, is_some}
+use Rattle.units.specs.Words.{Moment}
 use Rattle.identifiers.specs.Words.{VoucherCode}
 use Rattle.shelves.specs.Words.{BookText}
 use Rattle.shelves.specs.Shelves.{Shelf}
 use Rattle.sqlite_trees.specs.Tree.{Trees}
-use Rattle.sqlite_trees.specs.Objects.{catalog_tree}
 use Rattle.voucher_rules.specs.declared.terms.VoucherTerms.{VoucherTerms}
 use Rattle.voucher_rules.specs.Standing.{unspent}
 use Rattle.keepers.specs.Change.{with_voucher}
-use Rattle.sql_tables.specs.Statements.{AreStored}
 use Rattle.sql_rows.specs.Content.{TablesContent, tables_content, with_meta, with_voucher_row}
-use Rattle.sql_rows.specs.Plain.{ArePlain}
 use Rattle.sql_rules.specs.Ruled.{IsInRules}
-use Rattle.sql_keeper.specs.Content.{last_in, tables_of, Names}
+use Rattle.sql_keeper.specs.Commits.{StandsAt}
+use Rattle.sql_keeper.specs.Content.{tables_of, Names}
 use Rattle.sql_keeper.specs.Tidy.{IsTidy}
 use Rattle.sql_keeper.specs.Writes.{meta_at, voucher_row, with_moment_put}
 
@@ -30,8 +28,7 @@ abbrev pub with_addition_put : Bool → VoucherCode → VoucherTerms → Moment 
 with_addition_put is_there code terms t c =
     with_voucher_row code (voucher_row (unspent terms)) (with_moment_put is_there t c)
 
--- the tables hold the voucher; they would be found again: the catalog is the same, and so are the
--- version and the books, no rowid comes twice, and the moment is in the range of moments
+-- the tables hold the voucher, and would be found again
 -- rule: database-voucher: a voucher is added whole or not at all, also over a stop
 pub record BecomesAdded (text : BookText) (code : VoucherCode) (terms : VoucherTerms) (t : Moment)
     (old new : Trees) : Type 0 where
@@ -43,11 +40,4 @@ pub record BecomesAdded (text : BookText) (code : VoucherCode) (terms : VoucherT
   -- where all was in its rules, all is
   pub rules : (shelf : Shelf) → IsTrue (is_some (tables_content old).meta)
       → IsInRules shelf (tables_content old) → IsInRules shelf (tables_content new)
-  pub plain : ArePlain old → ArePlain new
-  pub meta : (tables_content new).meta ≡ Some (meta_at text t)
-  pub last : t ≤ latest_moment
-  -- it isn't before the last one
-  pub later : last_in (tables_content old).meta ≤ t
-  pub books : (tables_content new).books ≡ (tables_content old).books
-  pub catalog : new catalog_tree ≡ old catalog_tree
-  pub stored : AreStored new
+  pub stands : StandsAt text t old new

@@ -7,7 +7,6 @@ use Rattle.identifiers.specs.Words.{SessionName, AccountName}
 use Rattle.shelves.specs.Words.{BookText}
 use Rattle.sqlite_trees.specs.declared.store.Store.{Ghosts}
 use Rattle.sqlite_trees.specs.Tree.{Trees}
-use Rattle.sqlite_trees.specs.Objects.{catalog_tree}
 use Rattle.sqlite.specs.State.{State, HasCleanDisk}
 use Rattle.tariffs.specs.Books.{Book}
 use Rattle.shelves.specs.Shelves.{IsShelf, Shelf, count, with_book}
@@ -17,12 +16,10 @@ use Rattle.shelves.specs.declared.fault.ShelfFault.TheVariants.{Memory}
 use Rattle.keepers.specs.declared.fault.StoreFault.{StoreFault}
 use Rattle.keepers.specs.Faults.{HasCause}
 use Rattle.keepers.specs.declared.fault.StoreFault.TheVariants.{Memory as NoMemory}
-use Rattle.sql_tables.specs.Statements.{AreStored}
 use Rattle.sql_rows.specs.Content.{TablesContent, tables_content, with_book_row}
-use Rattle.sql_rows.specs.Plain.{ArePlain}
 use Rattle.sql_rules.specs.Ruled.{IsInRules, is_book}
 use Rattle.sql_keeper.specs.Books.{IsBookFault, IsBookOf}
-use Rattle.sql_keeper.specs.Commits.{CommitsWhole}
+use Rattle.sql_keeper.specs.Commits.{CommitsWhole, StaysTabled}
 use Rattle.sql_keeper.specs.Content.{Names, last_in, tables_of}
 use Rattle.sql_keeper.specs.Inside.{KeeperState, clean_in, failed_in, tables_in}
 use Rattle.sql_keeper.specs.Shelves.{IsShelfOf}
@@ -61,11 +58,9 @@ pub record BecomesDated (n : BookNumber) (from : Moment) (text : BookText) (old 
       → IsTrue (is_book n (record { starts = from; content = text }))
       → IsInRules shelf (tables_content old)
       → IsInRules (with_book shelf from b) (tables_content new)
-  pub plain : ArePlain old → ArePlain new
   pub books : (tables_content new).books ≡ (with_dated n from text (tables_content old)).books
   pub meta : (tables_content new).meta ≡ (tables_content old).meta
-  pub catalog : new catalog_tree ≡ old catalog_tree
-  pub stored : AreStored new
+  pub tabled : StaysTabled old new
 
 -- the text is a book's that makes a shelf with those of the shelf that the tables keep, behind them
 -- and under the next number, from a moment in the range of moments on

@@ -1,7 +1,7 @@
 -- A change, committed whole or not at all.
 -- Source: profile.
 use Rattle.std.specs.Prelude.{◌≡◌, ◌≤◌, Some, IsTrue, OnOk, OnErr, Result, is_some}
-use Rattle.units.specs.Words.{latest_moment}
+use Rattle.units.specs.Words.{Moment, latest_moment}
 use Rattle.shelves.specs.Words.{BookText}
 use Rattle.shelves.specs.Shelves.{Shelf}
 use Rattle.sqlite_trees.specs.Tree.{Trees}
@@ -16,7 +16,7 @@ use Rattle.sql_rows.specs.Plain.{ArePlain}
 use Rattle.sql_rules.specs.Ruled.{IsInRules}
 use Rattle.sql_keeper.specs.Content.{last_in, shelf_names, tables_of, Names}
 use Rattle.sql_keeper.specs.Tidy.{IsTidy}
-use Rattle.sql_keeper.specs.Writes.{meta_with}
+use Rattle.sql_keeper.specs.Writes.{meta_at}
 
 -- outside a transaction: the change is committed, or nothing is changed, and a stop leaves what was
 -- left before or the change
@@ -29,9 +29,24 @@ pub record Transacts {A E : Type 0} (change : TablesContent → TablesContent) (
     pub idle : HasIdleTables new
     pub survives : Survives old new (λ db. IsTrue old.is_open × Turns change old.now.trees db)
 
--- the tables hold the change and nothing else; they would be found again: the catalog is the same,
--- and so are the version and the books, no rowid comes twice, and the moment is in the range of
--- moments
+-- the tables are those that were there: the catalog is the same, no rowid comes twice, and where rows
+-- were as the statements write them, they are
+pub record StaysTabled (old new : Trees) : Type 0 where
+  pub catalog : new catalog_tree ≡ old catalog_tree
+  pub stored : AreStored new
+  pub plain : ArePlain old → ArePlain new
+
+-- and they would be found again, at this moment: the version and the books are the same, and the
+-- moment is in the range of moments
+pub record StandsAt (text : BookText) (t : Moment) (old new : Trees) : Type 0 where
+  pub tabled : StaysTabled old new
+  pub meta : (tables_content new).meta ≡ Some (meta_at text t)
+  pub last : t ≤ latest_moment
+  -- it isn't before the last one
+  pub later : last_in (tables_content old).meta ≤ t
+  pub books : (tables_content new).books ≡ (tables_content old).books
+
+-- the tables hold the change and nothing else, and would be found again
 -- rule: tidy-rows, database-writes.commits-change, rows-ruled.ruled-change
 pub record Becomes (names : Names) (text : BookText) (change : Change) (old new : Trees)
     : Type 0 where
@@ -43,14 +58,7 @@ pub record Becomes (names : Names) (text : BookText) (change : Change) (old new 
   pub rules : (shelf : Shelf) → names ≡ shelf_names shelf
       → IsTrue (is_some (tables_content old).meta) → IsInRules shelf (tables_content old)
       → IsInRules shelf (tables_content new)
-  pub plain : ArePlain old → ArePlain new
-  pub meta : (tables_content new).meta ≡ Some (meta_with text change)
-  pub last : change.moment ≤ latest_moment
-  -- it isn't before the last one
-  pub later : last_in (tables_content old).meta ≤ change.moment
-  pub books : (tables_content new).books ≡ (tables_content old).books
-  pub catalog : new catalog_tree ≡ old catalog_tree
-  pub stored : AreStored new
+  pub stands : StandsAt text change.moment old new
 
 -- what the tables become is committed whole, or they are as before; a stop leaves one or the other
 pub record CommitsWhole {A E : Type 0} (Become : Trees → Trees → Type 0) (old new : State)

@@ -4,14 +4,13 @@
 use Rattle.std.specs.Prelude.{◌≡◌, ◌≤◌, true, List, Option, Some, None, Result, map, nat_le}
 use Rattle.std.specs.Prelude.{if◌then◌else◌, IsTrue, OnErr, OnOk, is_some}
 use Rattle.std.specs.List.{list_all}
-use Rattle.units.specs.Words.{Moment, latest_moment}
+use Rattle.units.specs.Words.{Moment}
 use Rattle.identifiers.specs.Texts.{same_name}
 use Rattle.identifiers.specs.Words.{AccountName}
 use Rattle.shelves.specs.Words.{BookText}
 use Rattle.sqlite_trees.specs.Tree.{Trees}
-use Rattle.sqlite_trees.specs.Objects.{catalog_tree}
 use Rattle.sqlite.specs.State.{State, HasCleanDisk, Shows, Survives}
-use Rattle.sql_tables.specs.Statements.{AreStored, HasIdleTables, IsTabled, IsIdle, IsStill}
+use Rattle.sql_tables.specs.Statements.{HasIdleTables, IsTabled, IsIdle, IsStill}
 use Rattle.shelves.specs.Shelves.{Shelf}
 use Rattle.ledger.specs.Lists.{EachIn}
 use Rattle.reserving.specs.Rows.{AreApart}
@@ -23,9 +22,9 @@ use Rattle.sql_rows.specs.Content.{with_meta}
 use Rattle.sql_rows.specs.Each.{with_counters, with_each, with_sessions}
 use Rattle.sql_rows.specs.Lists.{AreAccounts}
 use Rattle.sql_rows.specs.Makes.{Makes, Turns}
-use Rattle.sql_rows.specs.Plain.{ArePlain}
 use Rattle.sql_rules.specs.Ruled.{IsInRules}
-use Rattle.sql_keeper.specs.Content.{last_in, shelf_names, tables_of, Names}
+use Rattle.sql_keeper.specs.Commits.{StandsAt}
+use Rattle.sql_keeper.specs.Content.{shelf_names, tables_of, Names}
 use Rattle.sql_keeper.specs.LiveRows.{IsToldUncounted}
 use Rattle.sql_keeper.specs.RuledRows.{is_ruled_swept}
 use Rattle.sql_keeper.specs.Tests.{AreWritable}
@@ -180,11 +179,4 @@ pub record BecomesSwept (names : Names) (text : BookText) (shelf : Shelf) (t : M
   -- where all was in its rules, by the books of these names, all is
   pub rules : (own : Shelf) → names ≡ shelf_names own → IsTrue (is_some (tables_content old).meta)
       → IsInRules own (tables_content old) → IsInRules own (tables_content new)
-  pub plain : ArePlain old → ArePlain new
-  pub meta : (tables_content new).meta ≡ Some (meta_at text t)
-  pub last : t ≤ latest_moment
-  -- it isn't before the last one
-  pub later : last_in (tables_content old).meta ≤ t
-  pub books : (tables_content new).books ≡ (tables_content old).books
-  pub catalog : new catalog_tree ≡ old catalog_tree
-  pub stored : AreStored new
+  pub stands : StandsAt text t old new

@@ -49,13 +49,13 @@ become text code terms t last ruled old new later turns = record {
       (tidy_addition names text code terms t (tables_content old) tidy);
   rules = λ shelf there in'. subst (IsInRules shelf) (sym turns.content)
       (addition_ruled shelf (tables_content old) there in' text code terms t later ruled);
-  plain = turns.plain;
-  meta = ap (λ (c : TablesContent). c.meta) turns.content;
-  last = last;
-  later = later;
-  books = ap (λ (c : TablesContent). c.books) turns.content;
-  catalog = turns.catalog;
-  stored = turns.stored;
+  stands = record {
+    tabled = record { catalog = turns.catalog; stored = turns.stored; plain = turns.plain };
+    meta = ap (λ (c : TablesContent). c.meta) turns.content;
+    last = last;
+    later = later;
+    books = ap (λ (c : TablesContent). c.books) turns.content;
+  };
 }
 
 -- so it is where the moment alone is put, or is there already

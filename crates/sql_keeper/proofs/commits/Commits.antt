@@ -152,14 +152,14 @@ module _ (names : Names) (text : List ℕ) (change : Change) (texts : Option Kep
             (change_ruled shelf (tables_content old) there in' (meta_with text change) change texts refl
             later (subst (λ n. is_ruled_change n change ≡ true) is may.ruled) texts_ruled
             (subst (λ n. AreWritable n change.rows.sessions change.rows.groups) is may.reservations))));
-        plain = turns.plain;
-        meta = kept;
-        last = last;
-        later = later;
-        books = ap (λ (c : TablesContent). c.books) turns.content ∙ ap (λ (b : Beside). b.books)
-            (change_meta names (meta_with text change) change texts (tables_content old));
-        catalog = turns.catalog;
-        stored = turns.stored;
+        stands = record {
+          tabled = record { catalog = turns.catalog; stored = turns.stored; plain = turns.plain };
+          meta = kept;
+          last = last;
+          later = later;
+          books = ap (λ (c : TablesContent). c.books) turns.content ∙ ap (λ (b : Beside). b.books)
+              (change_meta names (meta_with text change) change texts (tables_content old));
+        };
       }
 
   -- and reservations are stored so

@@ -94,21 +94,21 @@ left_ruled_again = record {
   };
   committed = λ text shelf change old new left is b. record {
     left = left_again.committed _ text change old new left.left b;
-    rules = ruled_by text shelf old new b.books is
+    rules = ruled_by text shelf old new b.stands.books is
         (b.rules shelf refl (there text old left) (left.rules shelf is));
-    plain = b.plain left.plain;
+    plain = b.stands.tabled.plain left.plain;
   };
   added = λ text code terms t old new left b. record {
     left = left_again.added text code terms t old new left.left b;
     rules = λ s is. b.rules s (there text old left)
-        (left.rules s (subst (λ rows. IsShelfOf text rows s) b.books is));
-    plain = b.plain left.plain;
+        (left.rules s (subst (λ rows. IsShelfOf text rows s) b.stands.books is));
+    plain = b.stands.tabled.plain left.plain;
   };
   swept = λ text shelf prices t old new left is b. record {
     left = left_again.swept _ text prices t old new left.left b;
-    rules = ruled_by text shelf old new b.books is
+    rules = ruled_by text shelf old new b.stands.books is
         (b.rules shelf refl (there text old left) (left.rules shelf is));
-    plain = b.plain left.plain;
+    plain = b.stands.tabled.plain left.plain;
   };
   dated = λ text more n from old new left may soon b. record {
     left = left_again.dated text more n from old new left.left may b;
@@ -120,7 +120,7 @@ left_ruled_again = record {
         (b.rules may.shelf may.book
         (book_ruled may.shelf may.book n from more may.number soon may.behind)
         (left.rules may.shelf may.is));
-    plain = b.plain left.plain;
+    plain = b.tabled.plain left.plain;
   };
 }
 
@@ -163,8 +163,8 @@ pub held_committed : (text : List ℕ) (shelf : Shelf) (last : ℕ) (change : Ch
     → Becomes (shelf_names shelf) text change old new → IsHeld text shelf change.moment new
 held_committed text shelf last change old new held b = record {
   left = left_ruled_again.committed text shelf change old new held.left held.books b;
-  books = subst (λ rows. IsShelfOf text rows shelf) (sym b.books) held.books;
-  moment = sym (ap last_in b.meta);
+  books = subst (λ rows. IsShelfOf text rows shelf) (sym b.stands.books) held.books;
+  moment = sym (ap last_in b.stands.meta);
 }
 
 -- a moment that isn't before the last one
@@ -204,8 +204,8 @@ pub held_added : (text : List ℕ) (shelf : Shelf) (last : ℕ) (code : List ℕ
     → IsHeld text shelf t new
 held_added text shelf last code terms t old new held b = record {
   left = left_ruled_again.added text code terms t old new held.left b;
-  books = subst (λ rows. IsShelfOf text rows shelf) (sym b.books) held.books;
-  moment = sym (ap last_in b.meta);
+  books = subst (λ rows. IsShelfOf text rows shelf) (sym b.stands.books) held.books;
+  moment = sym (ap last_in b.stands.meta);
 }
 
 pub held_swept : (text : List ℕ) (shelf own : Shelf) (last t : ℕ) (old new : Trees)
@@ -213,8 +213,8 @@ pub held_swept : (text : List ℕ) (shelf own : Shelf) (last t : ℕ) (old new :
     → IsHeld text own t new
 held_swept text shelf own last t old new held b = record {
   left = left_ruled_again.swept text own shelf t old new held.left held.books b;
-  books = subst (λ rows. IsShelfOf text rows own) (sym b.books) held.books;
-  moment = sym (ap last_in b.meta);
+  books = subst (λ rows. IsShelfOf text rows own) (sym b.stands.books) held.books;
+  moment = sym (ap last_in b.stands.meta);
 }
 
 pub held_dated : (text more : List ℕ) (from : ℕ) (shelf : Shelf) (last : ℕ) (b : Book)

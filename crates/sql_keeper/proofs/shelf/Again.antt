@@ -78,16 +78,19 @@ left_again = record {
     );
   };
   committed = λ names text change old new left b.
-      left_by text old new (meta_with text change) left b.catalog b.stored b.meta refl refl b.last
-      (same_shelf text old new b.books left.shelf);
+      left_by text old new (meta_with text change) left b.stands.tabled.catalog b.stands.tabled.stored
+      b.stands.meta refl refl b.stands.last
+      (same_shelf text old new b.stands.books left.shelf);
   added = λ text code terms t old new left b.
-      left_by text old new (meta_at text t) left b.catalog b.stored b.meta refl refl b.last
-      (same_shelf text old new b.books left.shelf);
+      left_by text old new (meta_at text t) left b.stands.tabled.catalog b.stands.tabled.stored
+      b.stands.meta refl refl b.stands.last
+      (same_shelf text old new b.stands.books left.shelf);
   swept = λ names text shelf t old new left b.
-      left_by text old new (meta_at text t) left b.catalog b.stored b.meta refl refl b.last
-      (same_shelf text old new b.books left.shelf);
+      left_by text old new (meta_at text t) left b.stands.tabled.catalog b.stands.tabled.stored
+      b.stands.meta refl refl b.stands.last
+      (same_shelf text old new b.stands.books left.shelf);
   dated = λ text more n from old new left may b.
-      left_by text old new left.kept.row left b.catalog b.stored (b.meta ∙ left.kept.is)
+      left_by text old new left.kept.row left b.tabled.catalog b.tabled.stored (b.meta ∙ left.kept.is)
       left.kept.version left.kept.book left.kept.last (
         with_book may.shelf from may.book,
         subst (λ rows. IsShelfOf text rows (with_book may.shelf from may.book)) (sym b.books)

@@ -79,9 +79,7 @@ become_dated n from text old new turns = record {
       (tidy_dated names more n from text (tables_content old) t);
   rules = λ shelf b rule in'. subst (IsInRules (with_book shelf from b)) (sym turns.content)
       (dated_kept shelf from b n text (tables_content old) rule in');
-  plain = turns.plain;
+  tabled = record { catalog = turns.catalog; stored = turns.stored; plain = turns.plain };
   books = ap (λ (c : TablesContent). c.books) turns.content;
   meta = ap (λ (c : TablesContent). c.meta) turns.content;
-  catalog = turns.catalog;
-  stored = turns.stored;
 }

@@ -77,7 +77,7 @@ module _ {S : Type 0} (g : Ghosts S) (law : AreSettled g) (change : Change)
   kept_books : (tables_content (trees_in g new)).books ≡ (tables_content (trees_in g old)).books
   kept_books = elim either [
     | inl same ↦ ap (λ d. (tables_content d).books) same
-    | inr w ↦ w.books
+    | inr w ↦ w.stands.books
   ]
 
   text_stays : new.text ≡ old.text

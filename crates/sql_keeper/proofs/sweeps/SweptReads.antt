@@ -318,14 +318,14 @@ become names text shelf t xs ranges last old new later all ruled turns =
           (subst (λ n. is_ruled_sweep n t xs ≡ true) is ruled)
           (subst (λ n. EachIn (MayBePut n) xs) is
           (may names text shelf t (tables_content old) xs ranges all)))));
-      plain = turns.plain;
-      meta = kept;
-      last = last;
-      later = later;
-      books = ap (λ (c : TablesContent). c.books) turns.content
-          ∙ swept_books names text shelf t (tables_content old) xs ranges all;
-      catalog = turns.catalog;
-      stored = turns.stored;
+      stands = record {
+        tabled = record { catalog = turns.catalog; stored = turns.stored; plain = turns.plain };
+        meta = kept;
+        last = last;
+        later = later;
+        books = ap (λ (c : TablesContent). c.books) turns.content
+            ∙ swept_books names text shelf t (tables_content old) xs ranges all;
+      };
     }
 
 -- the accounts of all numbers, one after another
