@@ -34,12 +34,20 @@ resource {name} {{
         c-plan-ahead 0;
     }}
     handlers {{
-        fence-peer "/usr/lib/drbd/crm-fence-peer.sh";
+        # By itself the script has a machine go on after 90 s in any case. So it is asked once the other
+        # machine answers the cluster or is known to be lost, and only where there is a majority: a
+        # machine without one, which others may be about to fence, writes nothing.
+        fence-peer "{alone}";
         after-resync-target "/usr/lib/drbd/crm-unfence-peer.sh";
     }}
 {places}
 }}
 """
+ALONE = (
+    "until { crmadmin -t 3s -S $DRBD_PEER | grep -q ok || ! crm_node -p | grep -qw $DRBD_PEER; } && "
+    "corosync-quorumtool -s | grep -q '^Quorate: *Yes'; do sleep 1; done; "
+    "exec /usr/lib/drbd/crm-fence-peer.sh"
+)
 PLACE = """\
     on {machine} {{
         disk {disk};
@@ -74,4 +82,4 @@ def text(settings: Settings, shard: Shard) -> str:
         )
         for machine in of_disks(settings.machines)
     ]
-    return TEXT.format(name=name(shard), minor=number, places="\n".join(places))
+    return TEXT.format(name=name(shard), minor=number, alone=ALONE, places="\n".join(places))

@@ -1,8 +1,8 @@
 """A shard on two machines' disks by DRBD, and no cluster: the test takes power away, promotes and
 brings back.
 
-DRBD's file is the one that `office machines write` makes. Where it asks the cluster whether the
-other machine is off, it is told so: it is, since the test has cut it."""
+DRBD's file is the one that `office machines write` makes. Where it asks the cluster for its majority
+and whether the other machine is off, it is told so: it is off, since the test has cut it."""
 from __future__ import annotations
 
 import pathlib
@@ -31,6 +31,8 @@ UP = f"""
 set -e
 install -m 644 {SHARED}/ocs-01.res /etc/drbd.d
 printf '#!/bin/sh\\nexit 7\\n' > /usr/lib/drbd/crm-fence-peer.sh
+printf '#!/bin/sh\\necho ok\\n' > /usr/sbin/crmadmin
+printf '#!/bin/sh\\necho Quorate: Yes\\n' > /usr/sbin/corosync-quorumtool
 ln -sf /bin/true /usr/lib/drbd/crm-unfence-peer.sh
 install -d /var/lib/ocs/01
 socat TCP-LISTEN:{RELAY},fork,reuseaddr,nodelay TCP:127.0.0.1:8101,nodelay > /dev/null 2>&1 &
