@@ -3,11 +3,13 @@ what has to be true afterwards."""
 from __future__ import annotations
 
 import contextlib
+import dataclasses
 import statistics
 import time
 from collections import Counter
 from collections.abc import Iterable, Iterator
 
+from support.gateways import Account
 from support.served import BOOKS
 from support.uncut import Rows, Uncut, rows_of
 from support.waiting import until
@@ -19,6 +21,7 @@ from machines.site import SHARDS, Site
 # Where a table's rows have a moment, from the first column on: each shard has its machine's clock.
 MOMENTS = {"meta": 3, "accounts": 2, "buckets": 2, "sessions": 3, "charges": 2}
 MOMENT, SECONDS, LOOKS, CALM = 1_767_607_200, 900, 1.0, 5.0
+COPY = "/root/copy.db"
 # What DRBD says of a comparison, once all of them have ended.
 COMPARED = "until ! grep -q cs:Verify /proc/drbd; do sleep 1; done; grep -o 'oos:[0-9]*' /proc/drbd"
 
@@ -37,6 +40,18 @@ class Failovers:
         """The machine that serves most of the shards."""
         return statistics.mode(setup.served(self.site).values())
 
+    def has_majority(self, name: str) -> bool:
+        """Whether a machine sees a majority."""
+        return "Quorate:          Yes" in self.site.sh(name, "corosync-quorumtool -s || :")
+
+    def written(self, name: str) -> list[str]:
+        """What DRBD has written to a machine's volumes."""
+        return self.site.sh(name, "grep -o 'dw:[0-9]*' /proc/drbd").split()
+
+    def served_by(self, name: str) -> list[str]:
+        """The shards that a machine serves."""
+        return [shard for shard, where in setup.served(self.site).items() if where == name]
+
     @contextlib.contextmanager
     def asking(self) -> Iterator[float]:
         """Gateways ask meanwhile, for some seconds before and after what happens; the moment at which
@@ -51,17 +66,19 @@ class Failovers:
 
     def power_fails(self, name: str) -> None:
         """A machine loses its power while gateways ask, and what it served is served again."""
-        lost = [shard for shard, where in setup.served(self.site).items() if where == name]
+        lost = self.served_by(name)
         with self.asking() as begun:
             self.site.cut(name)
             self.wait_for_answers(f"{name} lost its power", begun, lost)
 
-    def wait_for_answers(self, what: str, begun: float, lost: Iterable[str]) -> None:
-        """Waits until each shard has answered since what happened; for those that were lost the
-        seconds count."""
-        gateways = self.gateways
+    def wait_for_answers(
+        self, what: str, begun: float, lost: Iterable[str], since: float | None = None
+    ) -> None:
+        """Waits until each shard has answered, since what happened or a later moment; for those that
+        were lost the seconds count."""
+        gateways, moment = self.gateways, since or begun + 1
         for shard in SHARDS:
-            until(lambda: gateways.answers(shard, begun + 1), f"shard {shard}", SECONDS, LOOKS)
+            until(lambda: gateways.answers(shard, moment), f"shard {shard}", SECONDS, LOOKS)
         silent = {shard: gateways.silence(shard, begun) for shard in SHARDS}
         self.silences += [silent[shard] for shard in lost]
         told = ", ".join(f"{shard} {silent[shard]:.0f} s" for shard in SHARDS)
@@ -74,6 +91,29 @@ class Failovers:
         """The machine gets power again, and its copies are brought into step."""
         self.site.power(name)
         self.site.machines[name].wait()
+        setup.whole(self.site)
+
+    def stand_by(self, name: str, is_by: bool = True) -> None:
+        """A machine is put by for maintenance, and serves nothing, or is taken back."""
+        text = page.section("Failover")
+        line = page.line(text, f"crm_standby -N m1 {'-v on' if is_by else '-D'}")
+        self.site.sh("m3", line.replace("m1", name))
+        if is_by:
+            until(lambda: self.has_given_up(name), f"{name} to give its shards up", SECONDS, 3)
+
+    def has_given_up(self, name: str) -> bool:
+        """Whether each shard is served, and none on this machine."""
+        homes = setup.served(self.site)
+        return len(homes) == len(SHARDS) and name not in homes.values()
+
+    def go_home(self, shard: str, name: str) -> None:
+        """A shard is brought back to a machine by the page's lines."""
+        text = page.section("The way back")
+        move = page.line(text, "crm_resource --move -r shard01 -N m1")
+        self.site.sh("m3", move.replace("01", shard).replace("m1", name))
+        until(lambda: setup.served(self.site).get(shard) == name, f"{shard} at home", SECONDS, 3)
+        clear = page.line(text, "crm_resource --clear -r shard01")
+        self.site.sh("m3", clear.replace("01", shard))
         setup.whole(self.site)
 
     def right(self) -> None:
@@ -92,19 +132,44 @@ class Failovers:
     def compare(self, shard: str, name: str) -> None:
         """A shard's rows on a machine are those of one that was asked the same and that nothing
         happened to."""
-        folder = self.site.place / f"uncut-{shard}-{time.monotonic():.0f}"
+        path = f"/var/lib/ocs/{shard}/{shard}.db"
+        found = [self.site.machines[name].file(path + more) for more in ("", "-wal")]
+        wanted = self.uncut(self.gateways.of(shard))
+        assert without_moments(rows_of(found)) == without_moments(wanted)
+
+    def uncut(self, accounts: Iterable[Account]) -> Rows:
+        """The rows of a shard that was asked what these accounts acknowledged, and that nothing
+        happened to."""
+        folder = self.site.place / f"uncut-{time.monotonic_ns()}"
         folder.mkdir()
         uncut = Uncut(folder, BOOKS[0])
         uncut.start(MOMENT)
         try:
-            for account in self.gateways.of(shard):
+            for account in accounts:
                 uncut.follow(account)
-            wanted = uncut.rows()
+            return uncut.rows()
         finally:
             uncut.end()
-        path = f"/var/lib/ocs/{shard}/{shard}.db"
-        found = [self.site.machines[name].file(path + more) for more in ("", "-wal")]
-        assert without_moments(rows_of(found)) == without_moments(wanted)
+
+    def copied(self, shard: str, name: str) -> tuple[Rows, dict[str, int]]:
+        """The rows of a copy of a shard that a machine makes, and how many commands each account had
+        acknowledged before it was begun."""
+        before = {one.number: len(one.acknowledged) for one in self.gateways.of(shard)}
+        self.site.sh(name, f"office backup {shard} {COPY}")
+        return rows_of([self.site.machines[name].file(COPY), b""]), before
+
+    def is_copy(self, shard: str, rows: Rows, before: dict[str, int]) -> None:
+        """The rows are those after the first commands of each account, and after all that were
+        acknowledged before; nobody asks any more."""
+        there = [row[:4] for row in rows["answers"]]
+        first = list[Account]()
+        for account in self.gateways.of(shard):
+            count = sum(1 for key in there if key[0] == account.number)
+            asked = account.acknowledged[:count]
+            assert before[account.number] <= count == len(asked), (account.number, before, count)
+            assert all(command.key in there for command, _ in asked)
+            first.append(dataclasses.replace(account, acknowledged=asked))
+        assert without_moments(rows) == without_moments(self.uncut(first))
 
     def told(self) -> str:
         """What happened so far."""

@@ -6,6 +6,7 @@ import concurrent.futures
 import re
 import shutil
 import tarfile
+import time
 from collections.abc import Callable, Iterable
 
 from support.image import PACKAGES
@@ -19,10 +20,14 @@ from machines.site import SHARDS, Site
 
 README = DEPLOY / "README.md"
 TOP = f"{SHARED}/top"
-# A machine of a test gets the time from the one that it is on, and a process costs it a tenth of a
-# second: Pacemaker looks less often there.
-CHANGES = {"shards = 4 ": "shards = 2 ", "synchronised = true ": "synchronised = false "}
-LOOK = ("look = 10 ", "look = 60 ")
+# A machine of a test gets the time from the one that it is on. A process costs it a tenth of a second,
+# and beside other work seconds: Pacemaker looks less often there, and gives each step more time.
+CHANGES = {
+    "shards = 4 ": "shards = 2 ",
+    "synchronised = true ": "synchronised = false ",
+    "look = 10 ": "look = 60 ",
+    "patience = 120 ": "patience = 300 ",
+}
 # The page's volumes are larger than a test's.
 VOLUME = ("-L 50G", "-L 400M")
 INSTALL, KEY, FENCE = "apt-get install -y ", "corosync-keygen\n", "stonith_admin --reboot m2\n"
@@ -63,12 +68,14 @@ def set_up(site: Site) -> None:
     each(site, ("m1", "m2"), lambda one: one.sh(VOLUMES))
     site.sh("m1", f"set -e\n{CERTIFICATES}")
     for names, lines in page.blocks(page.section("Set up")):
+        begun = time.monotonic()
         if lines.startswith(INSTALL):
             assert set(lines.removeprefix(INSTALL).split()) <= set(PACKAGES), lines
         elif lines == FENCE:
             fence(site)
         elif not lines.startswith(KERNEL):
             carry_out(site, names, lines)
+        print(f"{time.monotonic() - begun:.0f} s: {lines.splitlines()[0]}", flush=True)
 
 
 def carry_out(site: Site, names: Iterable[str], lines: str) -> None:
@@ -135,7 +142,7 @@ def ready(one: Machine) -> None:
 def office_file() -> str:
     """The office's file: the repository's example with the page's last lines."""
     text = (DEPLOY / "office.toml").read_text(encoding="utf-8")
-    text += "\n" + page.fenced(page.section("The file")).replace(*LOOK)
+    text += "\n" + page.fenced(page.section("The file"))
     for old, new in CHANGES.items():
         assert old in text
         text = text.replace(old, new)

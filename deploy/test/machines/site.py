@@ -74,10 +74,6 @@ class Site:
         """A machine's cable is pulled, or put back."""
         self.network.cable(card, int(name[1:]), is_in)
 
-    def is_serving(self, name: str) -> bool:
-        """Whether a shard's process runs on a machine."""
-        return self.machines[name].told("pgrep -x ocs", 600)[0] == 0
-
     def connect(self, door: tuple[int, str]) -> http.client.HTTPConnection:
         """A connection to a door at the office's address."""
         port, who = door
