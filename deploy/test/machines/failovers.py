@@ -21,7 +21,8 @@ from machines.site import SHARDS, Site
 # Where a table's rows have a moment, from the first column on: each shard has its machine's clock.
 MOMENTS = {"meta": 3, "accounts": 2, "buckets": 2, "sessions": 3, "charges": 2}
 MOMENT, SECONDS, LOOKS, CALM = 1_767_607_200, 900, 1.0, 5.0
-COPY = "/root/copy.db"
+# Where a copy of a shard lies in the machine that made it.
+COPY = "/var/tmp/copy.db"
 # What DRBD says of a comparison, once all of them have ended.
 COMPARED = "until ! grep -q cs:Verify /proc/drbd; do sleep 1; done; grep -o 'oos:[0-9]*' /proc/drbd"
 
