@@ -87,8 +87,7 @@ pub record AreInTurn (list : List Accepted) (x y : AnsweredRun) : Type 0 where
   pub shelf : IsShelf y.shelf
   pub books : GoesOnAfter x.new.last x.shelf y.shelf
   pub before : AreBefore books.from (answered_of x)
-  pub between : y.old ≡ x.new
-  pub second : Runs y.shelf y.commands y.old y.new y.given
+  pub second : Runs y.shelf y.commands x.new y.new y.given
 
 -- both as one over the second one's shelf
 -- rule: joined-runs

@@ -113,10 +113,12 @@ swept_tables shelf t last vouchers xs ys h = record {
   none = λ a. (all_seen shelf t xs ys a h).none;
   rows = λ a. (all_seen shelf t xs ys a h).rows;
   listed = λ a. (all_seen shelf t xs ys a h).listed;
-  answers = λ a. (all_seen shelf t xs ys a h).answers;
-  charges = λ a n. ap (charge_in n) (all_seen shelf t xs ys a h).charges;
-  vouchers = λ code. refl;
-  count = swept_length shelf t xs ys h;
+  beside = record {
+    answers = λ a. (all_seen shelf t xs ys a h).answers;
+    charges = λ a n. ap (charge_in n) (all_seen shelf t xs ys a h).charges;
+    vouchers = λ code. refl;
+    count = swept_length shelf t xs ys h;
+  };
 }
 
 -- ---- places

@@ -151,6 +151,13 @@ abbrev pub AreBroughtTo : Shelf → Moment → Rows → Rows → Type 0
 AreBroughtTo shelf t old new = (w : StoredRows) → AreListed w old → IsStored w → w.as_of ≤ t →
     AreListed (advanced_stored shelf t w) new
 
+-- what is kept beside the rows of accounts stays as it is
+pub record StaysBesideRows (old new : Tables) : Type 0 where
+  pub answers : (a : AccountName) (k : Key) → new.answers a k ≡ old.answers a k
+  pub charges : (a : AccountName) (n : ChargeNumber) → new.charges a n ≡ old.charges a n
+  pub vouchers : (code : VoucherCode) → new.vouchers code ≡ old.vouchers code
+  pub count : new.count ≡ old.count
+
 -- rule: sweep: sweep
 -- rule: sweep.brought-to
 pub record IsSwept (shelf : Shelf) (t : Moment) (old new : Tables) : Type 0 where
@@ -160,7 +167,4 @@ pub record IsSwept (shelf : Shelf) (t : Moment) (old new : Tables) : Type 0 wher
       AreRowsAt shelf ledger u (old.rows a) →
       AreRowsAt shelf ledger t (new.rows a)
   pub listed : (a : AccountName) → AreBroughtTo shelf t (old.rows a) (new.rows a)
-  pub answers : (a : AccountName) (k : Key) → new.answers a k ≡ old.answers a k
-  pub charges : (a : AccountName) (n : ChargeNumber) → new.charges a n ≡ old.charges a n
-  pub vouchers : (code : VoucherCode) → new.vouchers code ≡ old.vouchers code
-  pub count : new.count ≡ old.count
+  pub beside : StaysBesideRows old new

@@ -89,7 +89,7 @@ abbrev pub IsRead : Type 0
 IsRead = (ledger : Ledger) (left : LeftRows) (t : Moment) (a : AccountRows) → a.as_of ≤ t →
     IsJoined ledger left a → IsReadJoined ledger left t a
 
--- all of them
+-- all calls
 pub record StaysJoined : Type 0 where
   pub advanced : StaysAdvanced
   pub opened : StaysOpened
@@ -98,4 +98,3 @@ pub record StaysJoined : Type 0 where
   pub closed : StaysClosed
   pub barred : StaysBarred
   pub credited : StaysCredited
-  pub read : IsRead

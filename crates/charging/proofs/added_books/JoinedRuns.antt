@@ -5,7 +5,6 @@ use Rattle.std.specs.Prelude.{if◌then◌else◌}
 use Rattle.std.proofs.lemmas.List.{append_assoc, take-append-drop}
 use Rattle.shelves.specs.Shelves.{Shelf}
 use Rattle.shelves.specs.Laws.{GoesOnFrom}
-use Rattle.keepers.specs.Tables.{Tables}
 use Rattle.charging.specs.Accepted.{Accepted, last_moment, IsInTime}
 use Rattle.charging.specs.declared.running.DatedCommand.{DatedCommand}
 use Rattle.charging.specs.Served.{AreTables, moment_of, accepts}
@@ -97,9 +96,7 @@ second_run list x y h =
     let same : LeaveTheSame h.books.from x.shelf y.shelf mid =
     leave_the_same h.books.from x.shelf y.shelf h.books.goes_on mid
     (accepted_before h.books.from mid h.first.time last) in
-    h.second mid h.first.time
-    (subst (λ (tables : Tables). AreTables y.shelf mid tables) (sym h.between)
-    ((same.tables x.new).0 h.first.tables))
+    h.second mid h.first.time ((same.tables x.new).0 h.first.tables)
 
 -- the answers of both are those of the commands together, and so are the tables
 both_so_far : (list : List Accepted) (x y : AnsweredRun) → AreInTurn list x y →

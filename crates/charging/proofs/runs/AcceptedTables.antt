@@ -105,23 +105,23 @@ module _ (ends : DayEnds) (outcome : Option Voucher → History → Command → 
         (new.rows a) early (x.none a)
         (x.rows a (history_of ends outcome a list).ledger (as_of a list) early) (h.accounts a));
     answers = λ a k.
-        x.answers a k ∙ h.answers a k
+        x.beside.answers a k ∙ h.answers a k
         ∙ (λ i. kept_under k (if names a (sym swept i)
         then after list d (history_of ends outcome a list)
         else history_of ends outcome a list));
     charges = λ a n.
-        x.charges a n ∙ h.charges a n
+        x.beside.charges a n ∙ h.charges a n
         ∙
         (λ i. charge_in n (charge_rows
         (if names a (sym swept i) then
         after list d (history_of ends outcome a list)
         else history_of ends outcome a list).ledger));
     vouchers = λ code.
-        x.vouchers code ∙ h.vouchers code
+        x.beside.vouchers code ∙ h.vouchers code
         ∙ (λ i. if sym (codes code) i
         then voucher_after ends d.command d.moment (voucher_under ends code list)
         else voucher_under ends code list);
-    count = x.count ∙ h.count
+    count = x.beside.count ∙ h.count
         ∙ (λ i. if sym opens i then account_count list + 1 else account_count list);
   }
 

@@ -348,11 +348,13 @@ module _ (names : Names) (text : List ℕ) (shelf : Shelf) (t : ℕ) (c : Tables
     none = λ a. (seen a).none;
     rows = λ a. (seen a).rows;
     listed = λ a. (seen a).listed;
-    answers = λ a. (seen a).answers;
-    charges = λ a. (seen a).charges;
-    vouchers = λ code. ap (λ f. option_map voucher_in (f code))
-        (vouchers_after names xs (with_meta (meta_at text t) c) may);
-    count = count_after names xs (with_meta (meta_at text t) c) may there;
+    beside = record {
+      answers = λ a. (seen a).answers;
+      charges = λ a. (seen a).charges;
+      vouchers = λ code. ap (λ f. option_map voucher_in (f code))
+          (vouchers_after names xs (with_meta (meta_at text t) c) may);
+      count = count_after names xs (with_meta (meta_at text t) c) may there;
+    };
   }
 
   pub swept_meta : (with_sweep names text t xs c).meta ≡ Some (meta_at text t)

@@ -2,8 +2,8 @@ use Rattle.reserving.proofs.left.Joined.{stays_advanced, stays_opened, stays_den
 use Rattle.reserving.proofs.left.Joined.{stays_closed, stays_barred, stays_credited, is_read}
 use Rattle.reserving.proofs.laws.counters_may_be_left.Goals as goal
 
-pub returns : goal.returns
-returns c = record {
+pub returns-clause-calls : goal.returns-clause-calls
+returns-clause-calls c = record {
   advanced = stays_advanced;
   opened = stays_opened;
   denied = stays_denied;
@@ -11,5 +11,7 @@ returns c = record {
   closed = stays_closed;
   barred = stays_barred;
   credited = stays_credited;
-  read = is_read;
 }
+
+pub returns-clause-read : goal.returns-clause-read
+returns-clause-read c = is_read
