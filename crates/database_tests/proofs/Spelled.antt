@@ -1,5 +1,5 @@
 -- The clauses of a keeper's calls give what is spelled out of them.
-use Rattle.std.proofs.Common.{◌≡◌, inl, inr, ap, sym, subst}
+use Rattle.std.proofs.Common.{◌≡◌, inl, inr, ap, subst}
 use Rattle.std.specs.Prelude.{Result, Ok, Err, IfErr, IsErrOf, OnErr, OnOk}
 use Rattle.units.specs.Words.{Moment}
 use Rattle.shelves.specs.Words.{BookText}

@@ -1,6 +1,6 @@
 -- A connection that a fault ends: of some of the stream's first requests, at most 1,000, a beginning
 -- of the answers is written. It follows from what each fault says.
-use Rattle.std.proofs.Common.{◌≤◌, ◌+◌, ℕ, suc, List, ◌++◌, length, take, sym}
+use Rattle.std.proofs.Common.{◌≤◌, ◌+◌, ℕ, suc, List, ◌++◌, length, sym}
 use Rattle.std.proofs.Common.{subst, arith, Option, Err}
 use Rattle.std.specs.Io.KnownBytes.{Appends}
 use Rattle.std.proofs.Math.Seq.{take-append-add}

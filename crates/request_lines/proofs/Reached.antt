@@ -1,5 +1,5 @@
 -- Which faults answering lines comes to, by the store that it is over.
-use Rattle.std.proofs.Common.{◌≡◌, ℕ, refl, Result, Ok, Err, ◌+◌, ◌≤◌, arith}
+use Rattle.std.proofs.Common.{◌≡◌, refl, Result, Ok, Err, ◌+◌, ◌≤◌, arith}
 use Rattle.std.specs.Prelude.{IfErr, min}
 use Rattle.texts.specs.declared.streams.StreamFault.{StreamFault}
 use Rattle.keepers.specs.Faults.{max_failures}

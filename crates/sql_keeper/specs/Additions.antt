@@ -1,6 +1,6 @@
 -- A voucher that is added, committed whole or not at all.
 -- Source: profile.
-use Rattle.std.specs.Prelude.{◌≡◌, ◌≤◌, Bool, IsTrue, is_some}
+use Rattle.std.specs.Prelude.{◌≡◌, Bool, IsTrue, is_some}
 use Rattle.units.specs.Words.{Moment}
 use Rattle.identifiers.specs.Words.{VoucherCode}
 use Rattle.shelves.specs.Words.{BookText}

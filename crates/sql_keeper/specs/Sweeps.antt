@@ -1,7 +1,7 @@
 -- A sweep: of each account's rows at a later moment those that differ, written one account after
 -- another.
 -- Source: profile.
-use Rattle.std.specs.Prelude.{◌≡◌, ◌≤◌, true, List, Option, Some, None, Result, map, nat_le}
+use Rattle.std.specs.Prelude.{◌≡◌, true, List, Option, Some, None, Result, map, nat_le}
 use Rattle.std.specs.Prelude.{if◌then◌else◌, IsTrue, OnErr, OnOk, is_some}
 use Rattle.std.specs.List.{list_all}
 use Rattle.units.specs.Words.{Moment}

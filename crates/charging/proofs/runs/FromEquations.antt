@@ -25,7 +25,7 @@ use Rattle.reserving.proofs.Lists.{no_some, some_of}
 use Rattle.reserving.proofs.Keys.{same_number}
 use Rattle.reserving.proofs.InOrder.{in_order_of, order_none}
 use Rattle.reserving.proofs.LeftMore.{one_by_number}
-use Rattle.keepers.specs.Tables.{Head, Rows, Tables, no_rows, head_of, group_row, held_at, held_of}
+use Rattle.keepers.specs.Tables.{Head, Rows, no_rows, head_of, group_row, held_at, held_of}
 use Rattle.keepers.specs.Change.{AreRowsAt}
 use Rattle.keepers.proofs.GroupRows.{group_of, group_back}
 use Rattle.charging.specs.Accepted.{IsRow, as_of}

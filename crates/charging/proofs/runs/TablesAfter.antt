@@ -1,5 +1,5 @@
 -- Each row of the tables of accepted commands is what its account's ledger sums to.
-use Rattle.std.proofs.Common.{◌≡◌, ℕ, true, false, List, [], refl, sym, ◌∙◌, Option, Some, None}
+use Rattle.std.proofs.Common.{◌≡◌, ℕ, [], refl, sym, ◌∙◌, Option, Some, None}
 use Rattle.std.specs.Prelude.{if◌then◌else◌, option_map}
 use Rattle.shelves.specs.Shelves.{Shelf}
 use Rattle.ledger.specs.Ledger.{Ledger}
@@ -7,10 +7,8 @@ use Rattle.ledger.specs.Pricing.{validity_of}
 use Rattle.ledger.specs.Balance.{buckets_at}
 use Rattle.reserving.specs.Left.{bucket_in}
 use Rattle.reserving.specs.Sessions.{session_at, group_at}
-use Rattle.keepers.specs.Tables.{Head, Rows, Tables, no_rows, group_row, held_of}
+use Rattle.keepers.specs.Tables.{Head, Rows, no_rows, group_row, held_of}
 use Rattle.keepers.specs.Change.{AreRowsAt}
-use Rattle.commands.specs.declared.answer.Answer.{Answer}
-use Rattle.charging.specs.declared.running.DatedCommand.{DatedCommand}
 use Rattle.charging.specs.Histories.{History}
 use Rattle.charging.specs.Accepted.{IsRow, as_of}
 use Rattle.charging.specs.Outcomes.{book_days, outcome}

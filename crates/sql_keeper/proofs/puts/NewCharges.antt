@@ -1,5 +1,5 @@
 -- Charges of which nothing was there, put without a removal.
-use Rattle.std.proofs.Common.{◌≡◌, ◌<◌, ◌≤◌, ◌+◌, ℕ, Bool, true, false, not, List, [], ◌∷◌, ◌++◌}
+use Rattle.std.proofs.Common.{◌≡◌, ◌<◌, ◌≤◌, ◌+◌, ℕ, Bool, true, false, List, [], ◌∷◌, ◌++◌}
 use Rattle.std.proofs.Common.{refl, sym, ap, ◌∙◌, arith, Option, Some, None, Ok, Err, Result, subst}
 use Rattle.std.proofs.Common.{nat_eq, take, get_or, length}
 use Rattle.std.specs.Prelude.{if◌then◌else◌, ◌==◌, is_some}

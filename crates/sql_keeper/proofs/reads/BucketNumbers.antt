@@ -1,6 +1,6 @@
 -- What is read of the numbers of new buckets.
 use Rattle.std.proofs.Common.{◌≡◌, ◌<◌, ◌≤◌, ◌+◌, ℕ, List, [], ◌∷◌, ◌++◌, Option, None, Result}
-use Rattle.std.proofs.Common.{Ok, Err, IsTrue, refl, sym, ap, subst, ◌∙◌, arith, take, get_or}
+use Rattle.std.proofs.Common.{Ok, Err, IsTrue, sym, ap, subst, ◌∙◌, arith, take, get_or}
 use Rattle.std.proofs.Common.{length}
 use Rattle.std.specs.Prelude.{option_map, ⊤}
 use Rattle.std.proofs.lemmas.List.{take_more, take_all}
@@ -8,7 +8,6 @@ use Rattle.buckets.specs.Row.{BucketRow}
 use Rattle.buckets.specs.declared.bucket.columns.Columns.{Columns as BucketColumns}
 use Rattle.reserving.proofs.LeftTests.{each_append}
 use Rattle.sqlite_trees.specs.Tree.{Trees}
-use Rattle.sqlite.specs.Effect.{Database}
 use Rattle.sqlite.specs.State.{State, HasCleanDisk}
 use Rattle.sql_tables.specs.Statements.{HasIdleTables, Reads}
 use Rattle.sql_rows.specs.declared.head.HeadColumns.{HeadColumns}

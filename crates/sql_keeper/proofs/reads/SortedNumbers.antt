@@ -1,6 +1,6 @@
 -- Whether a number is among others that are sorted.
-use Rattle.std.proofs.Common.{◌≡◌, ◌<◌, ◌≤◌, ◌+◌, ℕ, Bool, true, false, List, length, refl, sym, ap}
-use Rattle.std.proofs.Common.{Result, Ok, Err, ◌∙◌, arith, get_or, nat_lt, eq-eqb}
+use Rattle.std.proofs.Common.{◌≡◌, ◌<◌, ◌≤◌, ℕ, Bool, true, false, List, length, refl, sym, ap}
+use Rattle.std.proofs.Common.{Result, Ok, Err, ◌∙◌, arith, get_or, nat_lt}
 use Rattle.std.specs.Prelude.{nat_eq, is_ok}
 use Rattle.std.specs.List.{list_any}
 use Rattle.std.specs.List.Sorted.{IsBinarySearchResult, IsNonDecreasing, IsPermutation}

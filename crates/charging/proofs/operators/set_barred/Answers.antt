@@ -1,4 +1,4 @@
-use Rattle.std.proofs.Common.{refl, Some, None}
+use Rattle.std.proofs.Common.{refl, None}
 use Rattle.commands.specs.declared.answer.Answer.TheVariants as answer
 use Rattle.keepers.specs.Tables.{Tables}
 use Rattle.charging.specs.Stepping.{Answers, Commits, bar_command}

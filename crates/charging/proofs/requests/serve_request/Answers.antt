@@ -1,4 +1,4 @@
-use Rattle.std.proofs.Common.{◌≡◌, ◌∙◌, ap, sym, subst, false, Some, None}
+use Rattle.std.proofs.Common.{◌≡◌, ◌∙◌, ap, sym, subst, false, None}
 use Rattle.commands.specs.declared.command.Command.TheVariants.{Ccr}
 use Rattle.keepers.specs.Change.{IsLoadedFrom}
 use Rattle.keepers.specs.Tables.{Tables}
