@@ -4,7 +4,10 @@ from __future__ import annotations
 import contextlib
 import pathlib
 import time
+from collections import Counter
 from collections.abc import Iterator
+
+from support.served import said
 
 from machines.pair import Pair
 
@@ -12,9 +15,9 @@ from machines.pair import Pair
 BOOK, SECOND = 3, 4
 
 
-def rounds(place: pathlib.Path, kind: str, count: int) -> None:
+def rounds(place: pathlib.Path, kind: str, count: int) -> Counter[str]:
     """So many cuts; in the end both disks are compared, and each acknowledged command is asked
-    again."""
+    again. What happened."""
     with standing(place, kind) as pair:
         pair.begin()
         pair.served.gateways.start()
@@ -28,8 +31,9 @@ def rounds(place: pathlib.Path, kind: str, count: int) -> None:
         gateways.end()
         gateways.settle()
         assert gateways.repeat() == gateways.answered
-        told = f"{pair.served.counts()}, {pair.unflushed} writes that weren't flushed"
-        print(f"{kind}: {count} cuts, {told}", flush=True)
+        counts = pair.served.counts(count, pair.unflushed)
+        print(f"{kind}: {said(counts)}", flush=True)
+        return counts
 
 
 def one_round(pair: Pair, at: int) -> None:

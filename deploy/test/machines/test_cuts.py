@@ -8,9 +8,11 @@ from __future__ import annotations
 
 import os
 import pathlib
+from collections import Counter
+from collections.abc import Callable
 
 import pytest
-from support.served import MAKE
+from support.served import MAKE, said
 
 from machines.cuts import rounds
 
@@ -22,11 +24,15 @@ EACH = 10
 
 @pytest.mark.slow
 @pytest.mark.parametrize("kind", MAKE)
-def test_what_was_answered_outlives_a_machine(tmp_path: pathlib.Path, kind: str) -> None:
+def test_what_was_answered_outlives_a_machine(
+    tmp_path: pathlib.Path, kind: str, record_property: Callable[[str, object], None]
+) -> None:
+    counts = Counter[str]()
     for first in range(0, CUTS, EACH):
         place = tmp_path / str(first)
         place.mkdir()
-        rounds(place, kind, min(EACH, CUTS - first))
+        counts.update(rounds(place, kind, min(EACH, CUTS - first)))
+    record_property("all", said(counts))
 
 
 @pytest.mark.slow

@@ -8,11 +8,12 @@ import contextlib
 import pathlib
 import random
 import time
+from collections import Counter
 from collections.abc import Iterator
 from typing import Protocol
 
 from support.filled import Filled
-from support.served import Host, Served
+from support.served import Host, Served, said
 from support.turns import Turns
 from support.volatile import FATES, Disk
 from support.waiting import until
@@ -45,8 +46,8 @@ class Powered(Protocol):
         """Cuts all power; how many writes the disk hadn't flushed."""
 
 
-def rounds(place: pathlib.Path, powered: Powered, kind: str, count: int) -> None:
-    """So many cuts, and in the end each acknowledged command is asked again."""
+def rounds(place: pathlib.Path, powered: Powered, kind: str, count: int) -> Counter[str]:
+    """So many cuts, and in the end each acknowledged command is asked again; what happened."""
     with standing(place, powered, kind) as drill:
         for at in range(1, count + 1):
             drill.begin()
@@ -55,8 +56,9 @@ def rounds(place: pathlib.Path, powered: Powered, kind: str, count: int) -> None
         drill.begin()
         gateways = drill.served.gateways
         assert gateways.repeat() == gateways.answered
-        told = f"{drill.served.counts()}, {drill.unflushed} writes that weren't flushed"
-        print(f"{kind}: {count} cuts, {told}", flush=True)
+        counts = drill.served.counts(count, drill.unflushed)
+        print(f"{kind}: {said(counts)}", flush=True)
+        return counts
 
 
 def checkpoints(place: pathlib.Path, powered: Powered, kind: str, filled: Filled) -> bool:

@@ -7,11 +7,13 @@ from __future__ import annotations
 
 import os
 import pathlib
+from collections import Counter
+from collections.abc import Callable
 
 import pytest
 from power.rounds import rounds
 from power.there import There
-from support.served import MAKE
+from support.served import MAKE, said
 
 CUTS, QUICK = int(os.environ.get("OFFICE_CUTS", "20")), 2
 # A shard has so many cuts, then there is a new one: a start reads all of its log, and each call of the
@@ -21,11 +23,15 @@ EACH = 10
 
 @pytest.mark.slow
 @pytest.mark.parametrize("kind", MAKE)
-def test_what_was_answered_outlives_a_machine(tmp_path: pathlib.Path, kind: str) -> None:
+def test_what_was_answered_outlives_a_machine(
+    tmp_path: pathlib.Path, kind: str, record_property: Callable[[str, object], None]
+) -> None:
+    counts = Counter[str]()
     for first in range(0, CUTS, EACH):
         place = tmp_path / str(first)
         place.mkdir()
-        cut(place, kind, min(EACH, CUTS - first))
+        counts.update(cut(place, kind, min(EACH, CUTS - first)))
+    record_property("all", said(counts))
 
 
 @pytest.mark.slow
@@ -33,10 +39,10 @@ def test_what_was_answered_outlives_two_cuts(tmp_path: pathlib.Path) -> None:
     cut(tmp_path, "xfs", QUICK)
 
 
-def cut(place: pathlib.Path, kind: str, count: int) -> None:
-    """So many cuts of a machine."""
+def cut(place: pathlib.Path, kind: str, count: int) -> Counter[str]:
+    """So many cuts of a machine; what happened."""
     there = There(place)
     try:
-        rounds(place, there, kind, count)
+        return rounds(place, there, kind, count)
     finally:
         there.end()

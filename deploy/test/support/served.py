@@ -9,7 +9,7 @@ from __future__ import annotations
 
 import dataclasses
 import pathlib
-from collections import defaultdict
+from collections import Counter, defaultdict
 from typing import Protocol
 
 from support.gateways import BOOK, Gateways
@@ -159,12 +159,19 @@ class Served:
         words = f"--from {self.book} {layout.place}/01.db {layout.folder}/book1.toml"
         return f"{layout.program} book {words}"
 
-    def counts(self) -> str:
-        """What happened so far."""
-        return (
-            f"{self.gateways.answered} acknowledged commands, {self.repeated} asked again, "
-            f"{self.carried} carried out and not answered, {self.swept} sweeps, {self.books} "
-            f"books, {self.checkpoints} checkpoints"
+    def counts(self, cuts: int, unflushed: int) -> Counter[str]:
+        """What happened so far, with as many cuts and as many writes that weren't flushed."""
+        return Counter(
+            {
+                "cuts": cuts,
+                "acknowledged commands": self.gateways.answered,
+                "asked again on the way": self.repeated,
+                "carried out and not answered": self.carried,
+                "sweeps": self.swept,
+                "books": self.books,
+                "checkpoints": self.checkpoints,
+                "writes that weren't flushed": unflushed,
+            }
         )
 
     def end(self) -> None:
@@ -172,6 +179,11 @@ class Served:
         self.turns.end()
         self.gateways.end()
         self.uncut.end()
+
+
+def said(counts: Counter[str]) -> str:
+    """Counts as a line of text."""
+    return ", ".join(f"{count} {what}" for what, count in counts.items())
 
 
 def assert_same(found: Rows, before: Rows, after: Rows) -> None:
