@@ -17,8 +17,8 @@ from support.filled import Filled
 from support.served import MAKE, said
 
 Record = Callable[[str, object], None]
-CUTS, QUICK = int(os.environ.get("OFFICE_CUTS", "20")), 3
-CHECKPOINTS = max(1, CUTS // 2)
+CUTS, QUICK = int(os.environ.get("OFFICE_CUTS", "100")), 3
+CHECKPOINTS = max(1, CUTS // 5)
 # A shard has so many cuts, then there is a new one: each third adds a book, and a shelf has room for 16.
 EACH = 20
 

@@ -15,7 +15,7 @@ from power.rounds import rounds
 from power.there import There
 from support.served import MAKE, said
 
-CUTS, QUICK = int(os.environ.get("OFFICE_CUTS", "20")), 2
+CUTS, QUICK = int(os.environ.get("OFFICE_CUTS", "100")), 2
 # A shard has so many cuts, then there is a new one: a start reads all of its log, and each call of the
 # kernel is slow in such a machine.
 EACH = 10
