@@ -4,16 +4,21 @@ use Rattle.std.specs.Prelude.{◌≡◌, List, [], Option}
 use Rattle.units.specs.Words.{Moment}
 use Rattle.shelves.specs.Words.{BookText}
 use Rattle.shelves.specs.Shelves.{Shelf, IsShelf}
+use Rattle.ledger.specs.Lists.{EachIn}
+use Rattle.reserving.specs.declared.session.Session.{Session}
+use Rattle.reserving.specs.declared.session.SessionGroup.{SessionGroup}
+use Rattle.reserving.specs.Rows.{AreApart}
 use Rattle.keepers.specs.declared.loaded.Change.{Change}
 use Rattle.keepers.specs.Tables.{no_tables}
 use Rattle.keepers.specs.Change.{IsSwept, changed}
+use Rattle.keepers.specs.Keyed.{same_session}
 use Rattle.keepers.specs.Naming.{IsNamed}
 use Rattle.sql_rows.specs.Values.{Meta, Kept}
-use Rattle.sql_rows.specs.Content.{TablesContent, tables_content}
+use Rattle.sql_rows.specs.Content.{TableRows, TablesContent, tables_content}
 use Rattle.sql_keeper.specs.Content.{tables_of, Names}
 use Rattle.sql_keeper.specs.Sweeps.{AreAllSwept, with_sweep}
 use Rattle.sql_keeper.specs.Writes.{AreTexts, with_change}
-use Rattle.sql_keeper.specs.Tests.{MayBeMade}
+use Rattle.sql_keeper.specs.Tests.{AreSettled, IsSettled, MayBeMade}
 use Rattle.sql_keeper.specs.declared.swept_rows.SweptAccount.{SweptAccount}
 
 -- the rows that a change writes, put one after another, read as the change over the tables that
@@ -25,6 +30,15 @@ AreChangesRead =
     → IsNamed change.rows → MayBeMade names change (c.rows change.number)
     → AreTexts change.number change.kept texts → m.last ≡ change.moment
     → tables_of names (with_change names m change texts c) ≡ changed change (tables_of names c)
+
+-- sessions are settled where each of them is by itself; and only there, if each comes once
+-- rule: database-writes.writable
+abbrev pub AreEachSettled : Type 0
+AreEachSettled =
+    (sessions : List Session) (groups : List SessionGroup) (r : TableRows)
+    → (EachIn (IsSettled groups r) sessions → AreSettled sessions groups r)
+    × (AreApart same_session sessions → AreSettled sessions groups r
+    → EachIn (IsSettled groups r) sessions)
 
 -- the rows that a sweep writes, one account after another, read as a sweep of the tables that were
 -- there

@@ -80,7 +80,9 @@ AreSettled sessions groups r =
     group_in s g groups ≡ None →
     (is_open_over sessions r s ≡ is_open_row (r.sessions s)) ⊎ (y.periods ≡ None)
 
--- the same of one session that is named
+-- the same of one session that is named; a change is tested by this, and `AreSettled` follows from
+-- it of each
+-- rule: database-writes.writable
 abbrev pub IsSettled : List SessionGroup → TableRows → Session → Type 0
 IsSettled groups r x =
     (is_open x.state ≡ is_open_row (r.sessions x.id))
@@ -94,10 +96,11 @@ is_beside groups s x = is_some (group_in s x.group groups) || not (is_some x.row
 abbrev pub are_beside : List SessionGroup → SessionName → List GroupAt → Bool
 are_beside groups s xs = list_all (is_beside groups s) xs
 
--- what is found of a session that is named: whether it is settled, and whether it is new
+-- what is found of a session that is named: whether it is settled, both ways, and whether it is new
 pub record IsFound (groups : List SessionGroup) (r : TableRows) (x : Session)
     (y : NamedSessions) : Type 0 where
   pub settled : IsTrue y.are_settled → IsSettled groups r x
+  pub back : IsSettled groups r x → IsTrue y.are_settled
   pub new : IsTrue y.are_new → IsUnknown r x.id
 
 -- the sessions have no row, and nothing of rating groups
@@ -108,7 +111,8 @@ AreUnknown r sessions = EachIn (λ (x : Session). IsUnknown r x.id) sessions
 -- and of all of them
 pub record AreFound (sessions : List Session) (groups : List SessionGroup) (r : TableRows)
     (y : NamedSessions) : Type 0 where
-  pub settled : IsTrue y.are_settled → AreSettled sessions groups r
+  pub settled : IsTrue y.are_settled → EachIn (IsSettled groups r) sessions
+  pub back : EachIn (IsSettled groups r) sessions → IsTrue y.are_settled
   pub new : IsTrue y.are_new → AreUnknown r sessions
 
 -- each group is of one of the sessions
@@ -126,14 +130,16 @@ AreNewGroups r groups = EachIn (λ (x : SessionGroup). HasNoGroups r x.session) 
 pub record MayBeMade (names : Names) (change : Change) (r : TableRows) : Type 0 where
   pub reservations : AreWritable names change.rows.sessions change.rows.groups
   pub numbers : AreNumbered (first_number r.head) change.rows.next_charge change.charges.items
-  pub settled : AreSettled change.rows.sessions change.rows.groups r
+  pub settled : EachIn (IsSettled change.rows.groups r) change.rows.sessions
   pub ruled : IsTrue (is_ruled_change names change)
 
--- what is found of a change: whether it may be made, and whether its sessions and groups are new
+-- what is found of a change: whether it may be made, both ways, and whether its sessions and groups
+-- are new
 pub record IsChangeFound (names : Names) (change : Change) (r : TableRows) (y : NamedSessions)
     : Type 0
   where
     pub made : IsTrue y.are_settled → MayBeMade names change r
+    pub back : MayBeMade names change r → IsTrue y.are_settled
     pub new : IsTrue y.are_new → AreNewGroups r change.rows.groups
     pub unknown : IsTrue y.are_new → AreUnknown r change.rows.sessions
 

@@ -7,7 +7,8 @@ ghost use Rattle.sql_keeper.specs.Again.{AreLeftAgain, AreLeftRuledAgain, AreOpe
 ghost use Rattle.sql_keeper.specs.Again.{AreShelvesOne, AreStoppedWhole, IsFoundAgain};
 ghost use Rattle.sql_keeper.specs.Causes.{AreCausesApart};
 ghost use Rattle.sql_keeper.specs.Inside.{KeeperState};
-ghost use Rattle.sql_keeper.specs.Laws.{AreChangesRead, AreNewTablesEmpty, AreSweepsRead};
+ghost use Rattle.sql_keeper.specs.Laws.{AreChangesRead, AreEachSettled, AreNewTablesEmpty};
+ghost use Rattle.sql_keeper.specs.Laws.{AreSweepsRead};
 ghost use Rattle.sql_keeper.specs.LiveGroups.{AreOpenGroupsLoaded};
 ghost use Rattle.sql_keeper.specs.LiveRows.{AreLiveRowsLoaded};
 ghost use Rattle.sql_keeper.specs.RuledOpening.{AreRowsApart};
@@ -20,6 +21,14 @@ use sqlite::Alter;
 #[tactic(auto, using(crate::proofs::commits::Changed::changes_read))]
 pub fn changes_are_read()
     ensures { AreChangesRead }
+{}
+
+/// Sessions that a change names are settled where each of them is by itself; and only there, if
+/// each comes once.
+// rule: database-writes.writable
+#[tactic(auto, using(crate::proofs::commits::Changed::each_settled))]
+pub fn sessions_are_each_settled()
+    ensures { AreEachSettled }
 {}
 
 /// The rows that a sweep writes read as the sweep.

@@ -59,7 +59,7 @@ pub use crate::laws::{
     a_stop_is_opened_again, a_stop_leaves_the_last_commit, a_stopped_command_is_whole,
     causes_are_apart, changes_are_read, left_tables_are_found, live_rows_are_loaded,
     new_tables_are_empty, open_groups_are_loaded, rows_are_apart, ruled_tables_are_left_again,
-    shelves_are_one, sweeps_are_read, tables_are_left_again,
+    sessions_are_each_settled, shelves_are_one, sweeps_are_read, tables_are_left_again,
 };
 pub use crate::stopping::{Reopened, commit_and_stop, stop_and_open};
 pub use crate::stored_texts::kept_texts;

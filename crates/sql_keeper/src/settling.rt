@@ -1,6 +1,6 @@
 //! Whether a change may be made of what is stored: what of its account it has to name.
 
-ghost use Rattle.std.specs.Prelude.{◌≡◌, ◌&&◌, IfOk, IsTrue, false, is_some, not};
+ghost use Rattle.std.specs.Prelude.{◌≡◌, ◌&&◌, Err, Ok, false, if◌then◌else◌, is_some, not};
 ghost use Rattle.std.specs.List.{list_all};
 ghost use Rattle.reserving.specs.Sessions.{is_open};
 ghost use Rattle.sql_keeper.specs.Content.{shelf_names};
@@ -11,6 +11,7 @@ ghost use Rattle.sql_keeper.specs.Tests.{is_as, is_beside};
 ghost use Rattle.sql_rows.specs.Content.{rows_in};
 ghost use Rattle.sql_rows.specs.Texts.{group_at};
 ghost use Rattle.sql_tables.specs.Statements.{HasIdleTables};
+ghost use Rattle.sql_tables.specs.declared.reading.ReadFault.TheVariants.{Rules};
 ghost use Rattle.sqlite.specs.Held.{state};
 
 use crate::among::{has_group, has_session};
@@ -282,9 +283,10 @@ fn find_change<S: Alter>(
     Ok(found_with(found, sessions, groups))
 }
 
-/// What is said of a change that may be made, or may not: whether its sessions and groups are new.
+/// What is said of a change that may be made: whether its sessions and groups are new. It is out of
+/// the rules exactly where it may not be made.
 fn told(found: NamedSessions) -> Result<bool, ReadFault>
-    ensures { IfOk result (λ new. IsTrue found.are_settled × (new ≡ found.are_new)) }
+    ensures { result ≡ (if found.are_settled then Ok found.are_new else Err Rules) }
 {
     if is_settled(found) {
         Ok(found.are_new)

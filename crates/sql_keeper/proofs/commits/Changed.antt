@@ -15,6 +15,7 @@ use Rattle.reserving.specs.declared.session.Session.{Session}
 use Rattle.reserving.specs.declared.session.SessionGroup.{SessionGroup}
 use Rattle.reserving.specs.declared.session.Reservation.{Reservation}
 use Rattle.ledger.proofs.Holds.{same_itself}
+use Rattle.ledger.proofs.Names.{is_same-sym}
 use Rattle.ledger.specs.declared.terms.Terms.{Terms}
 use Rattle.reserving.specs.Sessions.{session_in, is_session, is_of, is_open, group_in, holds_in}
 use Rattle.ledger.specs.Lists.{EachIn}
@@ -22,6 +23,7 @@ use Rattle.reserving.specs.Rows.{AreApart}
 use Rattle.reserving.specs.Stored.{StoredRows}
 use Rattle.reserving.specs.Left.{is_open_row, first_of}
 use Rattle.reserving.proofs.Lists.{find-passes, EachIn-found, EachIn-weaker}
+use Rattle.reserving.proofs.LeftTests.{each_with}
 use Rattle.commands.specs.declared.key.Key.{Key}
 use Rattle.commands.specs.declared.key.Key.TheVariants.{Request, Reference}
 use Rattle.commands.specs.Keys.{same_key, key_of}
@@ -49,7 +51,7 @@ use Rattle.sql_keeper.specs.Writes.{with_all_counted, with_stored, with_texts}
 use Rattle.sql_keeper.specs.Writes.{with_kept, with_redeemed, AreTexts, with_change}
 use Rattle.sql_keeper.specs.Tests.{IsPeriodNamed, MayStand, AreNumbered, AreWritable}
 use Rattle.sql_keeper.specs.Tests.{first_number, is_open_over, IsSettled, AreSettled, MayBeMade}
-use Rattle.sql_keeper.specs.Laws.{AreChangesRead}
+use Rattle.sql_keeper.specs.Laws.{AreChangesRead, AreEachSettled}
 use Rattle.sql_keeper.proofs.puts.CountedPuts.{AreScoped, over_counted, counted_over, counted_told}
 use Rattle.sql_keeper.proofs.puts.CountedPuts.{over_paid, paid_over, paid_told}
 use Rattle.sql_keeper.proofs.puts.Overlays.{name_from, not_both, with_opened, opened, over_counters}
@@ -284,6 +286,50 @@ settled_each sessions groups r each s g y there none = at (session_in s sessions
         by (inl same) = inl same
         by (inr free) = inr (free g y there none)
 
+-- and only where each is, if each comes once
+found_apart : (xs : List Session) → AreApart same_session xs →
+    EachIn (λ (x : Session). session_in x.id xs ≡ Some x) xs
+found_apart [] h = tt
+found_apart (x ∷ xs) h = (
+  ap (λ t. cond t (Some x) (session_in x.id xs)) (same_itself x.id),
+  each_with (λ (y : Session). same_session x y ≡ false)
+      (λ (y : Session). session_in y.id xs ≡ Some y)
+      (λ (y : Session). session_in y.id (x ∷ xs) ≡ Some y) xs
+      (λ y e k. ap (λ t. cond t (Some x) (session_in y.id xs)) (is_same-sym x.id y.id ∙ e) ∙ k)
+      h.0 (found_apart xs h.1),
+)
+
+settled_alone : (sessions : List Session) (groups : List SessionGroup) (r : TableRows)
+    (x : Session) → AreSettled sessions groups r → session_in x.id sessions ≡ Some x →
+    IsSettled groups r x
+settled_alone sessions groups r x all there =
+    at (is_open x.state) (is_open_row (r.sessions x.id)) refl refl
+  where
+    so : (a b : Bool) → is_open x.state ≡ a → is_open_row (r.sessions x.id) ≡ b →
+        (a ≡ b → ⊥) → IsSettled groups r x
+    so a b e k apart = inr (λ g y is none.
+        elim (all x.id g y is none) [
+          | inl same ↦ absurd (apart (sym e ∙ ap is_open_row
+              (sym (ap (λ o. first_of o (r.sessions x.id)) there)) ∙ same ∙ k))
+          | inr free ↦ free
+        ])
+
+    at : (a b : Bool) → is_open x.state ≡ a → is_open_row (r.sessions x.id) ≡ b →
+        IsSettled groups r x
+    at true true e k = inl (e ∙ sym k)
+    at false false e k = inl (e ∙ sym k)
+    at true false e k = so true false e k (λ p. not_both p)
+    at false true e k = so false true e k (λ p. not_both (sym p))
+
+-- rule: database-writes.writable
+pub each_settled : AreEachSettled
+each_settled sessions groups r = (
+  settled_each sessions groups r,
+  λ apart all. EachIn-weaker (λ (x : Session). session_in x.id sessions ≡ Some x)
+      (IsSettled groups r) sessions
+      (λ x there. settled_alone sessions groups r x all there) (found_apart sessions apart),
+)
+
 -- the rows of a change have different keys
 pub keyed_named : (w : StoredRows) → IsNamed w → AreKeyed w
 keyed_named w h = record {
@@ -469,8 +515,9 @@ module _ (names : Names) (m : Meta) (change : Change) (texts : Option Kept) (c :
         kept_rows names change.kept texts
         (over_paid change.charges.items (over_stored names change.rows (c.rows x)))
         ∙ rows_read names change.rows.sessions change.rows (c.rows x)
-        (subst (λ a. AreSettled change.rows.sessions change.rows.groups (c.rows a))
-        (name_from change.number x e) may.settled)
+        (settled_each change.rows.sessions change.rows.groups (c.rows x)
+        (subst (λ a. EachIn (IsSettled change.rows.groups (c.rows a)) change.rows.sessions)
+        (name_from change.number x e) may.settled))
         (open_named change.rows.sessions (c.rows x))
         (may_at names change.rows.sessions change.rows.groups may.reservations)
         (keyed_named change.rows named).scoped

@@ -1,7 +1,8 @@
 -- Whether a change may be made of what is stored, by what is read of it.
 use Rattle.std.proofs.Common.{◌≡◌, ◌<◌, ◌≤◌, ◌+◌, take, get_or, length, ℕ, Bool, true, false}
 use Rattle.std.proofs.Common.{List, [], ◌∷◌, ◌++◌, cond, Option, Some, None, Result, Ok, Err, IfOk}
-use Rattle.std.proofs.Common.{IsTrue, inl, inr, refl, sym, ap, subst, ◌∙◌}
+use Rattle.std.proofs.Common.{IsTrue, ◌⊎◌, inl, inr, refl, sym, ap, subst, ◌∙◌, arith, ltb-true}
+use Rattle.std.proofs.Common.{zero, suc}
 use Rattle.std.specs.Prelude.{◌||◌, ◌&&◌, if◌then◌else◌, map, not, nat_eq, is_some, option_map, ⊤}
 use Rattle.std.specs.List.{find, list_all}
 use Rattle.std.proofs.lemmas.Bool.{and_parts, not-true}
@@ -15,14 +16,17 @@ use Rattle.reserving.specs.declared.session.SessionGroup.{SessionGroup}
 use Rattle.ledger.specs.Lists.{EachIn}
 use Rattle.reserving.specs.Sessions.{group_in, is_open, is_session, session_in}
 use Rattle.reserving.specs.Left.{is_open_row}
-use Rattle.reserving.proofs.Lists.{EachIn-found, find-passes, not_both, no_some, some_of}
+use Rattle.reserving.proofs.Lists.{EachIn-found, EachIn-weaker, find-passes, not_both, no_some}
+use Rattle.reserving.proofs.Lists.{some_of}
 use Rattle.reserving.proofs.KeysFound.{is_none_is}
-use Rattle.reserving.proofs.LeftTests.{each_append}
+use Rattle.reserving.proofs.LeftTests.{each_append, each_with}
+use Rattle.reserving.proofs.Restored.{all_pass}
 use Rattle.keepers.specs.declared.loaded.Change.{Change}
 use Rattle.sql_tables.specs.Statements.{HasIdleTables, Reads}
 use Rattle.sql_rows.specs.declared.head.HeadColumns.{HeadColumns}
 use Rattle.sql_rows.specs.Content.{TableRows, rows_in}
-use Rattle.sql_rows.specs.Lists.{AreCoveredBeside, AreGroups, GroupAt, HasNoGroups}
+use Rattle.sql_rows.specs.Lists.{AreCoveredBeside, AreGroups, Ascends, GroupAt, HasNoGroups}
+use Rattle.sql_rows.specs.Lists.{group_at_before}
 use Rattle.sql_rows.specs.Values.{Group}
 use Rattle.sql_rows.proofs.rules.ChargeBlocks.{covered_beside}
 use Rattle.sql_keeper.specs.Numbers.{AreFree, first_bucket}
@@ -30,17 +34,16 @@ use Rattle.sql_keeper.specs.RuledRows.{is_ruled_change}
 use Rattle.sql_keeper.specs.Content.{Names}
 use Rattle.sql_keeper.specs.LiveGroups.{Gathers}
 use Rattle.sql_keeper.specs.Seen.{IsStanding, IsUnknown, is_unknown, stands_open}
-use Rattle.sql_keeper.specs.Tests.{is_as, is_beside, are_beside, IsSettled, AreSettled}
+use Rattle.sql_keeper.specs.Tests.{is_as, is_beside, are_beside, IsSettled}
 use Rattle.sql_keeper.specs.Tests.{AreFound, AreNewGroups, AreWritable, IsChangeFound, IsFound}
 use Rattle.sql_keeper.specs.Tests.{AreNumbered, AreUnknown, IsTested, are_among, first_number}
 use Rattle.sql_keeper.specs.declared.seen.Standing.{Standing}
 use Rattle.sql_keeper.specs.declared.seen.Standing.TheVariants.{Unknown, Open, Over}
 use Rattle.sql_keeper.specs.declared.settling.NamedSessions.{NamedSessions}
-use Rattle.sql_keeper.proofs.commits.Changed.{settled_each}
 use Rattle.sql_keeper.proofs.reads.InTurn.{HaveRead, none_read, have_read, have_gathered}
 use Rattle.sql_keeper.proofs.reads.InTurn.{have_read_then, gathers_from}
 use Rattle.sql_keeper.proofs.loads.LiveGroups.{told_before}
-use Rattle.sql_keeper.proofs.puts.Overlays.{name_from, number_from}
+use Rattle.sql_keeper.proofs.puts.Overlays.{name_from, number_from, number_itself}
 
 -- ---- the groups of a session
 
@@ -80,6 +83,62 @@ free_beside groups s xs r are all g y there none =
         (some_of x.row y k) none
         (all_found (is_beside groups s) (λ z. nat_eq z.group g) xs x all e)
 
+-- rows in the order of their groups are each found under its own
+other_group : (m n : ℕ) → m < n → nat_eq m n ≡ false
+other_group m n less = at (nat_eq m n) refl
+  where
+    at : (t : Bool) → nat_eq m n ≡ t → t ≡ false
+    at true e = absurd (let same = number_from m n e in omega (arith, same, less))
+    at false e = refl
+
+after_first : (x : GroupAt) (xs : List GroupAt) → Ascends group_at_before (x ∷ xs) →
+    EachIn (λ (y : GroupAt). x.group < y.group) xs
+after_first x [] order = tt
+after_first x (y ∷ ys) order =
+    let less : x.group < y.group = ltb-true x.group y.group order.0 in (
+      less,
+      EachIn-weaker (λ (z : GroupAt). y.group < z.group) (λ (z : GroupAt). x.group < z.group) ys
+          (λ z more. omega (arith, less, more)) (after_first y ys order.1),
+    )
+
+ascends_later : (x : GroupAt) (xs : List GroupAt) → Ascends group_at_before (x ∷ xs) →
+    Ascends group_at_before xs
+ascends_later x [] order = tt
+ascends_later x (y ∷ ys) order = order.1
+
+own_rows : (xs : List GroupAt) → Ascends group_at_before xs →
+    EachIn (λ (x : GroupAt). find (λ (z : GroupAt). nat_eq z.group x.group) xs ≡ Some x) xs
+own_rows [] order = tt
+own_rows (x ∷ xs) order = (
+  ap (λ t. cond t (Some x) (find (λ (z : GroupAt). nat_eq z.group x.group) xs))
+      (number_itself x.group),
+  each_with (λ (y : GroupAt). x.group < y.group)
+      (λ (y : GroupAt). find (λ (z : GroupAt). nat_eq z.group y.group) xs ≡ Some y)
+      (λ (y : GroupAt). find (λ (z : GroupAt). nat_eq z.group y.group) (x ∷ xs) ≡ Some y) xs
+      (λ y less there.
+      ap (λ t. cond t (Some x) (find (λ (z : GroupAt). nat_eq z.group y.group) xs))
+      (other_group x.group y.group less) ∙ there)
+      (after_first x xs order) (own_rows xs (ascends_later x xs order)),
+)
+
+-- so where no group that isn't named has a reservation, each row is beside
+pub beside_free : (groups : List SessionGroup) (s : List ℕ) (xs : List GroupAt) (r : TableRows) →
+    Ascends group_at_before xs → AreGroups r s xs → ((g : ℕ) (y : Group) →
+    r.groups s g ≡ Some y → group_in s g groups ≡ None → y.periods ≡ None) →
+    are_beside groups s xs ≡ true
+beside_free groups s xs r order are free =
+    all_pass (is_beside groups s)
+    (λ (x : GroupAt). find (λ (z : GroupAt). nat_eq z.group x.group) xs ≡ Some x)
+    (λ x there. at x (group_in s x.group groups) refl
+    (sym (are x.group) ∙ ap (option_map (λ (z : GroupAt). z.row)) there)) xs (own_rows xs order)
+  where
+    at : (x : GroupAt) (o : Option SessionGroup) → group_in s x.group groups ≡ o →
+        r.groups s x.group ≡ Some x.row → is_beside groups s x ≡ true
+    at x None e there =
+        ap (λ p. is_some p || not (is_some x.row.periods)) e
+        ∙ ap (λ p. not (is_some p)) (free x.group x.row there e)
+    at x (Some y) e there = ap (λ p. is_some p || not (is_some x.row.periods)) e
+
 pub all_map : {A B : Type 0} (p : B → Bool) (f : A → B) (xs : List A) →
     list_all (λ x. p (f x)) xs ≡ list_all p (map f xs)
 all_map p f [] = refl
@@ -107,6 +166,7 @@ found_new {E} a groups x y old new stands gone =
     of_none (rows_in old.now.trees a) x.id y (stands.found clean on) gone in record {
       settled = λ t. inr (λ g z there free.
           absurd (no_some z (sym (nothing.groups.groups g) ∙ there)));
+      back = λ h. refl;
       new = λ t. nothing;
     })
   where
@@ -138,19 +198,39 @@ found_stays {E} a groups x y old new stands same =
     (λ clean on. record {
       settled = λ t. inl (as_open (is_open x.state) (stands_open y) (sym same)
           ∙ open_as (rows_in old.now.trees a) x.id y (stands.found clean on));
+      back = λ h. refl;
       new = λ t. absurd (not_both t);
     })
+
+as_same : (a b : Bool) → a ≡ b → (if a then b else not b) ≡ true
+as_same true b e = sym e
+as_same false b e = ap not (sym e)
+
+-- one that doesn't stay has groups that are free, if it is settled
+turned_free : (groups : List SessionGroup) (r : TableRows) (x : Session) (y : Standing)
+    (xs : List GroupAt) → IsStanding r x.id y → false ≡ is_as x (stands_open y) →
+    Ascends group_at_before xs → AreGroups r x.id xs → IsSettled groups r x →
+    are_beside groups x.id xs ≡ true
+turned_free groups r x y xs stands turns order are settled = by settled
+  where
+    by : (is_open x.state ≡ is_open_row (r.sessions x.id)) ⊎ ((g : ℕ) (z : Group) →
+        r.groups x.id g ≡ Some z → group_in x.id g groups ≡ None → z.periods ≡ None) →
+        are_beside groups x.id xs ≡ true
+    by (inl same) = absurd (not_both (turns
+        ∙ as_same (is_open x.state) (stands_open y) (same ∙ sym (open_as r x.id y stands))))
+    by (inr free) = beside_free groups x.id xs r order are free
 
 -- and one by its groups
 pub found_groups : {A E : Type 0} (a : List ℕ) (groups : List SessionGroup) (x : Session)
     (y : Standing) (v : A) (items : A → List GroupAt) (b : Bool) (old mid new : State) →
     Gathers {A = Standing} {E = E} (λ trees z. IsStanding (rows_in trees a) x.id z) old mid
-    (Ok y) →
+    (Ok y) → false ≡ is_as x (stands_open y) →
     Reads {A = A} {E = E} (λ trees w. AreGroups (rows_in trees a) x.id (items w)) mid new (Ok v) →
+    Ascends group_at_before (items v) →
     b ≡ are_beside groups x.id (items v) → Gathers {A = NamedSessions} {E = E}
     (λ trees z. IsFound groups (rows_in trees a) x z) old new
     (Ok (record { are_settled = b; are_new = false }))
-found_groups {A} {E} a groups x y v items b old mid new one two is =
+found_groups {A} {E} a groups x y v items b old mid new one turns two order is =
     let first = have_gathered {A = Standing} {E = E}
     (λ trees z. IsStanding (rows_in trees a) x.id z) old mid y one in
     gathers_from {A = NamedSessions} {E = E} (λ trees z. IsFound groups (rows_in trees a) x z)
@@ -158,11 +238,16 @@ found_groups {A} {E} a groups x y v items b old mid new one two is =
     (have_read_then old mid new first
     (have_read {A = A} {E = E} (λ trees w. AreGroups (rows_in trees a) x.id (items w)) mid new v
     two))
-    (λ clean on. record {
+    (λ clean on.
+    let rows : TableRows = rows_in old.now.trees a in
+    let are : AreGroups rows x.id (items v) =
+    told_before (λ trees. AreGroups (rows_in trees a) x.id (items v)) old mid new one.only
+    two.only clean on (two.found clean) in
+    let stands : IsStanding rows x.id y =
+    one.found (two.only.cleanness clean) (two.only.still clean on).was_open in record {
       settled = λ t. inr (λ g z there none.
-          free_beside groups x.id (items v) (rows_in old.now.trees a)
-          (told_before (λ trees. AreGroups (rows_in trees a) x.id (items v)) old mid new one.only
-          two.only clean on (two.found clean)) (sym is ∙ t) g z there none);
+          free_beside groups x.id (items v) rows are (sym is ∙ t) g z there none);
+      back = λ h. is ∙ turned_free groups rows x y (items v) stands turns order are h;
       new = λ t. absurd (not_both t);
     })
 
@@ -223,20 +308,34 @@ not_so y is t = not_both (sym (ap (λ (z : NamedSessions). z.are_settled) is) �
 not_new : (y : NamedSessions) → IsUnsettled y → IsTrue y.are_new → ⊥
 not_new y is t = not_both (sym (ap (λ (z : NamedSessions). z.are_new) is) ∙ t)
 
+each_at : {A : Type 0} (P : A → Type 0) (xs : List A) (i : ℕ) (d : A) → i < length xs →
+    EachIn P xs → P (get_or xs i d)
+each_at P [] i d less each = absurd (omega (arith, less))
+each_at P (x ∷ xs) zero d less each = each.0
+each_at P (x ∷ xs) (suc i) d less each = each_at P xs i d (omega (arith, less)) each.1
+
 -- one that isn't settled
 pub one_unsettled : {E : Type 0} (groups : List SessionGroup) (a : List ℕ) (xs ys : List Session)
-    (x : Session) (are : Bool) (y z : NamedSessions) (old mid new : State) → IsUnsettled z →
+    (i : ℕ) (x : Session) (are : Bool) (y z : NamedSessions) (old mid new : State) →
+    i < length ys → x ≡ get_or ys i x → false ≡ y.are_settled → IsUnsettled z →
     HasFound groups a xs are old mid → Gathers {A = NamedSessions} {E = E}
     (λ trees w. IsFound groups (rows_in trees a) x w) mid new (Ok y) →
     Gathers {A = NamedSessions} {E = E} (λ trees w. AreFound ys groups (rows_in trees a) w) old new
     (Ok z)
-one_unsettled {E} groups a xs ys x are y z old mid new is before here =
+one_unsettled {E} groups a xs ys i x are y z old mid new less at fails is before here =
     gathers_from {A = NamedSessions} {E = E} (λ trees w. AreFound ys groups (rows_in trees a) w)
     old new (Ok z)
     (have_read_then old mid new before.reads (have_gathered {A = NamedSessions} {E = E}
     (λ trees w. IsFound groups (rows_in trees a) x w) mid new y here))
-    (λ clean on. record {
+    (λ clean on.
+    let rows : TableRows = rows_in old.now.trees a in
+    let found : IsFound groups rows x y =
+    told_before (λ trees. IsFound groups (rows_in trees a) x y) old mid new before.reads.only
+    here.only clean on (here.found clean on) in record {
       settled = λ t. absurd (not_so z is t);
+      back = λ each. absurd (not_both (fails
+          ∙ found.back (subst (IsSettled groups rows) (sym at)
+          (each_at (IsSettled groups rows) ys i x less each))));
       new = λ t. absurd (not_new z is t);
     })
 
@@ -249,9 +348,9 @@ sessions_found {E} groups a xs i are old new end h =
     gathers_from {A = NamedSessions} {E = E} (λ trees y. AreFound xs groups (rows_in trees a) y)
     old new (Ok (record { are_settled = true; are_new = are })) h.reads
     (λ clean on. record {
-      settled = λ t. settled_each xs groups (rows_in old.now.trees a)
-          (subst (EachIn (IsSettled groups (rows_in old.now.trees a))) (take_all i xs end)
-          (h.settled clean on));
+      settled = λ t. subst (EachIn (IsSettled groups (rows_in old.now.trees a)))
+          (take_all i xs end) (h.settled clean on);
+      back = λ each. refl;
       new = λ t. subst (AreUnknown (rows_in old.now.trees a)) (take_all i xs end)
           (h.news clean on t);
     })
@@ -279,9 +378,12 @@ new_groups r sessions (g ∷ gs) each among =
 pub change_unsettled : {E : Type 0} (names : Names) (change : Change) (o : Option HeadColumns)
     (z : NamedSessions) (old new : State) → IsUnsettled z → Gathers {A = Option HeadColumns} {E = E}
     (λ trees p. p ≡ (rows_in trees change.number).head) old new (Ok o) →
+    (AreWritable names change.rows.sessions change.rows.groups →
+    AreNumbered (first_number o) change.rows.next_charge change.charges.items →
+    IsTrue (is_ruled_change names change) → IsTrue false) →
     Gathers {A = NamedSessions} {E = E}
     (λ trees w. IsChangeFound names change (rows_in trees change.number) w) old new (Ok z)
-change_unsettled {E} names change o z old new is reads =
+change_unsettled {E} names change o z old new is reads fails =
     gathers_from {A = NamedSessions} {E = E}
     (λ trees w. IsChangeFound names change (rows_in trees change.number) w) old new (Ok z)
     (have_gathered {A = Option HeadColumns} {E = E} (λ trees p. p ≡
@@ -289,6 +391,9 @@ change_unsettled {E} names change o z old new is reads =
     old new o reads)
     (λ clean on. record {
       made = λ t. absurd (not_so z is t);
+      back = λ may. absurd (not_both (fails may.reservations
+          (subst (λ h. AreNumbered (first_number h) change.rows.next_charge change.charges.items)
+          (sym (reads.found clean on)) may.numbers) may.ruled));
       new = λ t. absurd (not_new z is t);
       unknown = λ t. absurd (not_new z is t);
     })
@@ -318,34 +423,32 @@ change_found {E} names change o xs ys y z old mid new same_xs same_ys is one wri
     old mid o one)
     (have_gathered {A = NamedSessions} {E = E}
     (λ trees w. AreFound xs ys (rows_in trees change.number) w) mid new y two))
-    (λ clean on. record {
+    (λ clean on.
+    let rows : TableRows = rows_in old.now.trees change.number in
+    let found : AreFound xs ys rows y =
+    told_before (λ trees. AreFound xs ys (rows_in trees change.number) y) old mid new one.only
+    two.only clean on (two.found clean on) in record {
       made = λ t. record {
         reservations = writable;
         ruled = ruled;
         numbers = subst (λ h. AreNumbered (first_number h) change.rows.next_charge
             change.charges.items)
             (one.found (two.only.cleanness clean) (two.only.still clean on).was_open) numbered;
-        settled = subst
-            (λ zs. AreSettled zs change.rows.groups (rows_in old.now.trees change.number)) same_xs
-            (subst (λ zs. AreSettled xs zs (rows_in old.now.trees change.number)) same_ys
-            (told_before (λ trees. AreSettled xs ys (rows_in trees change.number)) old mid new
-            one.only two.only clean on
-            ((two.found clean on).settled
-            (sym (ap (λ (w : NamedSessions). w.are_settled) is) ∙ t))));
+        settled = subst (EachIn (IsSettled change.rows.groups rows)) same_xs
+            (subst (λ zs. EachIn (IsSettled zs rows) xs) same_ys
+            (found.settled (sym (ap (λ (w : NamedSessions). w.are_settled) is) ∙ t)));
       };
+      back = λ may. ap (λ (w : NamedSessions). w.are_settled) is
+          ∙ found.back (subst (λ zs. EachIn (IsSettled zs rows) xs) (sym same_ys)
+          (subst (EachIn (IsSettled change.rows.groups rows)) (sym same_xs) may.settled));
       new = λ t.
           let both = and_parts (are_among xs ys) y.are_new
           (sym (ap (λ (w : NamedSessions). w.are_new) is) ∙ t) in
-          subst (AreNewGroups (rows_in old.now.trees change.number)) same_ys
-          (new_groups (rows_in old.now.trees change.number) xs ys
-          (told_before (λ trees. AreUnknown (rows_in trees change.number) xs) old mid new one.only
-          two.only clean on ((two.found clean on).new both.1)) both.0);
+          subst (AreNewGroups rows) same_ys (new_groups rows xs ys (found.new both.1) both.0);
       unknown = λ t.
           let both = and_parts (are_among xs ys) y.are_new
           (sym (ap (λ (w : NamedSessions). w.are_new) is) ∙ t) in
-          subst (AreUnknown (rows_in old.now.trees change.number)) same_xs
-          (told_before (λ trees. AreUnknown (rows_in trees change.number) xs) old mid new one.only
-          two.only clean on ((two.found clean on).new both.1));
+          subst (AreUnknown rows) same_xs (found.new both.1);
     })
 
 -- covered blocks are beside a charge, since their key is one of charges
@@ -359,8 +462,8 @@ beside_at s idle live a clean on =
 -- of a change that passed, whose new buckets have free numbers
 -- rule: database-writes.writable
 pub tested : {E : Type 0} (names : Names) (change : Change) (xs : List BucketRow)
-    (y : NamedSessions) (u : ⊤) (r : Result Bool E) (old mid new : State)
-    → xs ≡ change.rows.buckets → IfOk r (λ b. IsTrue y.are_settled × (b ≡ y.are_new)) →
+    (y : NamedSessions) (u : ⊤) (e : E) (r : Result Bool E) (old mid new : State)
+    → xs ≡ change.rows.buckets → r ≡ (if y.are_settled then Ok y.are_new else Err e) →
     HasIdleTables old → IsLive old →
     Gathers {A = ⊤} {E = E} (λ trees done. AreFree
     (first_bucket (rows_in trees change.number).head) (rows_in trees change.number) xs) old mid
@@ -369,7 +472,7 @@ pub tested : {E : Type 0} (names : Names) (change : Change) (xs : List BucketRow
     (λ trees w. IsChangeFound names change (rows_in trees change.number) w) mid new (Ok y) →
     Gathers {A = Bool} {E = E}
     (λ trees b. IsTested names change (rows_in trees change.number) b) old new r
-tested {E} names change xs y u r old mid new same passes idle live one two =
+tested {E} names change xs y u e r old mid new same passes idle live one two =
     gathers_from {A = Bool} {E = E}
     (λ trees b. IsTested names change (rows_in trees change.number) b) old new r
     (have_read_then old mid new
@@ -381,23 +484,24 @@ tested {E} names change xs y u r old mid new same passes idle live one two =
     (λ clean on.
     let after = two.only.still clean on in
     let was : HasCleanDisk mid = two.only.cleanness clean in
-    so r passes (rows_in old.now.trees change.number)
+    subst (λ q. IfOk q (λ b. IsTested names change (rows_in old.now.trees change.number) b))
+    (sym passes)
+    (so y.are_settled refl (rows_in old.now.trees change.number)
     (told_before (λ trees. IsChangeFound names change (rows_in trees change.number) y) old mid new
     one.only two.only clean on (two.found clean on))
     (beside_at old idle live change.number (one.only.cleanness was)
     (one.only.still was after.was_open).was_open)
     (subst (AreFree (first_bucket (rows_in old.now.trees change.number).head)
-    (rows_in old.now.trees change.number)) same (one.found was after.was_open)))
+    (rows_in old.now.trees change.number)) same (one.found was after.was_open))))
   where
-    so : (q : Result Bool E) → IfOk q (λ b. IsTrue y.are_settled × (b ≡ y.are_new)) →
-        (s : TableRows) → IsChangeFound names change s y → AreCoveredBeside s →
-        AreFree (first_bucket s.head) s change.rows.buckets →
-        IfOk q (λ b. IsTested names change s b)
-    so (Ok b) t s found beside free = record {
-      made = found.made t.0;
-      new = λ u. found.new (sym t.1 ∙ u);
-      unknown = λ u. found.unknown (sym t.1 ∙ u);
+    so : (t : Bool) → y.are_settled ≡ t → (s : TableRows) → IsChangeFound names change s y →
+        AreCoveredBeside s → AreFree (first_bucket s.head) s change.rows.buckets →
+        IfOk {E = E} (if t then Ok y.are_new else Err e) (λ b. IsTested names change s b)
+    so true settles s found beside free = record {
+      made = found.made settles;
+      new = found.new;
+      unknown = found.unknown;
       covered = beside;
       free = free;
     }
-    so (Err e) t s found beside free = tt
+    so false settles s found beside free = tt

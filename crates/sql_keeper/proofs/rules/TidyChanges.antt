@@ -19,7 +19,7 @@ use Rattle.sql_keeper.specs.Tests.{AreSettled, MayBeMade}
 use Rattle.sql_keeper.specs.Tidy.{AreTidyRows, EndsTidy, IsTidy, are_terms}
 use Rattle.sql_keeper.specs.Tidy.{has_terms}
 use Rattle.sql_keeper.specs.Writes.{AreTexts, meta_at, with_change}
-use Rattle.sql_keeper.proofs.commits.Changed.{keyed_named, open_named}
+use Rattle.sql_keeper.proofs.commits.Changed.{keyed_named, open_named, settled_each}
 use Rattle.sql_keeper.proofs.puts.Overlays.{not_both}
 use Rattle.sql_keeper.proofs.rules.Tidy.{may_be_over, tidy_meta, tidy_written}
 
@@ -49,7 +49,8 @@ tidy_change names m change texts c named may told t =
     tidy_written names change.number change.rows change.charges.items change.kept texts
     change.redeemed m c change.rows.sessions (keyed_named change.rows named) may.reservations
     may.numbers told
-    (ends_settled change.rows (c.rows change.number) may.settled)
+    (ends_settled change.rows (c.rows change.number)
+    (settled_each change.rows.sessions change.rows.groups (c.rows change.number) may.settled))
     (may_be_over names change.number change.rows change.charges.items change.kept texts
     change.redeemed m c change.rows.sessions (keyed_named change.rows named) may.reservations
     may.numbers told (open_named change.rows.sessions (c.rows change.number))) t

@@ -14,7 +14,7 @@ pub returns-then-not-may_be_written : goal.returns-then-not-may_be_written
 returns-then-not-may_be_written g c =
     change_unsettled (shelf_names c.args.books.now) c.args.change.now c.in_ok-head.head
     c.unsettled.result (state g.S.Store c.args.conn.now) (state g.S.Store c.find_head.new.conn)
-    c.unsettled.ensures c.in_ok-head.ensures
+    c.unsettled.ensures c.in_ok-head.ensures c.if-not-may_be_written.ensures.back
 
 pub returns : goal.returns
 returns g c =

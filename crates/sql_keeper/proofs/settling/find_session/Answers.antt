@@ -23,7 +23,8 @@ returns g c =
     found_groups c.args.account.now c.args.groups.now c.args.session.now c.in_ok-before.before
     c.in_ok-rows.rows (λ xs. map group_at xs.items) c.are_beside.result
     (state g.S.Store c.args.conn.now) (state g.S.Store c.find_standing.new.conn)
-    (state g.S.Store c.read_groups.new.conn) c.in_ok-before.ensures c.in_ok-rows.ensures.reads
+    (state g.S.Store c.read_groups.new.conn) c.in_ok-before.ensures c.if-stays.ensures
+    c.in_ok-rows.ensures.reads c.in_ok-rows.ensures.order
     (c.are_beside.ensures ∙ ap (λ (xs : _). list_all
     (λ (r : _). is_beside c.args.groups.now c.args.session.now.id (group_at r)) xs)
     c.deref.ensures.value ∙ all_map (is_beside c.args.groups.now c.args.session.now.id) group_at

@@ -25,11 +25,11 @@ returns-in_err-found g c =
 
 pub returns-then-not-is_settled : goal.returns-then-not-is_settled
 returns-then-not-is_settled g c =
-    one_unsettled c.args.groups.now c.args.account.now _ c.args.sessions.now c.session-item.result
-    c.sessions.are_new c.in_ok-found.found c.unsettled.result
-    (state g.S.Store c.args.conn.now) (state g.S.Store c.sessions.conn)
-    (state g.S.Store c.find_session.new.conn) c.unsettled.ensures c.sessions.invariant
-    c.in_ok-found.ensures
+    one_unsettled c.args.groups.now c.args.account.now _ c.args.sessions.now
+    c.sessions.session-index c.session-item.result c.sessions.are_new c.in_ok-found.found
+    c.unsettled.result (state g.S.Store c.args.conn.now) (state g.S.Store c.sessions.conn)
+    (state g.S.Store c.find_session.new.conn) (omega arith) c.session-item.is
+    c.if-not-is_settled.ensures c.unsettled.ensures c.sessions.invariant c.in_ok-found.ensures
 
 pub sessions-preserved : goal.sessions-preserved
 sessions-preserved g c =

@@ -1,4 +1,5 @@
 use Rattle.sqlite.specs.Held.{state}
+use Rattle.sql_tables.specs.declared.reading.ReadFault.TheVariants.{Rules}
 use Rattle.sql_keeper.specs.Content.{shelf_names}
 use Rattle.sql_keeper.proofs.reads.InTurn.{failed_then, have_gathered}
 use Rattle.sql_keeper.proofs.kept.SeenRows.{seen_after}
@@ -23,7 +24,7 @@ returns-in_err-found g c =
 pub returns : goal.returns
 returns g c =
     tested (shelf_names c.args.books.now) c.args.change.now c.buckets.result.now
-    c.in_ok-found.found c.in_ok-test_bucket_numbers.field-0 c.told.result
+    c.in_ok-found.found c.in_ok-test_bucket_numbers.field-0 Rules c.told.result
     (state g.S.Store c.args.conn.now) (state g.S.Store c.test_bucket_numbers.new.conn)
     (state g.S.Store c.find_change.new.conn) c.buckets.ensures c.told.ensures
     c.requires.idle c.schema-ours.ensures.live c.in_ok-test_bucket_numbers.ensures
