@@ -119,10 +119,11 @@ class Failovers:
 
     def right(self) -> None:
         """Each acknowledged command has its first answer, rows are those of the answers, and both
-        copies of each shard are the same, block by block; nobody asks meanwhile."""
+        copies of each shard are the same, block by block; nobody asks meanwhile. An answer is waited
+        for as after a failover: a machine that has no time may be fenced at any moment."""
         gateways = self.gateways
-        gateways.settle()
-        assert gateways.repeat() == gateways.answered
+        gateways.settle(SECONDS)
+        assert gateways.repeat(seconds=SECONDS) == gateways.answered
         self.repeated = gateways.answered
         for shard, name in setup.served(self.site).items():
             self.compare(shard, name)
