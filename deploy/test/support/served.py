@@ -86,8 +86,9 @@ class Served:
         """The shard on a device has the database and the log of these paths."""
         place = host.layout.place
         host.sh(f"{MOUNT[self.kind]} {device} {place}")
-        host.sh(f"cat {files[0]} > {place}/01.db; cat {files[1]} > {place}/01.db-wal")
-        host.sh(f"umount {place}")
+        host.sh(f"cat {files[0]} > {place}/01.db && cat {files[1]} > {place}/01.db-wal")
+        # Where another process has the file system in mounts of its own, umount writes nothing.
+        host.sh(f"sync --file-system {place} && umount {place}")
 
     def begin(self, host: Host, device: str, where: str) -> None:
         """The shard is right on a machine's device, and is served there from now on."""
