@@ -5,8 +5,9 @@ from __future__ import annotations
 
 import pathlib
 
-from support.world import BOOK, program
+from support.world import BOOK, DEPLOY, program
 
+from machines import page
 from machines.office import TWO, file, on
 
 MORE = '[haproxy]\nuser = ""\nsockets = "/mnt"\n[cluster]'
@@ -17,7 +18,7 @@ mkdir /var/lib/ocs/01
 {program} serve /var/lib/ocs/01/01.db --port 8101 --connections 100000 > /mnt/told 2>&1 & shard=$!
 $office --file {file} doors > /mnt/haproxy.cfg
 haproxy -db -f /mnt/haproxy.cfg > /mnt/log 2>&1 & haproxy=$!
-ask() {{ curl -sS --max-time 60 -o - -w ' %{{http_code}}\\n' "$@" 2>&1; }}
+ask() {{ echo "$(curl -sS --max-time 60 -o - -w ' %{{http_code}}' "$@" 2>&1)"; }}
 until ask http://127.0.0.1:8081/office | grep -q ' 200$'; do sleep 0.1; done
 """
 ENDED = "kill $haproxy $shard; wait"
@@ -108,3 +109,25 @@ def test_a_request_that_was_under_way_at_a_dead_machine_lets_the_next_go(
         "kill $relay",
     )
     assert told == ['{"Result-Code":5012} 502', '{"Result-Code":2001} 200', "soon"]
+
+
+# Somebody listens where the relays of both machines are, and may be reached by everybody.
+OPEN = """\
+socat -u TCP-LISTEN:8201,fork,reuseaddr OPEN:/dev/null > /mnt/told 2>&1 & own=$!
+reached() { runuser -u "$1" -- bash -c ": < /dev/tcp/$2/8201" 2> /mnt/told; }
+for a in 10.51.0.11 10.51.0.12; do until reached nobody $a; do sleep 0.1; done; done
+"""
+ASKED = """
+for user in nobody haproxy; do
+    for a in 10.51.0.11 10.51.0.12; do reached $user $a && echo $user reaches $a; done
+done
+kill $own $relay
+"""
+
+
+def test_users_of_a_machine_are_kept_from_the_relays_of_both() -> None:
+    ports = page.fenced(page.section("The shards' own ports", DEPLOY / "README.md"))
+    set_up = page.blocks(page.section("Set up"))
+    relays = next(lines for _, lines in set_up if "8201-8298" in lines)
+    told = on("m1", f"{PEER}{OPEN}{ports}{relays}{ASKED}").splitlines()
+    assert told == [f"haproxy reaches {address}" for address in ("10.51.0.11", "10.51.0.12")]
