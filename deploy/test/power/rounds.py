@@ -21,6 +21,9 @@ from support.waiting import until
 SIZE = 400 << 20
 # Each third cut comes while a book is added.
 BOOK = 3
+# Seconds from one look for a checkpoint to the next, and at most until the cut: a checkpoint takes some
+# tens of milliseconds, and on a busy machine some hundreds.
+LOOKS, MIDST = 0.001, (0.01, 0.03, 0.3)
 
 
 class Powered(Protocol):
@@ -106,8 +109,8 @@ class Drill:
         database = pathlib.Path(self.powered.host.layout.place) / "01.db"
         before = database.stat().st_mtime_ns
         self.served.gateways.start()
-        until(lambda: database.stat().st_mtime_ns != before, "a checkpoint", 600)
-        time.sleep(self.chance.uniform(0, 0.3))
+        until(lambda: database.stat().st_mtime_ns != before, "a checkpoint", 600, LOOKS)
+        time.sleep(self.chance.choice(MIDST) * self.chance.random())
 
     def begin(self) -> None:
         """There is power again: what the disk has is right, and is served."""
