@@ -2,3 +2,5 @@
 pub mod KeptRows
 pub mod RowsOver
 pub mod SeenRows
+pub mod SeenFirst
+pub mod FirstOver

@@ -12,6 +12,7 @@ pub mod Creates
 pub mod Dead
 pub mod Faults
 pub mod Finds
+pub mod FirstOver
 pub mod Grants
 pub mod GroupRows
 pub mod Inside
@@ -30,6 +31,7 @@ pub mod Repeating
 pub mod RuledOpening
 pub mod RuledRows
 pub mod Seen
+pub mod SeenFirst
 pub mod Settled
 pub mod Shelves
 pub mod Stops

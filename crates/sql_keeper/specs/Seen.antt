@@ -1,7 +1,7 @@
 -- What a keeper has seen of an account since its tables were last written.
 -- Source: profile.
 use Rattle.std.specs.Prelude.{◌≡◌, ◌≤◌, true, false, Bool, Option, Some, None, IsTrue, is_some}
-use Rattle.std.specs.Prelude.{if◌then◌else◌}
+use Rattle.std.specs.Prelude.{if◌then◌else◌, IfSome}
 use Rattle.units.specs.Words.{Moment}
 use Rattle.identifiers.specs.Words.{AccountName, SessionName}
 use Rattle.sqlite_trees.specs.Tree.{Trees}
@@ -20,12 +20,14 @@ use Rattle.sql_keeper.specs.Content.{last_in}
 use Rattle.sql_keeper.specs.Grants.{IsGrantIn, IsGrantSeen, is_name}
 use Rattle.sql_keeper.specs.Inside.{IsKeeper, KeeperState, names_in}
 use Rattle.sql_keeper.specs.KeptRows.{AreKept}
+use Rattle.sql_keeper.specs.SeenFirst.{IsFirstRead}
 use Rattle.sql_keeper.specs.Writes.{head_columns_of}
 use Rattle.sql_keeper.specs.declared.kept_rows.KeptRows.{KeptRows}
 use Rattle.sql_keeper.specs.declared.seen.SeenAccount.{SeenAccount}
 use Rattle.sql_keeper.specs.declared.seen.SeenGrant.{SeenGrant}
 use Rattle.sql_keeper.specs.declared.seen.Standing.{Standing}
 use Rattle.sql_keeper.specs.declared.seen.Standing.TheVariants.{Unknown, Open, Over}
+use Rattle.sql_keeper.specs.declared.seen_first.SeenFirst.{SeenFirst}
 
 -- ---- what is known of a session
 
@@ -70,6 +72,7 @@ pub record IsSeenOf (a : AccountName) (w : StoredRows) (x : SeenAccount) : Type 
   pub grant : (s : SessionName) (y : SeenGrant) → x.live ≡ Some s → x.grant ≡ Some y
       → IsGrantIn w.groups s y
   pub unknown : x.unknown ≡ None
+  pub first : x.first ≡ None
 
 -- of an account of which a session has no row
 pub record IsUnknownAlone (a : AccountName) (s : SessionName) (x : SeenAccount) : Type 0 where
@@ -78,14 +81,26 @@ pub record IsUnknownAlone (a : AccountName) (s : SessionName) (x : SeenAccount) 
   pub live : x.live ≡ None
   pub grant : x.grant ≡ None
   pub unknown : (z : SessionName) → x.unknown ≡ Some z → z ≡ s
+  pub first : x.first ≡ None
 
--- what was seen later, with the session that had no row before
+-- of an account of which nothing but the first selection was read
+pub record IsFirstAlone (a : AccountName) (f : SeenFirst) (x : SeenAccount) : Type 0 where
+  pub account : x.account ≡ a
+  pub head : x.head ≡ None
+  pub live : x.live ≡ None
+  pub grant : x.grant ≡ None
+  pub unknown : x.unknown ≡ None
+  pub first : x.first ≡ Some f
+
+-- what was seen later, with the session that had no row before, and with what the first selection
+-- gave before
 pub record IsJoined (older newer x : SeenAccount) : Type 0 where
   pub account : x.account ≡ newer.account
   pub head : x.head ≡ newer.head
   pub live : x.live ≡ newer.live
   pub grant : x.grant ≡ newer.grant
   pub unknown : x.unknown ≡ older.unknown
+  pub first : x.first ≡ older.first
 
 -- the same with a session that has no row, or without one
 pub record IsSeenWith (s : SessionName) (x y : SeenAccount) : Type 0 where
@@ -94,6 +109,16 @@ pub record IsSeenWith (s : SessionName) (x y : SeenAccount) : Type 0 where
   pub live : y.live ≡ x.live
   pub grant : y.grant ≡ x.grant
   pub unknown : (z : SessionName) → y.unknown ≡ Some z → z ≡ s
+  pub first : y.first ≡ x.first
+
+-- the same with what the first selection gave now
+pub record IsSeenFirst (f : SeenFirst) (x y : SeenAccount) : Type 0 where
+  pub account : y.account ≡ x.account
+  pub head : y.head ≡ x.head
+  pub live : y.live ≡ x.live
+  pub grant : y.grant ≡ x.grant
+  pub unknown : y.unknown ≡ x.unknown
+  pub first : y.first ≡ Some f
 
 -- what is known of a session by what is seen of its account
 abbrev pub standing_in : SeenAccount → SessionName → Option Standing
@@ -109,6 +134,7 @@ pub record IsSeen (r : TableRows) (x : SeenAccount) : Type 0 where
   pub grant : (s : SessionName) (y : SeenGrant) → x.live ≡ Some s → x.grant ≡ Some y
       → IsGrantSeen r s y
   pub unknown : (s : SessionName) → x.unknown ≡ Some s → IsUnknown r s
+  pub first : IfSome x.first (λ (y : SeenFirst). IsFirstRead y.asked r y.read)
 
 abbrev pub Sees : Option SeenAccount → Trees → Type 0
 Sees None trees = Unit {0}

@@ -2,11 +2,11 @@
 
 ghost use Rattle.std.specs.Prelude.{◌≡◌, is_some, option_copied};
 ghost use Rattle.reserving.specs.Left.{bucket_in};
-ghost use Rattle.reserving.specs.Sessions.{group_in, session_in};
+ghost use Rattle.reserving.specs.Sessions.{counter_in, group_in, session_in};
 
 use buckets::Bucket;
 use identifiers::SessionId;
-use reserving::{Session, SessionGroup};
+use reserving::{Counter, Session, SessionGroup};
 
 /// The bucket of a number among these.
 pub(crate) fn bucket_among(rows: &[Bucket], number: u32) -> Option<&Bucket>
@@ -34,6 +34,14 @@ pub(crate) fn group_among<'a>(
         .find(|row| row.session == *session && row.group == group)
 }
 
+/// The counter of a rating group and a cycle among these.
+fn counter_among(rows: &[Counter], group: u32, cycle: u32) -> Option<&Counter>
+    ensures { option_copied result ≡ counter_in group cycle rows.now }
+{
+    rows.iter()
+        .find(|row| row.group == group && row.cycle == cycle)
+}
+
 /// Whether a bucket of this number is among these.
 pub(crate) fn has_bucket(rows: &[Bucket], number: u32) -> bool
     ensures { result ≡ is_some (bucket_in number rows.now) }
@@ -53,4 +61,11 @@ pub(crate) fn has_group(rows: &[SessionGroup], session: &SessionId, group: u32) 
     ensures { result ≡ is_some (group_in session.now group rows.now) }
 {
     group_among(rows, session, group).is_some()
+}
+
+/// Whether a counter of a rating group and a cycle is among these.
+pub(crate) fn has_counter(rows: &[Counter], group: u32, cycle: u32) -> bool
+    ensures { result ≡ is_some (counter_in group cycle rows.now) }
+{
+    counter_among(rows, group, cycle).is_some()
 }

@@ -16,6 +16,7 @@ ghost use Rattle.sqlite.specs.Held.{state};
 ghost use Rattle.sql_keeper.specs.Calls.{StoresCommit};
 
 use crate::faults::counted;
+use crate::first_over::seen_over;
 use crate::keeper::SqlKeeper;
 use crate::kept_rows::{KeptRows, kept_over};
 use crate::last_moment::{is_last, is_not_before, last_after};
@@ -166,6 +167,7 @@ impl<S: Alter> SqlKeeper<S> {
         let seen = self.seen.take();
         let kept = self.kept.take();
         self.kept = kept_over(self.alloc, kept, &seen, &made, &change);
+        self.seen = seen_over(self.alloc, seen, &made, &change);
         self.last = last_after(&made, self.last, change.moment);
         counted(&mut self.failures, made)
     }

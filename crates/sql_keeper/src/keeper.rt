@@ -15,8 +15,9 @@ use units::Moment;
 /// committed last. It knows the text of its first book, its books and the moment of the last
 /// accepted command as the database keeps them, so that an open finds the same again. What it read
 /// last of an account it knows until it writes, so that a commit needn't read it once more. The
-/// rows of one account that may still change it keeps as it read or wrote them last, so that a load
-/// of that account needn't read them once more.
+/// rows of one account that may still change it keeps as it read or wrote them last, and so it does
+/// what is kept of the account once with the counters of some cycles: a load of that account at a
+/// moment of these cycles reads nothing.
 ///
 /// Its store is clean while the disk returns what was written; where the disk failed a call, it is
 /// clean as long as the connection is open still. Nothing but a failure of the disk shuts it.

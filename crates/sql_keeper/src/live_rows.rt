@@ -1,6 +1,6 @@
 //! What may still change of an account, read from the tables.
 
-ghost use Rattle.std.specs.Prelude.{◌≡◌, ℕ, ◌++◌, IfOk, false, map};
+ghost use Rattle.std.specs.Prelude.{◌≡◌, ℕ, ◌++◌, IfOk, map};
 ghost use Rattle.sql_keeper.specs.Content.{Names, shelf_names};
 ghost use Rattle.sql_keeper.specs.Kinds.{counted_live};
 ghost use Rattle.sql_keeper.specs.KeptRows.{AreKept, AreOf};
@@ -9,6 +9,8 @@ ghost use Rattle.sql_keeper.specs.Repeating.{IsFirst, IsFirstOf, begins_again, h
 ghost use Rattle.sql_keeper.specs.Repeating.{repeating, repeats_in};
 ghost use Rattle.sql_keeper.specs.LiveRows.{account_with, AreLiveBuckets};
 ghost use Rattle.sql_keeper.specs.LiveRows.{AreLiveRows, IsReadAccount, IsLiveAccount};
+ghost use Rattle.sql_keeper.specs.Seen.{AreSeen};
+ghost use Rattle.sql_keeper.specs.SeenFirst.{AreCyclesAt};
 ghost use Rattle.reserving.specs.Restored.{in_key_order, FindsSame};
 ghost use Rattle.sql_rows.specs.Content.{TableRows, rows_in};
 ghost use Rattle.sql_tables.specs.Statements.{HasIdleTables};
@@ -18,15 +20,14 @@ ghost use Rattle.shelves.specs.Shelves.{Shelf};
 use crate::counted_buckets::counted_from;
 use crate::kept_rows::{KeptRows, copy_of_kept};
 use crate::live_groups::{OpenSessions, read_open_sessions};
+use crate::seen::SeenAccount;
+use crate::seen_first::{AskedCycles, find_first};
 use buckets::{Bucket, Purse};
 use calendar::Cycle;
 use identifiers::AccountNumber;
 use reserving::{Counter, GivenRows, Session, SessionGroup, StoredAccount};
 use shelves::TariffShelf;
-use sql_rows::{
-    CycleNumbers, HeadColumns, HeadCounters, HeadCycles, LiveBucket, read_buckets_live,
-    read_head_counters, read_head_cycles,
-};
+use sql_rows::{HeadColumns, HeadCycles, LiveBucket, read_buckets_live};
 use sql_tables::ReadFault;
 use sqlite::{Alter, Connection};
 use std::alloc::Global;
@@ -159,71 +160,47 @@ fn first_rows(book: &TariffBook, read: HeadCycles) -> Result<FirstRows, ReadFaul
     Ok(FirstRows { head, counters })
 }
 
-/// What is kept of an account once, with its counters of the cycles at a moment: one selection of
-/// four parts.
-fn read_cycles<S: Alter>(
-    conn: &mut Connection<S>,
-    alloc: Global,
-    account: &AccountNumber,
-    book: &TariffBook,
-    moment: Moment,
-) -> Result<FirstRows, ReadFault>
-    requires idle { HasIdleTables (state S.Store conn.old) }
-    ensures { Gathers
-        (λ trees x. IsFirst book.now moment (rows_in trees account.now) x.head x.counters.items)
-        (state S.Store conn.old) (state S.Store conn.new) result }
+/// The cycles at a moment whose counters a book has.
+fn cycles_at(book: &TariffBook, moment: Moment) -> AskedCycles
+    ensures { AreCyclesAt book.now moment result }
 {
-    let cycles = CycleNumbers {
-        never: book.cycle_of(Cycle::None, moment),
+    let never = book.cycle_of(Cycle::None, moment);
+    if !has_cycles(book) {
+        return AskedCycles {
+            never,
+            day: never,
+            month: never,
+            has_dates: false,
+        };
+    }
+    AskedCycles {
+        never,
         day: book.cycle_of(Cycle::Day, moment),
         month: book.cycle_of(Cycle::Month, moment),
-    };
-    let read = read_head_cycles(conn, alloc, account, cycles)?;
-    first_rows(book, read)
+        has_dates: true,
+    }
 }
 
-/// The same where no group of the book counts by the day or by the month: one selection of two
-/// parts, which costs less.
-fn read_never<S: Alter>(
-    conn: &mut Connection<S>,
-    alloc: Global,
-    account: &AccountNumber,
-    book: &TariffBook,
-    moment: Moment,
-) -> Result<FirstRows, ReadFault>
-    requires idle { HasIdleTables (state S.Store conn.old) }
-    requires none { has_cycles book.now ≡ false }
-    ensures { Gathers
-        (λ trees x. IsFirst book.now moment (rows_in trees account.now) x.head x.counters.items)
-        (state S.Store conn.old) (state S.Store conn.new) result }
-{
-    let cycle = book.cycle_of(Cycle::None, moment);
-    let HeadCounters { head, counters } = read_head_counters(conn, alloc, account, cycle)?;
-    let never = counters_repeating(counters, book, Cycle::None);
-    Ok(FirstRows {
-        head,
-        counters: never,
-    })
-}
-
-/// What is kept of an account once, with its counters of the cycles at a moment, by one selection.
+/// What is kept of an account once, with its counters of the cycles at a moment: as it was seen, or
+/// by one selection.
 fn read_first<S: Alter>(
     conn: &mut Connection<S>,
     alloc: Global,
+    seen: &mut Option<SeenAccount>,
     account: &AccountNumber,
     book: &TariffBook,
     moment: Moment,
 ) -> Result<FirstRows, ReadFault>
     requires idle { HasIdleTables (state S.Store conn.old) }
-    ensures { Gathers
+    requires seen { AreSeen seen.old (state S.Store conn.old) }
+    ensures reads { Gathers
         (λ trees x. IsFirst book.now moment (rows_in trees account.now) x.head x.counters.items)
         (state S.Store conn.old) (state S.Store conn.new) result }
+    ensures seen { AreSeen seen.new (state S.Store conn.new) }
 {
-    if has_cycles(book) {
-        read_cycles(conn, alloc, account, book, moment)
-    } else {
-        read_never(conn, alloc, account, book, moment)
-    }
+    let asked = cycles_at(book, moment);
+    let read = find_first(conn, alloc, seen, account, asked)?;
+    first_rows(book, read)
 }
 
 /// What may still change of an account, whatever the moment. The periods of reservations have the
@@ -277,17 +254,20 @@ fn read_rows_at<S: Alter>(
     account: &AccountNumber,
     names: &TariffShelf,
     kept: &Option<KeptRows>,
+    seen: &mut Option<SeenAccount>,
     shelf: &TariffShelf,
     moment: Moment,
 ) -> Result<Option<ReadRows>, ReadFault>
     requires idle { HasIdleTables (state S.Store conn.old) }
     requires kept { AreKept (shelf_names names.now) kept.now (state S.Store conn.old) }
-    ensures { Gathers (λ trees o. IsReadAccount (shelf_names names.now) shelf.now moment
+    requires seen { AreSeen seen.old (state S.Store conn.old) }
+    ensures reads { Gathers (λ trees o. IsReadAccount (shelf_names names.now) shelf.now moment
         (rows_in trees account.now) o)
         (state S.Store conn.old) (state S.Store conn.new) result }
+    ensures seen { AreSeen seen.new (state S.Store conn.new) }
 {
     let book = shelf.book_at(moment);
-    let FirstRows { head, counters } = read_first(conn, alloc, account, book, moment)?;
+    let FirstRows { head, counters } = read_first(conn, alloc, seen, account, book, moment)?;
     let Some(head) = head else {
         return Ok(None);
     };
@@ -356,15 +336,18 @@ pub(crate) fn read_live_account<S: Alter>(
     account: &AccountNumber,
     names: &TariffShelf,
     kept: &Option<KeptRows>,
+    seen: &mut Option<SeenAccount>,
     shelf: &TariffShelf,
     moment: Moment,
 ) -> Result<Option<StoredAccount>, ReadFault>
     requires idle { HasIdleTables (state S.Store conn.old) }
     requires kept { AreKept (shelf_names names.now) kept.now (state S.Store conn.old) }
-    ensures { Gathers (λ trees o. IsLiveAccount (shelf_names names.now) shelf.now moment
+    requires seen { AreSeen seen.old (state S.Store conn.old) }
+    ensures reads { Gathers (λ trees o. IsLiveAccount (shelf_names names.now) shelf.now moment
         (rows_in trees account.now) o)
         (state S.Store conn.old) (state S.Store conn.new) result }
+    ensures seen { AreSeen seen.new (state S.Store conn.new) }
 {
-    let read = read_rows_at(conn, alloc, account, names, kept, shelf, moment)?;
+    let read = read_rows_at(conn, alloc, account, names, kept, seen, shelf, moment)?;
     live_account_of(alloc, read)
 }

@@ -8,6 +8,7 @@ ghost use Rattle.sql_keeper.specs.Content.{shelf_names};
 ghost use Rattle.sql_keeper.specs.KeptRows.{AreKept, Keeps};
 ghost use Rattle.sql_keeper.specs.LiveGroups.{Gathers};
 ghost use Rattle.sql_keeper.specs.LiveRows.{IsAccountOf, IsLoadOf, IsLoadStored};
+ghost use Rattle.sql_keeper.specs.Seen.{AreSeen};
 ghost use Rattle.sql_rows.specs.Content.{rows_in};
 ghost use Rattle.sql_tables.specs.Statements.{HasIdleTables};
 ghost use Rattle.sqlite.specs.Held.{state};
@@ -18,7 +19,7 @@ use crate::faults::counted;
 use crate::keeper::SqlKeeper;
 use crate::kept_rows::{KeptRows, kept_after};
 use crate::live_rows::read_live_account;
-use crate::seen::{seen_in, seen_later};
+use crate::seen::{SeenAccount, seen_in, seen_later};
 use crate::still_open::still_open;
 use identifiers::AccountNumber;
 use keepers::{Loaded, StoreFault};
@@ -89,17 +90,20 @@ fn load_of<'b, S: Alter>(
     alloc: Global,
     names: &TariffShelf,
     kept: &Option<KeptRows>,
+    seen: &mut Option<SeenAccount>,
     shelf: &'b TariffShelf,
     account: &AccountNumber,
     moment: Moment,
 ) -> Result<Option<Loaded<'b>>, ReadFault>
     requires idle { HasIdleTables (state S.Store conn.old) }
     requires kept { AreKept (shelf_names names.now) kept.now (state S.Store conn.old) }
-    ensures { Gathers (λ trees found. IsLoadStored (shelf_names names.now) shelf.now moment
+    requires seen { AreSeen seen.old (state S.Store conn.old) }
+    ensures reads { Gathers (λ trees found. IsLoadStored (shelf_names names.now) shelf.now moment
         account.now (rows_in trees account.now) found)
         (state S.Store conn.old) (state S.Store conn.new) result }
+    ensures seen { AreSeen seen.new (state S.Store conn.new) }
 {
-    let rows = read_live_account(conn, alloc, account, names, kept, shelf, moment)?;
+    let rows = read_live_account(conn, alloc, account, names, kept, seen, shelf, moment)?;
     loaded_of(rows, shelf, account, moment)
 }
 
@@ -108,46 +112,57 @@ fn ask_with_kept<'b, S: Alter>(
     alloc: Global,
     names: &TariffShelf,
     kept: &Option<KeptRows>,
+    seen: &mut Option<SeenAccount>,
     shelf: &'b TariffShelf,
     account: &AccountNumber,
     moment: Moment,
 ) -> Result<Option<Loaded<'b>>, ReadFault>
     requires idle { HasIdleTables (state S.Store conn.old) }
     requires kept { AreKept (shelf_names names.now) kept.now (state S.Store conn.old) }
-    ensures { Asks (λ trees found. IsLoadStored (shelf_names names.now) shelf.now moment
+    requires seen { AreSeen seen.old (state S.Store conn.old) }
+    ensures asks { Asks (λ trees found. IsLoadStored (shelf_names names.now) shelf.now moment
         account.now (rows_in trees account.now) found)
         (state S.Store conn.old) (state S.Store conn.new) result }
+    ensures seen { AreSeen seen.new (state S.Store conn.new) }
 {
     still_open(conn)?;
-    load_of(conn, alloc, names, kept, shelf, account, moment)
+    load_of(conn, alloc, names, kept, seen, shelf, account, moment)
 }
 
-/// The account, with a copy of the rows that are kept. Where they make none with what is read
-/// beside them, they are forgotten, and all of it is read from the tables.
+/// The account, with a copy of the rows that are kept and of what was seen of it once. Where these
+/// make none, they are forgotten, and all of it is read from the tables. A fault forgets what was
+/// seen.
 fn ask_to_load<'b, S: Alter>(
     conn: &mut Connection<S>,
     alloc: Global,
     names: &TariffShelf,
     kept: &mut Option<KeptRows>,
+    seen: &mut Option<SeenAccount>,
     shelf: &'b TariffShelf,
     account: &AccountNumber,
     moment: Moment,
 ) -> Result<Option<Loaded<'b>>, ReadFault>
     requires idle { HasIdleTables (state S.Store conn.old) }
     requires kept { AreKept (shelf_names names.now) kept.old (state S.Store conn.old) }
+    requires seen { AreSeen seen.old (state S.Store conn.old) }
     ensures asks { Asks (λ trees found. IsLoadStored (shelf_names names.now) shelf.now moment
         account.now (rows_in trees account.now) found)
         (state S.Store conn.old) (state S.Store conn.new) result }
     ensures kept { (trees : Trees) → Keeps (shelf_names names.now) kept.old trees →
         Keeps (shelf_names names.now) kept.new trees }
+    ensures seen { AreSeen seen.new (state S.Store conn.new) }
 {
-    match ask_with_kept(conn, alloc, names, kept, shelf, account, moment) {
+    match ask_with_kept(conn, alloc, names, kept, seen, shelf, account, moment) {
         Ok(loaded) => Ok(loaded),
         Err(ReadFault::Rules) => {
             *kept = None;
-            ask_with_kept(conn, alloc, names, kept, shelf, account, moment)
+            *seen = None;
+            ask_with_kept(conn, alloc, names, kept, seen, shelf, account, moment)
         }
-        Err(fault) => Err(fault),
+        Err(fault) => {
+            *seen = None;
+            Err(fault)
+        }
     }
 }
 
@@ -174,6 +189,7 @@ impl<S: Alter> SqlKeeper<S> {
             self.alloc,
             &self.shelf,
             &mut self.kept,
+            &mut self.seen,
             shelf,
             account,
             moment,

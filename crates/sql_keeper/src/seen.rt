@@ -18,6 +18,7 @@ ghost use Rattle.sql_keeper.specs.Seen.{IsStanding, IsUnknownAlone, Sees, is_unk
 ghost use Rattle.sql_keeper.specs.Seen.{standing_in, stands_open};
 
 use crate::putting::head_of;
+use crate::seen_first::SeenFirst;
 use buckets::HeldAmount;
 use identifiers::{AccountNumber, SessionId};
 use keepers::Loaded;
@@ -38,6 +39,8 @@ pub(crate) struct SeenAccount {
     pub grant: Option<SeenGrant>,
     /// A session that it has no row of.
     pub unknown: Option<SessionId>,
+    /// What a load's first selection gave of it.
+    pub first: Option<SeenFirst>,
 }
 
 /// A reservation that holds of one bucket alone.
@@ -188,6 +191,7 @@ fn seen_as(account: AccountNumber, rows: &EarlierRows) -> SeenAccount
         live,
         grant,
         unknown: None,
+        first: None,
     }
 }
 
@@ -239,7 +243,7 @@ fn has_no_row(read: &Result<bool, ReadFault>) -> bool
 }
 
 /// Whether two numbers are those of one account.
-fn is_same_account(one: &AccountNumber, other: &AccountNumber) -> bool
+pub(crate) fn is_same_account(one: &AccountNumber, other: &AccountNumber) -> bool
     ensures { result ≡ same_name one.now other.now }
 {
     *one == *other
@@ -256,6 +260,7 @@ fn unknown_alone(account: &AccountNumber, session: &SessionId) -> Option<SeenAcc
         live: None,
         grant: None,
         unknown: copy_of(session),
+        first: None,
     })
 }
 
@@ -269,6 +274,7 @@ fn with_unknown(seen: SeenAccount, session: &SessionId) -> SeenAccount
         live,
         grant,
         unknown: _,
+        first,
     } = seen;
     SeenAccount {
         account,
@@ -276,6 +282,7 @@ fn with_unknown(seen: SeenAccount, session: &SessionId) -> SeenAccount
         live,
         grant,
         unknown: copy_of(session),
+        first,
     }
 }
 
@@ -322,7 +329,8 @@ pub(crate) fn seen_with(
     noted_first(seen, account, session)
 }
 
-/// What was seen later of an account, with the session that had no row before.
+/// What was seen later of an account, with the session that had no row before, and with what the
+/// first selection gave before.
 fn joined(older: SeenAccount, newer: SeenAccount) -> SeenAccount
     ensures { IsJoined older newer result }
 {
@@ -332,6 +340,7 @@ fn joined(older: SeenAccount, newer: SeenAccount) -> SeenAccount
         live: _,
         grant: _,
         unknown,
+        first,
     } = older;
     let SeenAccount {
         account,
@@ -339,6 +348,7 @@ fn joined(older: SeenAccount, newer: SeenAccount) -> SeenAccount
         live,
         grant,
         unknown: _,
+        first: _,
     } = newer;
     SeenAccount {
         account,
@@ -346,6 +356,7 @@ fn joined(older: SeenAccount, newer: SeenAccount) -> SeenAccount
         live,
         grant,
         unknown,
+        first,
     }
 }
 
@@ -361,7 +372,8 @@ fn joined_if_same(older: SeenAccount, newer: SeenAccount) -> SeenAccount
     joined(older, newer)
 }
 
-/// The newer note, with the absent session of the older one if both are of one account.
+/// The newer note, with the absent session of the older one and what the first selection gave there,
+/// if both are of one account.
 pub(crate) fn seen_later(
     older: Option<SeenAccount>,
     newer: Option<SeenAccount>,

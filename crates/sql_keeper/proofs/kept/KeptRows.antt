@@ -82,6 +82,18 @@ kept_made names Become seen o p old new (Err e) sees kept h to clean on =
     let open_was = (h.commits.err clean on).was_open in
     to old.now.trees new.now.trees tt (sees was open_was) (kept was open_was)
 
+-- of what was seen the same
+pub seen_made : {A E : Type 0} (Become : Trees → Trees → Type 0) (o p : Option SeenAccount)
+    (old new : State) (r : Result A E) → AreSeen o old → CommitsStanding Become old new r
+    → ((trees db : Trees) → OnOk r (Become trees db) → Sees o trees → Sees p db) → AreSeen p new
+seen_made Become o p old new (Ok x) sees h to clean on =
+    let d = h.commits.done clean in
+    let was : HasCleanDisk old = omega (arith, h.commits.survives.clean, clean) in
+    to old.now.trees new.now.trees d.2 (sees was d.0)
+seen_made Become o p old new (Err e) sees h to clean on =
+    let was : HasCleanDisk old = omega (arith, h.commits.survives.clean, clean) in
+    to old.now.trees new.now.trees tt (sees was (h.commits.err clean on).was_open)
+
 -- ---- copies
 
 -- the same rows are as those
@@ -112,7 +124,7 @@ kept_loaded names shelf t a trees l x is stored =
 
 -- ---- a change
 
-told_of : (names : Names) (text : List ℕ) (change : Change) (old new : Trees)
+pub told_of : (names : Names) (text : List ℕ) (change : Change) (old new : Trees)
     → BecomesOver names text change old new
     → told_rows names (rows_in new change.number)
     ≡ over change.rows (told_rows names (rows_in old change.number))

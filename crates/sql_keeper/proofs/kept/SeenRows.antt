@@ -35,11 +35,13 @@ use Rattle.sql_keeper.specs.Seen.{AreSeen, IsJoined, IsKnown, IsSeen, IsSeenOf, 
 use Rattle.sql_keeper.specs.Seen.{IsKeptOnce, IsStanding, IsUnknown, IsUnknownAlone, IsUpTo, Sees}
 use Rattle.sql_keeper.specs.Seen.{Stands}
 use Rattle.sql_keeper.specs.Seen.{standing_in, standing_of}
+use Rattle.sql_keeper.specs.SeenFirst.{IsFirstRead}
 use Rattle.sql_keeper.specs.Writes.{head_columns_of}
 use Rattle.sql_keeper.specs.declared.seen.SeenAccount.{SeenAccount}
 use Rattle.sql_keeper.specs.declared.seen.SeenGrant.{SeenGrant}
 use Rattle.sql_keeper.specs.declared.seen.Standing.{Standing}
 use Rattle.sql_keeper.specs.declared.seen.Standing.TheVariants.{Unknown, Open, Over}
+use Rattle.sql_keeper.specs.declared.seen_first.SeenFirst.{SeenFirst}
 use Rattle.sql_keeper.proofs.reads.InTurn.{gathers_from, have_read, none_read}
 use Rattle.sql_keeper.proofs.puts.Groups.{none_at}
 use Rattle.sql_keeper.proofs.puts.Overlays.{name_from, number_from, number_itself}
@@ -70,10 +72,6 @@ up_to_after t old new up only clean on =
     subst (λ (d : Database). last_in (tables_content d.trees).meta ≤ t) (sym still.now_is)
     (up (only.cleanness clean) still.was_open)
 
--- nothing was seen
-pub none_seen : (o : Option SeenAccount) (s : State) → o ≡ None → AreSeen o s
-none_seen o s e clean on = subst (λ p. Sees p s.now.trees) (sym e) tt
-
 -- what is made of an answer
 pub seen_asked : {A E : Type 0} (told : Trees → A → Type 0) (o p : Option SeenAccount)
     (old new : State) (r : Result A E) → AreSeen o old → Asks told old new r
@@ -82,6 +80,24 @@ seen_asked told o p old new r seen asks to clean on =
     let still = asks.only.still clean on in
     subst (λ (d : Database). Sees p d.trees) (sym still.now_is)
     (to old.now.trees (seen (asks.only.cleanness clean) still.was_open) (asks.found clean))
+
+-- what is made of a read that was answered
+pub seen_read : {A E : Type 0} (told : Trees → A → Type 0) (o p : Option SeenAccount)
+    (old new : State) (x : A) → AreSeen o old → Gathers {A = A} {E = E} told old new (Ok x)
+    → ((trees : Trees) → Sees o trees → told trees x → Sees p trees) → AreSeen p new
+seen_read told o p old new x seen reads to clean on =
+    let still = reads.only.still clean on in
+    subst (λ (d : Database). Sees p d.trees) (sym still.now_is)
+    (to old.now.trees (seen (reads.only.cleanness clean) still.was_open) (reads.found clean on))
+
+-- what is made of an answer, and of what was seen when it was given
+pub seen_newer : {A E : Type 0} (told : Trees → A → Type 0) (o p : Option SeenAccount)
+    (old new : State) (r : Result A E) → AreSeen o new → Asks told old new r
+    → ((trees : Trees) → Sees o trees → IfOk r (told trees) → Sees p trees) → AreSeen p new
+seen_newer told o p old new r seen asks to clean on =
+    let still = asks.only.still clean on in
+    to new.now.trees (seen clean on)
+    (subst (λ (d : Database). IfOk r (told d.trees)) (sym still.now_is) (asks.found clean))
 
 -- what was seen says it without a read
 pub told_seen : {A E : Type 0} (told : Trees → A → Type 0) (o : Option SeenAccount) (x : A)
@@ -93,7 +109,7 @@ told_seen {A} {E} told o x s idle seen to =
 
 -- ---- what a load sees
 
-head_back : (o : Option HeadColumns) (w : StoredRows) → option_map head_in o ≡ Some (head_of w)
+pub head_back : (o : Option HeadColumns) (w : StoredRows) → option_map head_in o ≡ Some (head_of w)
     → o ≡ Some (head_columns_of w)
 head_back None w e = absurd (no_some (head_of w) e)
 head_back (Some h) w e =
@@ -226,6 +242,12 @@ grant_stored r l s y grants there =
           (one_held n y.bucket told.reservation.holds told.bucket apart);
     }
 
+-- the first selection wasn't seen
+none_first : (r : TableRows) (x : SeenAccount) → x.first ≡ None
+    → IfSome x.first (λ (y : SeenFirst). IsFirstRead y.asked r y.read)
+none_first r x e =
+    subst (λ o. IfSome o (λ (y : SeenFirst). IsFirstRead y.asked r y.read)) (sym e) tt
+
 -- rule: database-writes.seen
 pub load_seen : (names : Names) (shelf : Shelf) (t : ℕ) (a : List ℕ) (trees : Trees) (l : Loaded)
     (o : Option SeenAccount) → IfSome o (IsSeenOf l.number l.before)
@@ -245,6 +267,7 @@ load_seen names shelf t a trees l (Some x) h stored =
       grant = λ s y e f. grant_stored (rows_in trees a) l s y stored.rows.grants
           (h.grant s y e f);
       unknown = λ s e. absurd (no_some s (sym h.unknown ∙ e));
+      first = none_first (rows_in trees a) x h.first;
     })
 
 -- ---- what is seen of a session
@@ -283,7 +306,15 @@ alone_seen a s (Some x) h trees known =
       grant = λ z y e f. absurd (no_some y (sym h.grant ∙ f));
       unknown = λ z e. subst (IsUnknown (rows_in trees a)) (sym (h.unknown z e))
           (unknown_of (rows_in trees a) s false refl known);
+      first = none_first (rows_in trees a) x h.first;
     })
+
+-- what the first selection gave is as it was
+same_first : (r : TableRows) (o p : Option SeenFirst) → p ≡ o
+    → IfSome o (λ (y : SeenFirst). IsFirstRead y.asked r y.read)
+    → IfSome p (λ (y : SeenFirst). IsFirstRead y.asked r y.read)
+same_first r o p e =
+    subst (λ q. IfSome q (λ (y : SeenFirst). IsFirstRead y.asked r y.read)) (sym e)
 
 -- rule: database-writes.seen
 pub noted : (x y : SeenAccount) (a s : List ℕ) → IsSeenWith s x y → true ≡ same_name x.account a
@@ -299,6 +330,7 @@ noted x y a s w same trees seen known =
       live = λ z e. seen.live z (sym w.live ∙ e);
       grant = λ z y e f. seen.grant z y (sym w.live ∙ e) (sym w.grant ∙ f);
       unknown = λ z e. subst (IsUnknown (rows_in trees x.account)) (sym (w.unknown z e)) none;
+      first = same_first (rows_in trees x.account) x.first y.first w.first seen.first;
     })
 
 -- what was answered
@@ -320,6 +352,9 @@ joined_seen x y z j same trees older newer =
       grant = λ s y e f. newer.grant s y (sym j.live ∙ e) (sym j.grant ∙ f);
       unknown = λ s e. subst (λ b. IsUnknown (rows_in trees b) s) here
           (older.unknown s (sym j.unknown ∙ e));
+      first = subst (λ b. IfSome z.first (λ (w : SeenFirst).
+          IsFirstRead w.asked (rows_in trees b) w.read)) here
+          (same_first (rows_in trees x.account) x.first z.first j.first older.first);
     })
 
 pub name_is : (s : List ℕ) (o : Option (List ℕ)) → is_name s o ≡ true → o ≡ Some s

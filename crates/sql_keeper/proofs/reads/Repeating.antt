@@ -1,6 +1,6 @@
 -- The counters of a moment, read by how often they begin again.
 use Rattle.std.proofs.Common.{◌≡◌, ℕ, ◌==◌, Bool, true, false, cond, List, [], ◌∷◌, ◌++◌, Option}
-use Rattle.std.proofs.Common.{Some, None, refl, ap, sym, subst, ◌∙◌, append-nil}
+use Rattle.std.proofs.Common.{Some, None, refl, ap, sym, subst, ◌∙◌}
 use Rattle.std.specs.Prelude.{if◌then◌else◌, ◌||◌, not}
 use Rattle.std.specs.List.{find, list_any}
 use Rattle.std.specs.Option.{option_or}
@@ -18,7 +18,6 @@ use Rattle.ledger.specs.Pricing.{cycle_with, tariff_of}
 use Rattle.reserving.specs.Sessions.{is_counter, counter_in}
 use Rattle.reserving.proofs.Keys.{first_true, same_number}
 use Rattle.reserving.proofs.Lists.{no_some, not_both, some_of}
-use Rattle.sql_rows.specs.declared.head.HeadColumns.{HeadColumns}
 use Rattle.sql_rows.specs.declared.head_counter_rows.HeadCycles.{HeadCycles}
 use Rattle.sql_rows.specs.Content.{TableRows}
 use Rattle.sql_rows.specs.Lists.{AreCountersIn}
@@ -26,6 +25,8 @@ use Rattle.sql_keeper.specs.declared.live_rows.FirstRows.{FirstRows}
 use Rattle.sql_keeper.specs.LiveRows.{AreCountersAt}
 use Rattle.sql_keeper.specs.Repeating.{IsFirst, IsFirstOf, begins_again, has_cycles, repeating}
 use Rattle.sql_keeper.specs.Repeating.{repeats_in, repeats_with}
+use Rattle.sql_keeper.specs.SeenFirst.{AreCyclesAt, IsFirstRead}
+use Rattle.sql_keeper.specs.declared.seen_first.AskedCycles.{AskedCycles}
 use Rattle.sql_keeper.proofs.loads.LiveRows.{find_kept}
 
 -- the counters of the groups whose counters begin again so often, each of the cycle at the moment
@@ -75,13 +76,22 @@ never_again b none g = at (tariff_of b g) refl
     at (Some x) e =
         is_none x.cycle (not_any begins_again (λ t. t.group == g) b.tariffs x none e)
 
--- so none is to be read
+-- so none of any list is one of them
 none_repeating : (b : Book) (repeats : Cycle) → cycles.eq often.None repeats ≡ false → (t : ℕ)
-    (rows : TableRows) → has_cycles b ≡ false → AreRepeating b repeats t rows []
-none_repeating b repeats other t rows none g c =
-    ap (λ (u : Bool). if u
-    then (if c == cycle_of b.calendar.zone repeats t then rows.counters g c else None) else None)
-    (sym (ap (λ k. cycles.eq k repeats) (never_again b none g) ∙ other))
+    (rows : TableRows) (all : List Counter) → has_cycles b ≡ false
+    → AreRepeating b repeats t rows (repeating b repeats all)
+none_repeating b repeats other t rows all none g c =
+    find_kept (is_counter g c) (λ r. cycles.eq (repeats_in b r.group) repeats)
+    (cycles.eq (repeats_in b g) repeats) (λ x e. ap (λ n. cycles.eq (repeats_in b n) repeats)
+    (same_number x.group g (first_true (x.group == g) (x.cycle == c) e))) all
+    ∙ neither (cycles.eq (repeats_in b g) repeats)
+    (ap (λ k. cycles.eq k repeats) (never_again b none g) ∙ other)
+  where
+    neither : (u : Bool) → u ≡ false → (if u then counter_in g c all else None)
+        ≡ (if u then (if c == cycle_of b.calendar.zone repeats t then rows.counters g c else None)
+        else None)
+    neither true e = absurd (not_both (sym e))
+    neither false e = refl
 
 -- the cycle of a group's counter is that of how often it begins again
 cycle_repeats : (zone : ZoneRule) (o : Option GroupTariff) (t : ℕ)
@@ -125,35 +135,30 @@ counters_joined s b t rows never daily monthly all of_shelf first second third i
     (cycle_repeats b.calendar.zone (tariff_of b g) t
     ∙ ap (λ (x : Book). cycle_with x.calendar.zone (tariff_of x g) t) of_shelf)
 
--- what is made of the counters of the three cycles
-pub first_told : (b : Book) (t never day month : ℕ) (rows : TableRows) (read : HeadCycles)
-    (made : FirstRows) → never ≡ cycle_of b.calendar.zone often.None t
-    → day ≡ cycle_of b.calendar.zone often.Day t → month ≡ cycle_of b.calendar.zone often.Month t
-    → (read.head ≡ rows.head) × AreCountersIn never rows read.never.items
-    × AreCountersIn day rows read.daily.items × AreCountersIn month rows read.monthly.items
-    → IsFirstOf b read made → IsFirst b t rows made.head made.counters.items
-first_told b t never day month rows read made e f h found is = record {
-  head_is = is.head_is ∙ found.0;
+-- what is made of the counters of the three cycles: where no group of the book counts by the day
+-- or by the month, none of the lists for these is of one
+pub first_told : (b : Book) (t : ℕ) (k : AskedCycles) (rows : TableRows) (read : HeadCycles)
+    (made : FirstRows) → AreCyclesAt b t k → IsFirstRead k rows read → IsFirstOf b read made
+    → IsFirst b t rows made.head made.counters.items
+first_told b t k rows read made at found is = record {
+  head_is = is.head_is ∙ found.head;
   counters_are = λ s of_shelf.
       counters_joined s b t rows (repeating b often.None read.never.items)
       (repeating b often.Day read.daily.items) (repeating b often.Month read.monthly.items)
       made.counters.items of_shelf
-      (repeating_among b often.None t never rows read.never.items _ e found.1 refl)
-      (repeating_among b often.Day t day rows read.daily.items _ f found.2 refl)
-      (repeating_among b often.Month t month rows read.monthly.items _ h found.3 refl)
+      (repeating_among b often.None t k.never rows read.never.items _ at.never found.never refl)
+      (dated often.Day refl k.day read.daily.items at.day found.daily)
+      (dated often.Month refl k.month read.monthly.items at.month found.monthly)
       is.counters_are;
 }
-
--- and where no counter begins again, of those of the one cycle
-pub never_told : (b : Book) (t never : ℕ) (rows : TableRows) (head made : Option HeadColumns)
-    (all cs : List Counter) → has_cycles b ≡ false → never ≡ cycle_of b.calendar.zone often.None t
-    → (head ≡ rows.head) × AreCountersIn never rows all → made ≡ head
-    → cs ≡ repeating b often.None all → IsFirst b t rows made cs
-never_told b t never rows head made all cs none e found same is = record {
-  head_is = same ∙ found.0;
-  counters_are = λ s of_shelf.
-      counters_joined s b t rows cs [] [] cs of_shelf
-      (repeating_among b often.None t never rows all cs e found.1 is)
-      (none_repeating b often.Day refl t rows none) (none_repeating b often.Month refl t rows none)
-      (sym (append-nil cs) ∙ sym (append-nil (cs ++ [])));
-}
+  where
+    dated : (repeats : Cycle) → cycles.eq often.None repeats ≡ false → (cycle : ℕ)
+        (all : List Counter) → (k.has_dates ≡ true → cycle ≡ cycle_of b.calendar.zone repeats t)
+        → (k.has_dates ≡ true → AreCountersIn cycle rows all)
+        → AreRepeating b repeats t rows (repeating b repeats all)
+    dated repeats other cycle all same told = go (has_cycles b) refl
+      where
+        go : (u : Bool) → has_cycles b ≡ u → AreRepeating b repeats t rows (repeating b repeats all)
+        go true e = repeating_among b repeats t cycle rows all (repeating b repeats all)
+            (same (at.dates ∙ e)) (told (at.dates ∙ e)) refl
+        go false e = none_repeating b repeats other t rows all e

@@ -15,4 +15,5 @@ returns c = record {
       (c.as_slice-2.ensures.value ∙ ap (λ (w : StoredRows). w.groups) c.rows-given.ensures.value)
       c.grant_seen-grant.ensures;
   unknown = refl;
+  first = refl;
 }

@@ -6,8 +6,7 @@ use Rattle.sql_keeper.specs.KeptRows.{BecomesOver, Keeps}
 use Rattle.sql_keeper.specs.Seen.{Sees}
 use Rattle.sql_keeper.proofs.openings.Held.{held_committed, held_stands}
 use Rattle.sql_keeper.proofs.commits.Committed.{committed}
-use Rattle.sql_keeper.proofs.kept.KeptRows.{becomes_standing, kept_made}
-use Rattle.sql_keeper.proofs.kept.SeenRows.{none_seen}
+use Rattle.sql_keeper.proofs.kept.KeptRows.{becomes_standing, kept_made, seen_made}
 use Rattle.sql_keeper.proofs.stops.Standing.{keeps, ok_handed, standing_keeper, standing_whole}
 use Rattle.sql_keeper.proofs.commits.Whole.{handed_on}
 use Rattle.sql_keeper.proofs.keeper.SqlKeeper.commit.Goals as goal
@@ -29,7 +28,14 @@ invariant_of-self g c = record {
       c.last_after-self-inside.ensures.made c.last_after-self-inside.ensures.kept refl
       c.ask_to_change-made.ensures.plain
       c.counted.ensures.bounded;
-  seen = none_seen _ (state g.S.Store c.ask_to_change-made.new.conn) c.take-seen.ensures.after;
+  seen = seen_made
+      (BecomesOver (shelf_names c.self.inside.shelf) c.as_str-text.result.now c.args.change)
+      c.self.inside.seen c.seen_over.result
+      (state g.S.Store c.self.inside.connection) (state g.S.Store c.ask_to_change-made.new.conn)
+      c.ask_to_change-made.result c.self.invariant.seen c.ask_to_change-made.ensures.commits
+      (λ trees db made sees. c.seen_over.ensures (shelf_names c.self.inside.shelf)
+      c.as_str-text.result.now trees db made
+      (subst (λ o. Sees o trees) (sym c.take-seen.ensures.value) sees));
   kept = kept_made (shelf_names c.self.inside.shelf)
       (BecomesOver (shelf_names c.self.inside.shelf) c.as_str-text.result.now c.args.change)
       c.self.inside.seen c.self.inside.kept c.kept_over.result
