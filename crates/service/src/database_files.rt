@@ -20,10 +20,10 @@ use sqlite_std_file::{FileFrom, OpenError};
 use sqlite_store::FileStore;
 use sqlite_wal::Error as LogError;
 use std::alloc::{AllocError, Global};
-use std::fs::{self, File, OpenOptions};
+use std::fs::{self, File, Metadata, OpenOptions};
 use std::hash::{BuildHasher, RandomState};
 use std::io::{self, ErrorKind};
-use std::os::unix::fs::{FileExt, OpenOptionsExt};
+use std::os::unix::fs::{FileExt, MetadataExt, OpenOptionsExt};
 use thiserror::Error as Explained;
 use wal_check::is_sound;
 
@@ -90,12 +90,12 @@ fn files_at<S: Start>(rt: &HostRuntime, path: &str, start: S) -> Result<Files<Fi
 
 /// Makes the file of a database where there is none, for its owner alone. It holds a first page, or
 /// nothing where that can't be laid down: then the engine chooses how large the pages are. The log
-/// gets the rights of its file.
+/// gets the rights of its file. A draft that a stop left as a second name of the file goes.
 fn make_private(rt: &HostRuntime, path: &str) -> io::Result<()> {
-    if fs::symlink_metadata(rt, path).is_ok() {
-        return Ok(());
-    }
     let draft = format!(in rt.alloc(); "{path}-new")?;
+    if let Ok(file) = fs::symlink_metadata(rt, path) {
+        return drop_draft(rt, &file, draft.as_str());
+    }
     match lay_page(rt, draft.as_str(), path) {
         Err(error) if error.kind() == ErrorKind::OutOfMemory => return Err(error),
         _ => {}
@@ -104,6 +104,18 @@ fn make_private(rt: &HostRuntime, path: &str) -> io::Result<()> {
         Err(error) if error.kind() != ErrorKind::AlreadyExists => Err(error),
         _ => Ok(()),
     }
+}
+
+/// Removes the draft where it is a second name of the file, as a stop leaves it that comes between
+/// naming the file and removing the draft: the engine opens no file with two names.
+fn drop_draft(rt: &HostRuntime, file: &Metadata, draft: &str) -> io::Result<()> {
+    let Ok(other) = fs::symlink_metadata(rt, draft) else {
+        return Ok(());
+    };
+    if other.dev() != file.dev() || other.ino() != file.ino() {
+        return Ok(());
+    }
+    fs::remove_file(rt, draft)
 }
 
 /// Makes an empty file, for its owner alone.
