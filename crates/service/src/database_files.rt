@@ -5,7 +5,7 @@ ghost use Rattle.sqlite_wal.specs.Files.{image_at, seen_image};
 ghost use Rattle.sqlite_wal.specs.Reads.{AreClean, OnlyReads};
 ghost use Rattle.sqlite_std_file.specs.File.{file_is_usable, IsFresh};
 ghost use Rattle.sqlite.specs.Opening.{is_open_error};
-ghost use Rattle.wal_check.specs.Sound.{IsSound};
+ghost use Rattle.wal_check.specs.Sound.{IsSoundImage};
 ghost use Rattle.service.specs.Connecting.{ConnectsTo};
 ghost use Rattle.service.specs.Unruled.{IsRefusedBy, ListsOurs};
 ghost use Rattle.service.specs.declared.database_files.ConnectFault.TheVariants.{Unruled};
@@ -197,7 +197,7 @@ fn options(rt: &HostRuntime) -> Result<Options, Error>
 fn check_log<D: Disk>(alloc: Global, files: &mut Files<D>) -> Result<(), Error>
     requires log_usable { IsTrue (D.Disk.is_usable files.old.log) }
     requires db_usable { IsTrue (D.Disk.is_usable files.old.db) }
-    ensures sound { OnOk result (AreClean D.Disk files.new.log files.new.db → IsSound (seen_image D.Disk files.old.log files.old.db)) }
+    ensures sound { OnOk result (AreClean D.Disk files.new.log files.new.db → IsSoundImage (seen_image D.Disk files.old.log files.old.db)) }
     ensures named { IfErr result (λ e. IsTrue (is_open_error e)) }
     ensures log { OnlyReads D.Disk files.old.log files.new.log }
     ensures db { OnlyReads D.Disk files.old.db files.new.db }

@@ -5,18 +5,20 @@ use Rattle.sqlite_wal.specs.Format.{be32, IsHeader}
 use Rattle.sqlite_wal.specs.PageSize.{IsPageSize}
 use Rattle.sqlite_wal.specs.Recovery.{header}
 use Rattle.sqlite_wal.proofs.PartLemmas.{same_be32}
-use Rattle.wal_check.specs.Frames.{AreAll, EndsInCommit, IsShutAt, HidesCommit, AreInFile}
-use Rattle.wal_check.specs.Sound.{size_named, opened, EndsSound, IsWritten, IsWrittenBack, IsLeft}
+use Rattle.wal_check.specs.Frames.{ArePassingFrames, EndsInCommit, IsShutAt, HidesCommit, AreInFile}
+use Rattle.wal_check.specs.Sound.{size_named, opened_header, EndsSound, IsWritten, IsWrittenBack}
+use Rattle.wal_check.specs.Sound.{IsLogLeft}
 
 module _ (page_size : ℕ) (log : List ℕ) where
   -- only one number of frames passes
-  pub one_number : (n m : ℕ) → AreAll page_size log n → AreAll page_size log m → n ≡ m
+  pub one_number : (n m : ℕ) → ArePassingFrames page_size log n → ArePassingFrames page_size log m
+      → n ≡ m
   one_number n m a b = elim (cases_eq n m) [
     | inl same ↦ same
     | inr apart ↦ elim (cases_lt n m) [ inl less ↦ absurd (a.last (b.each n less)) | inr more ↦ absurd (b.last (a.each m (omega arith))) ]
   ]
 
-  module _ (n : ℕ) (all : AreAll page_size log n) where
+  module _ (n : ℕ) (all : ArePassingFrames page_size log n) where
     pub ends : EndsInCommit page_size log n → IsShutAt page_size log n → ¬ HidesCommit page_size log n → (m : ℕ) × EndsSound page_size log m
     ends commits shut bare = (n, record { all = all; commits = commits; shut = shut; bare = bare })
 
@@ -41,7 +43,7 @@ module _ (page_size : ℕ) (log : List ℕ) where
 
     -- what holds of these frames holds of all that pass
     pub for_all : (db : List ℕ) (b : Bool) → (IsTrue b ↔ AreInFile page_size log db n)
-        → (IsTrue b ↔ ((m : ℕ) → AreAll page_size log m → AreInFile page_size log db m))
+        → (IsTrue b ↔ ((m : ℕ) → ArePassingFrames page_size log m → AreInFile page_size log db m))
     for_all db b says = (
       λ yes m every. subst (AreInFile page_size log db) (one_number n m all every) (says.0 yes),
       λ kept. says.1 (kept n all),
@@ -73,13 +75,14 @@ opened_size head byte = same_be32 (slice_set head 0 byte) head 8 8 (λ i low. le
 -- rule: stop-log
 pub back_ends : (log db head : List ℕ) (size : ℕ) (b : Bool) → header log ≡ head → size ≡ be32 (slice_set head 0 0x37) 8 → IsPageSize size
     → IsHeader size (slice_set head 0 0x37) → 32 ≤ length log
-    → (IsTrue b ↔ ((n : ℕ) → AreAll size log n → AreInFile size log db n)) → (IsTrue b ↔ IsWrittenBack log db)
+    → (IsTrue b ↔ ((n : ℕ) → ArePassingFrames size log n → AreInFile size log db n)) → (IsTrue b ↔ IsWrittenBack log db)
 back_ends log db head size b is named sized heads long says =
     let same : size ≡ size_named log = named ∙ opened_size head 0x37 ∙ ap (λ (h : List ℕ). be32 h 8) (sym is) in (
-      λ yes _ _ _. subst (λ (m : ℕ). (n : ℕ) → AreAll m log n → AreInFile m log db n) same (says.0 yes),
-      λ back. says.1 (subst (λ (m : ℕ). (n : ℕ) → AreAll m log n → AreInFile m log db n) (sym same)
+      λ yes _ _ _. subst (λ (m : ℕ). (n : ℕ) → ArePassingFrames m log n → AreInFile m log db n) same (says.0 yes),
+      λ back. says.1 (subst (λ (m : ℕ). (n : ℕ) → ArePassingFrames m log n → AreInFile m log db n)
+          (sym same)
           (back long (subst IsPageSize same sized)
-          (subst (λ (m : ℕ). IsHeader m (opened log)) same (subst (λ (h : List ℕ). IsHeader size (slice_set h 0 0x37)) (sym is) heads)))),
+          (subst (λ (m : ℕ). IsHeader m (opened_header log)) same (subst (λ (h : List ℕ). IsHeader size (slice_set h 0 0x37)) (sym is) heads)))),
     )
 
 pub nothing_back : (log db head : List ℕ) → header log ≡ head
@@ -91,22 +94,22 @@ nothing_back log db head is none long sized heads =
 
 -- the first byte says how the log was left
 pub left_written : (log db : List ℕ) (b : Bool) → 0 < length db → 1 < length log → slice_index log 0 ≡ 0x37 → (IsTrue b ↔ IsWritten log)
-    → (IsTrue b ↔ (0 < length db → 1 < length log → IsLeft log db))
+    → (IsTrue b ↔ (0 < length db → 1 < length log → IsLogLeft log db))
 left_written log db b some long first says = (
   λ yes _ _. record { written = λ _. says.0 yes; emptied = λ other. absurd (other first) },
   λ left. says.1 ((left some long).written first),
 )
 
 pub left_emptied : (log db : List ℕ) (b : Bool) → 0 < length db → 1 < length log → slice_index log 0 ≢ 0x37 → (IsTrue b ↔ IsWrittenBack log db)
-    → (IsTrue b ↔ (0 < length db → 1 < length log → IsLeft log db))
+    → (IsTrue b ↔ (0 < length db → 1 < length log → IsLogLeft log db))
 left_emptied log db b some long first says = (
   λ yes _ _. record { written = λ is. absurd (first is); emptied = λ _. says.0 yes },
   λ left. says.1 ((left some long).emptied first),
 )
 
 -- the same, as the pages of all frames were read
-pub for_pages : (page_size room n : ℕ) (log db numbers given : List ℕ) (b : Bool) → AreAll page_size log n → n ≡ length numbers → given ≡ numbers
+pub for_pages : (page_size room n : ℕ) (log db numbers given : List ℕ) (b : Bool) → ArePassingFrames page_size log n → n ≡ length numbers → given ≡ numbers
     → room ≡ page_size → (IsTrue b ↔ AreInFile room log db (length given))
-    → (IsTrue b ↔ ((m : ℕ) → AreAll page_size log m → AreInFile page_size log db m))
+    → (IsTrue b ↔ ((m : ℕ) → ArePassingFrames page_size log m → AreInFile page_size log db m))
 for_pages page_size room n log db numbers given b all count same sized says =
     for_all page_size log n all db b (rw (← sized, count, ← same) says)

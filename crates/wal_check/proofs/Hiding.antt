@@ -5,19 +5,20 @@ use Rattle.sqlite_wal.specs.Format.{commit_size}
 use Rattle.sqlite_wal.specs.Recovery.{frame, Passes}
 use Rattle.wal_check.specs.declared.frames.Place.{Place}
 use Rattle.wal_check.specs.declared.frames.Frame.{Frame}
-use Rattle.wal_check.specs.Frames.{spill_pages, PassesOpened, GoOn, HidesCommit}
+use Rattle.wal_check.specs.Frames.{spill_pages, PassesOpened, GoOnBehindGate, HidesCommit}
 use Rattle.wal_check.proofs.Reading.{next_at}
-use Rattle.wal_check.specs.Walks.{IsAt, Says}
+use Rattle.wal_check.specs.Walks.{IsFramePlace, IsFrameOf}
 
 -- the frames from n up to that before `next` go on, and `read` is the last of them
 pub record Searched (page_size : ℕ) (log : List ℕ) (n : ℕ) (next : Place) (read : Frame) : Type 0 where
   pub last : ℕ
   pub number : next.frame ≡ last + 1
-  pub at : IsAt page_size log next
-  pub goes_on : GoOn page_size log n last
-  pub says : Says read (frame page_size log last)
+  pub at : IsFramePlace page_size log next
+  pub goes_on : GoOnBehindGate page_size log n last
+  pub says : IsFrameOf read (frame page_size log last)
 
-module _ (page_size : ℕ) (log : List ℕ) (n last : ℕ) (on : GoOn page_size log n last) where
+module _ (page_size : ℕ) (log : List ℕ) (n last : ℕ)
+    (on : GoOnBehindGate page_size log n last) where
   -- nothing is hidden where the next frame doesn't pass
   -- rule: stop-log
   pub not_hidden : ¬ Passes page_size log (last + 1) → ¬ HidesCommit page_size log n
@@ -32,7 +33,7 @@ module _ (page_size : ℕ) (log : List ℕ) (n last : ℕ) (on : GoOn page_size 
   pub is_hidden : commit_size (frame page_size log last) ≢ 0 → Passes page_size log (last + 1) → last + 1 < n + spill_pages → HidesCommit page_size log n
   is_hidden commits behind few = (last, record { goes_on = on; commits = commits; behind = behind; few = few })
 
-  one_on : commit_size (frame page_size log last) ≡ 0 → Passes page_size log (last + 1) → GoOn page_size log n (last + 1)
+  one_on : commit_size (frame page_size log last) ≡ 0 → Passes page_size log (last + 1) → GoOnBehindGate page_size log n (last + 1)
   one_on quiet behind = record {
     order = omega (arith, on.order);
     first = on.first;
@@ -48,8 +49,8 @@ module _ (page_size : ℕ) (log : List ℕ) (n last : ℕ) (on : GoOn page_size 
 pub not_opened : (page_size : ℕ) (log : List ℕ) (n : ℕ) → ¬ PassesOpened page_size log n → ¬ HidesCommit page_size log n
 not_opened page_size log n shut (last, h) = shut h.goes_on.first
 
-pub begun : (page_size : ℕ) (log : List ℕ) (place next : Place) (read : Frame) → IsAt page_size log place
-    → PassesOpened page_size log place.frame → Says read (frame page_size log place.frame)
+pub begun : (page_size : ℕ) (log : List ℕ) (place next : Place) (read : Frame) → IsFramePlace page_size log place
+    → PassesOpened page_size log place.frame → IsFrameOf read (frame page_size log place.frame)
     → next.frame ≡ place.frame + 1 → next.at ≡ place.at + (24 + page_size) → next.sum ≡ read.sum
     → Searched page_size log place.frame next read
 begun page_size log place next read at passes says number moved sum = record {
@@ -71,7 +72,7 @@ not_sized size commits says denied = elim (cases_eq size 0) [ inl is ↦ is | in
 
 pub gone_on : (page_size : ℕ) (log : List ℕ) (n : ℕ) (place next : Place) (read found : Frame) (commits : Bool)
     → Searched page_size log n place read → (IsTrue commits ↔ read.size ≢ 0) → commits ≡ false
-    → Passes page_size log place.frame → Says found (frame page_size log place.frame)
+    → Passes page_size log place.frame → IsFrameOf found (frame page_size log place.frame)
     → next.frame ≡ place.frame + 1 → next.at ≡ place.at + (24 + page_size) → next.sum ≡ found.sum
     → Searched page_size log n next found
 gone_on page_size log n place next read found commits s sized denied passes says number moved sum = record {

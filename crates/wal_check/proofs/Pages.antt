@@ -7,7 +7,7 @@ use Rattle.sqlite_wal.specs.Format.{part, page_number, content}
 use Rattle.sqlite_wal.specs.Recovery.{frame, frame_at, file_page}
 use Rattle.sqlite_wal.proofs.FileLemmas.{content-frame}
 use Rattle.sqlite_wal.proofs.PartLemmas.{held_is_part, part_within, frames_len-lt, frames_len-suc}
-use Rattle.wal_check.specs.Frames.{AreAll, IsNewest, IsKept}
+use Rattle.wal_check.specs.Frames.{ArePassingFrames, IsNewest, IsPageInFile}
 use Rattle.wal_check.specs.Walks.{AreNumbers}
 
 -- the file ends before the page
@@ -55,7 +55,7 @@ pub kept_there : (page_size : ℕ) (log db numbers : List ℕ) (i number at : �
     → number ≡ slice_index numbers i → at ≡ frame_at page_size i
     → ((j : ℕ) → i < j → j < length numbers → slice_index numbers j ≢ number)
     → (IsTrue has ↔ file_page page_size db number ≡ part log (at + 24) page_size)
-    → (IsTrue has ↔ IsKept page_size log db (length numbers) i)
+    → (IsTrue has ↔ IsPageInFile page_size log db (length numbers) i)
 kept_there page_size log db numbers i number at has are low is begins alone says =
     let there = frame_there page_size log db i number at (is ∙ are i low) begins in
     let first = (newest page_size log numbers i number are low is).0 alone in (
@@ -67,7 +67,7 @@ kept_there page_size log db numbers i number at has are low is begins alone says
 pub kept_older : (page_size : ℕ) (log db numbers : List ℕ) (i number : ℕ) → AreNumbers page_size log numbers → i < length numbers
     → number ≡ slice_index numbers i
     → ¬ ((j : ℕ) → i < j → j < length numbers → slice_index numbers j ≢ number)
-    → IsKept page_size log db (length numbers) i
+    → IsPageInFile page_size log db (length numbers) i
 kept_older page_size log db numbers i number are low is older first =
     absurd (older ((newest page_size log numbers i number are low is).1 first))
 
@@ -86,7 +86,7 @@ end_within page_size given i at most same begins fits =
     omega (arith, ends)
 
 -- each frame that passes is whole
-pub all_within : (page_size given n : ℕ) (log seen numbers listed : List ℕ) → given ≡ page_size → seen ≡ log → AreAll page_size log n
+pub all_within : (page_size given n : ℕ) (log seen numbers listed : List ℕ) → given ≡ page_size → seen ≡ log → ArePassingFrames page_size log n
     → n ≡ length listed → numbers ≡ listed
     → (i : ℕ) → i < length numbers → frame_at given i + (24 + given) ≤ length seen
 all_within page_size given n log seen numbers listed size same all count is i low =
@@ -98,6 +98,6 @@ place_after page_size kept i at same begins = rw (same, add-one i) (omega (arith
 
 -- one page more is kept
 pub kept_more : (page_size kept : ℕ) (log db : List ℕ) (n k : ℕ) → kept ≡ page_size
-    → ((i : ℕ) → i < k → IsKept page_size log db n i) → IsKept page_size log db n k
-    → (i : ℕ) → i < k + 1 → IsKept kept log db n i
+    → ((i : ℕ) → i < k → IsPageInFile page_size log db n i) → IsPageInFile page_size log db n k
+    → (i : ℕ) → i < k + 1 → IsPageInFile kept log db n i
 kept_more page_size kept log db n k same before here = rw same (below_more _ _ before here)

@@ -8,12 +8,12 @@ use Rattle.sqlite_wal.proofs.PartLemmas.{frames_len-zero, frames_len-suc}
 use Rattle.wal_check.specs.declared.frames.Place.{Place}
 use Rattle.wal_check.specs.declared.frames.Frame.{Frame}
 use Rattle.wal_check.specs.Frames.{EndsInCommit}
-use Rattle.wal_check.specs.Walks.{IsAt, Says, AreNumbers}
+use Rattle.wal_check.specs.Walks.{IsFramePlace, IsFrameOf, AreNumbers}
 
 -- all frames before the place pass, and these are their pages
 pub record SoFar (page_size : ℕ) (log numbers : List ℕ) (place : Place) (commits : Bool) : Type 0 where
   pub count : place.frame ≡ length numbers
-  pub at : IsAt page_size log place
+  pub at : IsFramePlace page_size log place
   pub each : (i : ℕ) → i < place.frame → Passes page_size log i
   pub pages : AreNumbers page_size log numbers
   pub last : IsTrue commits ↔ EndsInCommit page_size log place.frame
@@ -25,9 +25,9 @@ place_behind page_size k next at moved number is begins = rw (number ∙ add-one
 
 -- the place behind a frame that was read
 pub next_at : (page_size : ℕ) (log : List ℕ) (place next : Place) (read : Frame)
-    → IsAt page_size log place → Says read (frame page_size log place.frame)
+    → IsFramePlace page_size log place → IsFrameOf read (frame page_size log place.frame)
     → next.frame ≡ place.frame + 1 → next.at ≡ place.at + (24 + page_size) → next.sum ≡ read.sum
-    → IsAt page_size log next
+    → IsFramePlace page_size log next
 next_at page_size log place next read at says number moved sum =
     let k : next.frame ≡ suc place.frame = number ∙ add-one place.frame in
     record {
@@ -47,7 +47,7 @@ none_so_far page_size log numbers sum empty first = record {
 
 module _ (page_size : ℕ) (log numbers : List ℕ) (place next : Place) (commits now : Bool) (read : Frame)
     (s : SoFar page_size log numbers place commits) (passes : Passes page_size log place.frame)
-    (says : Says read (frame page_size log place.frame)) where
+    (says : IsFrameOf read (frame page_size log place.frame)) where
   each_more : (i : ℕ) → i < place.frame + 1 → Passes page_size log i
   each_more i low = elim (cases_eq i place.frame) [ inl last ↦ rw last passes | inr earlier ↦ s.each i (omega arith) ]
 

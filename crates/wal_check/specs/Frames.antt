@@ -10,7 +10,7 @@ abbrev pub spill_pages : ℕ
 spill_pages = 2000
 
 -- the first n frames pass, and no more
-pub record AreAll (page_size : ℕ) (log : List ℕ) (n : ℕ) : Type 0 where
+pub record ArePassingFrames (page_size : ℕ) (log : List ℕ) (n : ℕ) : Type 0 where
   pub each : (i : ℕ) → i < n → Passes page_size log i
   pub last : ¬ Passes page_size log n
 
@@ -32,7 +32,7 @@ pub record PassesOpened (page_size : ℕ) (log : List ℕ) (n : ℕ) : Type 0 wh
   pub passes : IsFrame (header log) (sum_before page_size log n) (slice_set (frame page_size log n) 8 (key log))
 
 -- with the gate of frame n taken as open the frames up to `last` pass, and none before it commits
-pub record GoOn (page_size : ℕ) (log : List ℕ) (n last : ℕ) : Type 0 where
+pub record GoOnBehindGate (page_size : ℕ) (log : List ℕ) (n last : ℕ) : Type 0 where
   pub order : n ≤ last
   pub first : PassesOpened page_size log n
   pub inner : (i : ℕ) → n < i → i ≤ last → Passes page_size log i
@@ -41,7 +41,7 @@ pub record GoOn (page_size : ℕ) (log : List ℕ) (n last : ℕ) : Type 0 where
 -- That one commits, and the frame behind it passes, its gate open. A transaction that was written in
 -- pieces and given up leaves pieces of `spill_pages` at least.
 pub record IsHidden (page_size : ℕ) (log : List ℕ) (n last : ℕ) : Type 0 where
-  pub goes_on : GoOn page_size log n last
+  pub goes_on : GoOnBehindGate page_size log n last
   pub commits : commit_size (frame page_size log last) ≢ 0
   pub behind : Passes page_size log (last + 1)
   pub few : last + 1 < n + spill_pages
@@ -57,11 +57,11 @@ IsNewest page_size log n i =
     (j : ℕ) → i < j → j < n → page_number (frame page_size log j) ≢ page_number (frame page_size log i)
 
 -- the file has the page of frame i as that frame has it, if no later one is for that page
-abbrev pub IsKept : (page_size : ℕ) (log db : List ℕ) (n i : ℕ) → Type 0
-IsKept page_size log db n i =
+abbrev pub IsPageInFile : (page_size : ℕ) (log db : List ℕ) (n i : ℕ) → Type 0
+IsPageInFile page_size log db n i =
     IsNewest page_size log n i → file_page page_size db (page_number (frame page_size log i)) ≡ content (frame page_size log i)
 
 -- the file has each page as the newest of the first n frames has it
 -- rule: stop-log
 abbrev pub AreInFile : (page_size : ℕ) (log db : List ℕ) (n : ℕ) → Type 0
-AreInFile page_size log db n = (i : ℕ) → i < n → IsKept page_size log db n i
+AreInFile page_size log db n = (i : ℕ) → i < n → IsPageInFile page_size log db n i

@@ -7,7 +7,7 @@ ghost use Rattle.sqlite_wal.specs.Outcome.{FailsFor, Never};
 ghost use Rattle.sqlite_wal.specs.Reads.{IsClean, OnlyReads};
 ghost use Rattle.sqlite_wal.specs.Recovery.{frame_at, frame, Passes};
 ghost use Rattle.wal_check.specs.Frames.{PassesOpened, IsShutAt};
-ghost use Rattle.wal_check.specs.Walks.{IsShapeOf, IsAt, Says, AreRead};
+ghost use Rattle.wal_check.specs.Walks.{IsShapeOf, IsFramePlace, IsFrameOf, AreRead};
 
 use crate::format::{FRAME_HEADER_LEN, HEADER_LEN, Sum, get_be32, get_sum, is_frame};
 use sqlite_disk::Disk;
@@ -114,12 +114,13 @@ pub(crate) fn read_frame<D: Disk>(
 ) -> io::Result<Option<Frame>>
     requires usable { IsTrue (D.Disk.is_usable log.old) }
     requires shape { IsClean D.Disk log.old → IsShapeOf shape.now (D.Disk.seen log.old) }
-    requires place { IsClean D.Disk log.old → IsAt shape.now.page_size (D.Disk.seen log.old) place }
+    requires place { IsClean D.Disk log.old →
+        IsFramePlace shape.now.page_size (D.Disk.seen log.old) place }
     requires buf { length buf.old ≡ 24 + shape.now.page_size }
     ensures within { IfOk result (λ found. IsSome found → place.at + (24 + shape.now.page_size) ≤ shape.now.len) }
     ensures passes { IfOk result (λ found. IsClean D.Disk log.new → MatchOption found
         (¬ Passes shape.now.page_size (D.Disk.seen log.old) place.frame)
-        (λ read. Passes shape.now.page_size (D.Disk.seen log.old) place.frame × Says read (frame shape.now.page_size (D.Disk.seen log.old) place.frame))) }
+        (λ read. Passes shape.now.page_size (D.Disk.seen log.old) place.frame × IsFrameOf read (frame shape.now.page_size (D.Disk.seen log.old) place.frame))) }
     ensures faults { CountsFault result (D.Disk.faults log.old) (D.Disk.faults log.new) }
     ensures same { OnlyReads D.Disk log.old log.new }
 {
@@ -141,12 +142,13 @@ pub(crate) fn read_opened<D: Disk>(
 ) -> io::Result<Option<Frame>>
     requires usable { IsTrue (D.Disk.is_usable log.old) }
     requires shape { IsClean D.Disk log.old → IsShapeOf shape.now (D.Disk.seen log.old) }
-    requires place { IsClean D.Disk log.old → IsAt shape.now.page_size (D.Disk.seen log.old) place }
+    requires place { IsClean D.Disk log.old →
+        IsFramePlace shape.now.page_size (D.Disk.seen log.old) place }
     requires buf { length buf.old ≡ 24 + shape.now.page_size }
     ensures within { IfOk result (λ found. IsSome found → place.at + (24 + shape.now.page_size) ≤ shape.now.len) }
     ensures passes { IfOk result (λ found. IsClean D.Disk log.new → MatchOption found
         (¬ PassesOpened shape.now.page_size (D.Disk.seen log.old) place.frame)
-        (λ read. PassesOpened shape.now.page_size (D.Disk.seen log.old) place.frame × Says read (frame shape.now.page_size (D.Disk.seen log.old) place.frame))) }
+        (λ read. PassesOpened shape.now.page_size (D.Disk.seen log.old) place.frame × IsFrameOf read (frame shape.now.page_size (D.Disk.seen log.old) place.frame))) }
     ensures faults { CountsFault result (D.Disk.faults log.old) (D.Disk.faults log.new) }
     ensures same { OnlyReads D.Disk log.old log.new }
 {
@@ -165,7 +167,8 @@ pub(crate) fn read_opened<D: Disk>(
 pub(crate) fn is_shut<D: Disk>(log: &mut D, shape: &Shape, place: Place) -> io::Result<bool>
     requires usable { IsTrue (D.Disk.is_usable log.old) }
     requires shape { IsClean D.Disk log.old → IsShapeOf shape.now (D.Disk.seen log.old) }
-    requires place { IsClean D.Disk log.old → IsAt shape.now.page_size (D.Disk.seen log.old) place }
+    requires place { IsClean D.Disk log.old →
+        IsFramePlace shape.now.page_size (D.Disk.seen log.old) place }
     ensures shut { IfOk result (λ b. IsClean D.Disk log.new → (IsTrue b ↔ IsShutAt shape.now.page_size (D.Disk.seen log.old) place.frame)) }
     ensures faults { CountsFault result (D.Disk.faults log.old) (D.Disk.faults log.new) }
     ensures same { OnlyReads D.Disk log.old log.new }
@@ -205,7 +208,7 @@ pub(crate) fn has_size(frame: Frame) -> bool
 /// What the bytes of a frame say.
 fn frame_of(bytes: &[u8]) -> Frame
     requires { 24 ≤ length bytes.now }
-    ensures { Says result bytes.now }
+    ensures { IsFrameOf result bytes.now }
 {
     Frame {
         page: get_be32(bytes, 0),

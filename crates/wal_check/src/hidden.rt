@@ -4,7 +4,7 @@ ghost use Rattle.std.specs.Prelude.{◌≡◌, ◌↔◌, ◌+◌, ◌≤◌, le
 ghost use Rattle.sqlite_disk.specs.Disk.{CountsFault};
 ghost use Rattle.sqlite_wal.specs.Reads.{IsClean, OnlyReads};
 ghost use Rattle.wal_check.specs.Frames.{HidesCommit};
-ghost use Rattle.wal_check.specs.Walks.{IsShapeOf, IsAt};
+ghost use Rattle.wal_check.specs.Walks.{IsShapeOf, IsFramePlace};
 
 use crate::frames::{Place, Shape, behind, has_size, read_frame, read_opened};
 use sqlite_disk::Disk;
@@ -24,7 +24,8 @@ pub(crate) fn hides_commit<D: Disk>(
 ) -> io::Result<bool>
     requires usable { IsTrue (D.Disk.is_usable log.old) }
     requires shape { IsClean D.Disk log.old → IsShapeOf shape.now (D.Disk.seen log.old) }
-    requires place { IsClean D.Disk log.old → IsAt shape.now.page_size (D.Disk.seen log.old) place }
+    requires place { IsClean D.Disk log.old →
+        IsFramePlace shape.now.page_size (D.Disk.seen log.old) place }
     requires few { place.frame ≤ place.at }
     requires buf { length buf.old ≡ 24 + shape.now.page_size }
     ensures hidden { IfOk result (λ b. IsClean D.Disk log.new → (IsTrue b ↔ HidesCommit shape.now.page_size (D.Disk.seen log.old) place.frame)) }

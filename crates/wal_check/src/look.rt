@@ -6,8 +6,8 @@ ghost use Rattle.sqlite_wal.specs.Files.{seen_image};
 ghost use Rattle.sqlite_wal.specs.Outcome.{FailsFor, Never};
 ghost use Rattle.sqlite_wal.specs.PageSize.{IsPageSize};
 ghost use Rattle.sqlite_wal.specs.Reads.{IsClean, AreClean, OnlyReads};
-ghost use Rattle.wal_check.specs.Sound.{IsSound, IsWritten, IsWrittenBack, EndsSound};
-ghost use Rattle.wal_check.specs.Frames.{AreAll, AreInFile};
+ghost use Rattle.wal_check.specs.Sound.{IsSoundImage, IsWritten, IsWrittenBack, EndsSound};
+ghost use Rattle.wal_check.specs.Frames.{ArePassingFrames, AreInFile};
 ghost use Rattle.wal_check.specs.Walks.{IsShapeOf};
 
 use crate::format::{FRAME_HEADER_LEN, HEADER_LEN, MAGIC, VERSION, get_be32, is_signed};
@@ -27,7 +27,7 @@ use std::alloc::Global;
 pub fn is_sound<D: Disk>(alloc: Global, files: &mut Files<D>) -> Result<bool, Error>
     requires log_usable { IsTrue (D.Disk.is_usable files.old.log) }
     requires db_usable { IsTrue (D.Disk.is_usable files.old.db) }
-    ensures sound { IfOk result (λ b. AreClean D.Disk files.new.log files.new.db → (IsTrue b ↔ IsSound (seen_image D.Disk files.old.log files.old.db))) }
+    ensures sound { IfOk result (λ b. AreClean D.Disk files.new.log files.new.db → (IsTrue b ↔ IsSoundImage (seen_image D.Disk files.old.log files.old.db))) }
     ensures cause { FailsFor result (AreClean D.Disk files.new.log files.new.db)
         (D.Disk.faults files.old.log + D.Disk.faults files.old.db) (D.Disk.faults files.new.log + D.Disk.faults files.new.db) Never }
     ensures log { OnlyReads D.Disk files.old.log files.new.log }
@@ -127,7 +127,7 @@ fn have_pages<D: Disk>(alloc: Global, files: &mut Files<D>, shape: &Shape) -> Re
     requires shape { IsClean D.Disk files.old.log → IsShapeOf shape.now (D.Disk.seen files.old.log) }
     requires size { (0 < shape.now.page_size) × (shape.now.page_size ≤ 65536) }
     ensures have { IfOk result (λ b. AreClean D.Disk files.new.log files.new.db
-        → (IsTrue b ↔ ((n : ℕ) → AreAll shape.now.page_size (D.Disk.seen files.old.log) n → AreInFile shape.now.page_size (D.Disk.seen files.old.log) (D.Disk.seen files.old.db) n))) }
+        → (IsTrue b ↔ ((n : ℕ) → ArePassingFrames shape.now.page_size (D.Disk.seen files.old.log) n → AreInFile shape.now.page_size (D.Disk.seen files.old.log) (D.Disk.seen files.old.db) n))) }
     ensures cause { FailsFor result (AreClean D.Disk files.new.log files.new.db)
         (D.Disk.faults files.old.log + D.Disk.faults files.old.db) (D.Disk.faults files.new.log + D.Disk.faults files.new.db) Never }
     ensures log { OnlyReads D.Disk files.old.log files.new.log }

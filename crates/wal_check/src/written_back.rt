@@ -5,7 +5,7 @@ ghost use Rattle.sqlite_disk.specs.Disk.{CountsFault, CountsFaultIf};
 ghost use Rattle.sqlite_wal.specs.Format.{part};
 ghost use Rattle.sqlite_wal.specs.Reads.{IsClean, AreClean, OnlyReads};
 ghost use Rattle.sqlite_wal.specs.Recovery.{frame_at, file_page};
-ghost use Rattle.wal_check.specs.Frames.{AreInFile, IsKept};
+ghost use Rattle.wal_check.specs.Frames.{AreInFile, IsPageInFile};
 ghost use Rattle.wal_check.specs.Walks.{AreNumbers};
 
 use crate::format::{FRAME_HEADER_LEN, HEADER_LEN};
@@ -59,7 +59,7 @@ fn is_kept<D: Disk>(
     requires numbers { (i < length numbers.now) × (IsClean D.Disk files.old.log → AreNumbers (length page.old) (D.Disk.seen files.old.log) numbers.now) }
     requires size { (0 < length page.old) × (length page.old ≤ 65536) × (length copy.old ≡ length page.old) }
     ensures kept { IfOk result (λ b. AreClean D.Disk files.new.log files.new.db
-        → (IsTrue b ↔ IsKept (length page.old) (D.Disk.seen files.old.log) (D.Disk.seen files.old.db) (length numbers.now) i)) }
+        → (IsTrue b ↔ IsPageInFile (length page.old) (D.Disk.seen files.old.log) (D.Disk.seen files.old.db) (length numbers.now) i)) }
     ensures faults { CountsFaultIf (AreClean D.Disk files.new.log files.new.db × (at + (24 + length page.old) ≤ length (D.Disk.seen files.old.log))) result
         (D.Disk.faults files.old.log + D.Disk.faults files.old.db) (D.Disk.faults files.new.log + D.Disk.faults files.new.db) }
     ensures log { OnlyReads D.Disk files.old.log files.new.log }

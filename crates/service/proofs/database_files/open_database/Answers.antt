@@ -3,7 +3,7 @@ use Rattle.sqlite_disk.specs.Events.{Event, replay}
 use Rattle.sqlite_wal.specs.Recovery.{Image}
 use Rattle.sqlite.specs.Files.{file_state}
 use Rattle.sqlite.specs.Start.{FindsIn}
-use Rattle.wal_check.specs.Sound.{IsSound}
+use Rattle.wal_check.specs.Sound.{IsSoundImage}
 use Rattle.service.proofs.database_files.open_database.Goals as goal
 
 abbrev image : List ℕ → List ℕ → Image
@@ -29,7 +29,7 @@ returns-in-Ok g c = record {
       let found = c.in-Ok.ensures.found clean in
       let same = ap₂ image (ap₂ (seen g.S.Start.log g.S.Start.db) log.0 log.1)
       (ap₂ (seen g.S.Start.log g.S.Start.db) db.0 db.1) in
-      subst IsSound same (c.in_ok-check_log.ensures.sound found.honest);
+      subst IsSoundImage same (c.in_ok-check_log.ensures.sound found.honest);
   fresh = search rules;
   guarded = search rules;
 }
