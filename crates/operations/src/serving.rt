@@ -2,7 +2,7 @@
 
 ghost use Rattle.operations.specs.Carried.{ServesOffice};
 ghost use Rattle.operations.specs.declared.fault.OfficeFault.TheVariants.{Store, Write};
-ghost use Rattle.operator.specs.Office.{command_of};
+ghost use Rattle.operator.specs.Office.{command_of_office};
 
 use crate::fault::OfficeFault;
 use crate::status::{Status, ends_as};
@@ -32,7 +32,7 @@ pub fn serve_office<K: Keeper, W: Write>(
     moment: Moment,
     writer: &mut W,
 ) -> Result<Status, OfficeFault>
-    ensures { ServesOffice W.contents shelf.now (command_of command) moment
+    ensures { ServesOffice W.contents shelf.now (command_of_office command) moment
         (K.seen keeper.old) (K.seen keeper.new) writer.old writer.new result }
 {
     let command = command.into_command();

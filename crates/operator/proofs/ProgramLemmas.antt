@@ -11,7 +11,7 @@ use Rattle.clap.specs.declared.error.Error.{Error}
 use Rattle.clap.proofs.OnLiterals.{clap_on_literals}
 use Rattle.texts.specs.Steps.{GivesUnless}
 use Rattle.operator.specs.Program.{program_app}
-use Rattle.operator.specs.Read.{IsInvalid, IsRefusal, IsRefused, IsSaid, IsUnread}
+use Rattle.operator.specs.Read.{IsInvalid, IsFaultOfError, IsRefused, IsSaid, IsUnread}
 use Rattle.operator.specs.Said.{said_by}
 use Rattle.operator.specs.declared.argument_names.Argument.{Argument}
 use Rattle.operator.specs.declared.argument_names.Argument.TheVariants as argument
@@ -50,7 +50,7 @@ joined n w (Some x) name rows None e f = absurd (none_some (n x) e)
 -- an error of clap as a fault of the words
 -- rule: words
 pub refused_by : (kinds : Kinds) (error : Error) (fault : WordsFault) → HasKind kinds error →
-    IsRefusal error fault → IsRefused kinds fault
+    IsFaultOfError error fault → IsRefused kinds fault
 refused_by kinds error (Unread same) has is = elim has [
   | inl memory ↦ absurd (is.1 memory)
   | inr among ↦ subst (λ (e : Error). IsAmong (kind_of e) kinds) (sym is.0) among
@@ -80,7 +80,7 @@ is_invalid words rows argument taken is means =
 
 pub refused_from : {T : Type 0} (kinds : Kinds) (r : Result T Error) (error : Error)
     (fault : WordsFault)
-    → r ≡ Err error → FailsBy kinds r → IsRefusal error fault → IsRefused kinds fault
+    → r ≡ Err error → FailsBy kinds r → IsFaultOfError error fault → IsRefused kinds fault
 refused_from kinds r error fault e fails is =
     refused_by kinds error fault (subst (FailsBy kinds) e fails) is
 

@@ -10,7 +10,8 @@ use Rattle.commands.specs.declared.command.Command.TheVariants as command
 use Rattle.commands.specs.declared.command.Credit.{Credit}
 use Rattle.clap.specs.Words.{Row, Text}
 use Rattle.texts.specs.Steps.{◌>>=◌}
-use Rattle.operator.specs.Values.{account_of, group_of, number_at, reference_of, scope_of, until_of}
+use Rattle.operator.specs.Values.{account_word, group_word, number_word, reference_word, scope_word}
+use Rattle.operator.specs.Values.{until_word}
 use Rattle.operator.specs.declared.argument_names.Argument.TheVariants as argument
 use Rattle.operator.specs.declared.fault.ValueFault.{ValueFault}
 use Rattle.operator.specs.declared.office.OfficeCommand.{OfficeCommand}
@@ -33,11 +34,11 @@ office_name name.Allow = codes "allow"
 -- a credit is usable from the moment of its command on
 unfoldable pub credit_said : List Row → Result Credit ValueFault
 credit_said rows = do
-  account ← account_of rows
-  amount ← number_at 1 most_money argument.Amount rows
-  reference ← reference_of rows
-  until ← until_of rows
-  scope ← scope_of rows
+  account ← account_word rows
+  amount ← number_word 1 most_money argument.Amount rows
+  reference ← reference_word rows
+  until ← until_word rows
+  scope ← scope_word rows
   Ok (record {
     account = account;
     amount = amount;
@@ -50,11 +51,11 @@ credit_said rows = do
 -- so is an allowance
 unfoldable pub allowance_said : List Row → Result Allowance ValueFault
 allowance_said rows = do
-  account ← account_of rows
-  blocks ← number_at 1 most_blocks argument.Blocks rows
-  reference ← reference_of rows
-  until ← until_of rows
-  group ← group_of rows
+  account ← account_word rows
+  blocks ← number_word 1 most_blocks argument.Blocks rows
+  reference ← reference_word rows
+  until ← until_word rows
+  group ← group_word rows
   Ok (record {
     account = account;
     blocks = blocks;
@@ -65,9 +66,9 @@ allowance_said rows = do
   })
 
 abbrev pub office_command_said : OfficeName → List Row → Result OfficeCommand ValueFault
-office_command_said name.Open rows = account_of rows >>= λ a. Ok (office.Open a)
-office_command_said name.Bar rows = account_of rows >>= λ a. Ok (office.Bar a)
-office_command_said name.Unbar rows = account_of rows >>= λ a. Ok (office.Unbar a)
+office_command_said name.Open rows = account_word rows >>= λ a. Ok (office.Open a)
+office_command_said name.Bar rows = account_word rows >>= λ a. Ok (office.Bar a)
+office_command_said name.Unbar rows = account_word rows >>= λ a. Ok (office.Unbar a)
 office_command_said name.Sweep rows = Ok office.Sweep
 office_command_said name.Credit rows = credit_said rows >>= λ c. Ok (office.Credit c)
 office_command_said name.Allow rows = allowance_said rows >>= λ a. Ok (office.Allow a)
@@ -81,10 +82,10 @@ IsOfficeCommandInRange _ = Unit {0}
 
 -- ---- what is carried out
 
-abbrev pub command_of : OfficeCommand → Command
-command_of (office.Open account) = command.OpenAccount account
-command_of (office.Bar account) = command.Bar account
-command_of (office.Unbar account) = command.Unbar account
-command_of (office.Credit credit) = command.Credit credit
-command_of (office.Allow allowance) = command.Allow allowance
-command_of office.Sweep = command.Sweep
+abbrev pub command_of_office : OfficeCommand → Command
+command_of_office (office.Open account) = command.OpenAccount account
+command_of_office (office.Bar account) = command.Bar account
+command_of_office (office.Unbar account) = command.Unbar account
+command_of_office (office.Credit credit) = command.Credit credit
+command_of_office (office.Allow allowance) = command.Allow allowance
+command_of_office office.Sweep = command.Sweep

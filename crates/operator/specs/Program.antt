@@ -169,11 +169,11 @@ top_app = let empty = new_app (codes "ocs") in
     record empty { top = record (empty.top) { has_version = true; subcommand_required = true } }
 
 -- a program with these commands more
-abbrev pub with_commands : List CommandName → App → App
-with_commands [] program = program
-with_commands (name ∷ rest) program =
-    with_commands rest (with_subcommand program (command_app name).top)
+abbrev pub with_command_apps : List CommandName → App → App
+with_command_apps [] program = program
+with_command_apps (name ∷ rest) program =
+    with_command_apps rest (with_subcommand program (command_app name).top)
 
 -- rule: words: the words of the command line
 abbrev pub program_app : App
-program_app = with_commands command_names top_app
+program_app = with_command_apps command_names top_app

@@ -49,10 +49,10 @@ IsUnread words (Invalid argument) = IsInvalid words argument
 IsUnread words Memory = Unit {0}
 
 -- the fault is this error of `clap`, or lack of memory where the error is that
-abbrev pub IsRefusal : Error → WordsFault → Type 0
-IsRefusal error (Unread same) = (same ≡ error) × (kind_of error ≢ OutOfMemory)
-IsRefusal error (Invalid argument) = ⊥
-IsRefusal error Memory = kind_of error ≡ OutOfMemory
+abbrev pub IsFaultOfError : Error → WordsFault → Type 0
+IsFaultOfError error (Unread same) = (same ≡ error) × (kind_of error ≢ OutOfMemory)
+IsFaultOfError error (Invalid argument) = ⊥
+IsFaultOfError error Memory = kind_of error ≡ OutOfMemory
 
 -- an error of `clap` of one of these kinds, or lack of memory
 abbrev pub IsRefused : Kinds → WordsFault → Type 0

@@ -6,8 +6,9 @@ use Rattle.clap.specs.Words.{Row, Text}
 use Rattle.texts.specs.Steps.{◌>>=◌, or_fault}
 use Rattle.operator.specs.Office.{office_command_said}
 use Rattle.operator.specs.Program.{command_named}
-use Rattle.operator.specs.Values.{account_of, at_of, database_of, from_of, has_flag, moments_of}
-use Rattle.operator.specs.Values.{month_at, most_connections, number_at, path_at}
+use Rattle.operator.specs.Values.{account_word, at_word, database_word, from_word, has_flag}
+use Rattle.operator.specs.Values.{moments_of}
+use Rattle.operator.specs.Values.{month_word, most_connections, number_word, path_word}
 use Rattle.operator.specs.declared.argument_names.Argument.TheVariants as argument
 use Rattle.operator.specs.declared.fault.ValueFault.{ValueFault}
 use Rattle.operator.specs.declared.fault.ValueFault.TheVariants.{Invalid}
@@ -29,58 +30,58 @@ use Rattle.operator.specs.declared.program.CommandName.TheVariants as name
 
 unfoldable pub once_said : List Row → Result OnceWords ValueFault
 once_said rows = do
-  credit ← number_at 1 most_money argument.Credit rows
-  price ← number_at 0 greatest_price argument.Price rows
-  block ← number_at 1 most_granted argument.Block rows
+  credit ← number_word 1 most_money argument.Credit rows
+  price ← number_word 0 greatest_price argument.Price rows
+  block ← number_word 1 most_granted argument.Block rows
   Ok (record { credit = credit; price = price; block = block })
 
 unfoldable pub init_said : List Row → Result InitWords ValueFault
 init_said rows = do
-  database ← database_of rows
-  book ← path_at argument.Book rows
+  database ← database_word rows
+  book ← path_word argument.Book rows
   Ok (record { database = database; book = book })
 
 unfoldable pub migrate_said : List Row → Result MigrateWords ValueFault
 migrate_said rows = do
-  database ← database_of rows
+  database ← database_word rows
   Ok (record { database = database })
 
 unfoldable pub book_said : List Row → Result BookWords ValueFault
 book_said rows = do
-  database ← database_of rows
-  file ← path_at argument.File rows
-  from ← from_of rows
+  database ← database_word rows
+  file ← path_word argument.File rows
+  from ← from_word rows
   Ok (record { database = database; file = file; from = from })
 
 unfoldable pub serve_said : List Row → Result ServeWords ValueFault
 serve_said rows = do
-  database ← database_of rows
-  port ← number_at 1 most_of_16_bits argument.Port rows
-  connections ← number_at 1 most_connections argument.Connections rows
-  at ← at_of rows
+  database ← database_word rows
+  port ← number_word 1 most_of_16_bits argument.Port rows
+  connections ← number_word 1 most_connections argument.Connections rows
+  at ← at_word rows
   Ok (record { database = database; port = port; connections = connections; at = at })
 
 unfoldable pub import_said : List Row → Result ImportWords ValueFault
 import_said rows = do
-  database ← database_of rows
-  file ← path_at argument.File rows
-  at ← at_of rows
+  database ← database_word rows
+  file ← path_word argument.File rows
+  at ← at_word rows
   Ok (record { database = database; file = file; at = at })
 
 -- an operator's command, on a database and at a moment
 unfoldable pub office_said : OfficeName → List Row → Result OfficeWords ValueFault
 office_said name rows = do
-  database ← database_of rows
+  database ← database_word rows
   command ← office_command_said name rows
-  at ← at_of rows
+  at ← at_word rows
   Ok (record { database = database; command = command; at = at })
 
 unfoldable pub statement_said : List Row → Result StatementWords ValueFault
 statement_said rows = do
-  database ← database_of rows
-  account ← account_of rows
-  month ← month_at rows
-  at ← at_of rows
+  database ← database_word rows
+  account ← account_word rows
+  month ← month_word rows
+  at ← at_word rows
   Ok (record {
     database = database;
     account = account;
@@ -91,14 +92,14 @@ statement_said rows = do
 
 unfoldable pub clock_said : List Row → Result ClockWords ValueFault
 clock_said rows = do
-  database ← database_of rows
+  database ← database_word rows
   moments ← moments_of rows
   Ok (record { database = database; moments = moments })
 
 unfoldable pub replay_said : List Row → Result ReplayWords ValueFault
 replay_said rows = do
-  database ← database_of rows
-  file ← path_at argument.File rows
+  database ← database_word rows
+  file ← path_word argument.File rows
   Ok (record { database = database; file = file })
 
 abbrev pub said_as : {A : Type 0} → (A → ProgramWords) → Result A ValueFault

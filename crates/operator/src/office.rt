@@ -4,7 +4,7 @@ ghost use Rattle.std.specs.Prelude.{◌≡◌, ◌≤◌, IfOk};
 ghost use Rattle.units.specs.Words.{most_blocks};
 ghost use Rattle.clap.specs.Words.{found_of, rows_of};
 ghost use Rattle.texts.specs.Steps.{GivesUnless};
-ghost use Rattle.operator.specs.Office.{allowance_said, command_of, credit_said};
+ghost use Rattle.operator.specs.Office.{allowance_said, command_of_office, credit_said};
 ghost use Rattle.operator.specs.Office.{office_command_said, office_name, IsOfficeCommandInRange};
 ghost use Rattle.operator.specs.declared.fault.ValueFault.TheVariants.{Memory};
 
@@ -62,7 +62,7 @@ pub enum OfficeCommand {
 impl OfficeCommand {
     /// The command of the charging system that it is.
     pub fn into_command(self) -> Command
-        ensures { result ≡ command_of self }
+        ensures { result ≡ command_of_office self }
     {
         match self {
             OfficeCommand::Open(account) => Command::OpenAccount(account),

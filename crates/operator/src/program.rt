@@ -11,7 +11,7 @@ ghost use Rattle.operator.specs.Program.{credit_app, credit_operands_app, import
 ghost use Rattle.operator.specs.Program.{migrate_app};
 ghost use Rattle.operator.specs.Program.{office_app, once_app, program_app, replay_app, serve_app};
 ghost use Rattle.operator.specs.Program.{statement_app, sweep_app, top_app, version_text};
-ghost use Rattle.operator.specs.Program.{with_commands};
+ghost use Rattle.operator.specs.Program.{with_command_apps};
 
 use crate::arguments::{with_flag, with_operand, with_operands, with_option};
 use crate::office::OfficeName;
@@ -419,7 +419,7 @@ fn with_commands<'a>(
 ) -> Result<Command<'a>, AllocError>
     requires { (fields_of program).has_globals ≡ false }
     ensures app { IfOk result
-        (λ c. app_of c ≡ with_commands names.now (app_of program.entry)) }
+        (λ c. app_of c ≡ with_command_apps names.now (app_of program.entry)) }
     ensures local { IfOk result (λ c. (fields_of c).has_globals ≡ false) }
 {
     let mut program = program;

@@ -5,7 +5,8 @@ ghost use Rattle.clap.specs.Words.{FailsBy, fault_of, found_of, rows_of, subcomm
 ghost use Rattle.clap.specs.Words.{subcommand_rows_of};
 ghost use Rattle.texts.specs.Steps.{GivesUnless};
 ghost use Rattle.operator.specs.Program.{program_app};
-ghost use Rattle.operator.specs.Read.{IsInRange, IsRefusal, IsRefused, IsSaid, IsUnread, texts_of};
+ghost use Rattle.operator.specs.Read.{IsInRange, IsFaultOfError, IsRefused, IsSaid, IsUnread};
+ghost use Rattle.operator.specs.Read.{texts_of};
 ghost use Rattle.operator.specs.Said.{command_said, said_by};
 ghost use Rattle.operator.specs.declared.fault.ValueFault.TheVariants.{Memory};
 
@@ -74,7 +75,7 @@ fn matches_in<'a>(alloc: Global, words: &'a [&'a str]) -> Result<ArgMatches<'a>,
 
 /// The fault of an error of `clap`.
 fn refusal(error: Error) -> WordsFault
-    ensures { IsRefusal error result }
+    ensures { IsFaultOfError error result }
 {
     match error.kind() {
         ErrorKind::OutOfMemory => WordsFault::Memory,

@@ -4,10 +4,12 @@ ghost use Rattle.std.specs.Prelude.{◌≡◌, ◌≤◌, [], All, IfOk, IfSome,
 ghost use Rattle.units.specs.Words.{latest_command, most_money, most_blocks};
 ghost use Rattle.clap.specs.Words.{all_of, found_of, first_of, rows_of};
 ghost use Rattle.texts.specs.Steps.{GivesUnless, Says, collected};
-ghost use Rattle.operator.specs.Values.{account_of, at_of, database_of, from_of, group_of};
-ghost use Rattle.operator.specs.Values.{has_flag, moment_in, moments_of, month_at, number_at};
-ghost use Rattle.operator.specs.Values.{number_in, optional_at};
-ghost use Rattle.operator.specs.Values.{path_at, reference_of, scope_of, until_of, word};
+ghost use Rattle.operator.specs.Values.{account_word, at_word, database_word, from_word};
+ghost use Rattle.operator.specs.Values.{group_word};
+ghost use Rattle.operator.specs.Values.{has_flag, moment_in_text, moments_of, month_word};
+ghost use Rattle.operator.specs.Values.{number_word};
+ghost use Rattle.operator.specs.Values.{number_in_text, optional_word};
+ghost use Rattle.operator.specs.Values.{path_word, reference_word, scope_word, until_word, word};
 ghost use Rattle.operator.specs.declared.argument_names.Argument.TheVariants as argument;
 ghost use Rattle.operator.specs.declared.fault.ValueFault.TheVariants.{Memory};
 
@@ -39,9 +41,9 @@ fn word<'a>(matches: &ArgMatches<'a>, argument: Argument) -> Result<&'a str, Val
 }
 
 /// The number of this range that a word says.
-#[tactic(auto, unfolding(crate::specs::Values::number_in))]
+#[tactic(auto, unfolding(crate::specs::Values::number_in_text))]
 fn number_in(low: u64, high: u64, argument: Argument, word: &str) -> Result<u64, ValueFault>
-    ensures value { Says (λ n. n) result (number_in low high argument word.now) }
+    ensures value { Says (λ n. n) result (number_in_text low high argument word.now) }
     ensures in_range { IfOk result (λ n. (low ≤ n) × (n ≤ high)) }
 {
     let number = number(word).ok_or(ValueFault::Invalid(argument))?;
@@ -53,7 +55,7 @@ fn number_in(low: u64, high: u64, argument: Argument, word: &str) -> Result<u64,
 }
 
 /// The number of this range that an operand or an option says.
-#[tactic(auto, unfolding(crate::specs::Values::number_at))]
+#[tactic(auto, unfolding(crate::specs::Values::number_word))]
 pub(crate) fn number_at(
     matches: &ArgMatches<'_>,
     low: u64,
@@ -61,14 +63,14 @@ pub(crate) fn number_at(
     argument: Argument,
 ) -> Result<u64, ValueFault>
     ensures value { Says (λ n. n) result
-        (number_at low high argument (rows_of (found_of matches.now))) }
+        (number_word low high argument (rows_of (found_of matches.now))) }
     ensures in_range { IfOk result (λ n. (low ≤ n) × (n ≤ high)) }
 {
     number_in(low, high, argument, word(matches, argument)?)
 }
 
 /// The number of this range that an option says, where it is there.
-#[tactic(auto, unfolding(crate::specs::Values::optional_in))]
+#[tactic(auto, unfolding(crate::specs::Values::optional_in_text))]
 fn optional_at(
     matches: &ArgMatches<'_>,
     low: u64,
@@ -76,7 +78,7 @@ fn optional_at(
     argument: Argument,
 ) -> Result<Option<u64>, ValueFault>
     ensures value { Says (λ n. n) result
-        (optional_at low high argument (rows_of (found_of matches.now))) }
+        (optional_word low high argument (rows_of (found_of matches.now))) }
     ensures in_range { IfOk result (λ o. IfSome o (λ n. (low ≤ n) × (n ≤ high))) }
 {
     match found(matches, argument.id()) {
@@ -88,7 +90,7 @@ fn optional_at(
 /// An amount of money, 1 to 10^15 micro-units.
 pub(crate) fn amount_at(matches: &ArgMatches<'_>, argument: Argument) -> Result<Money, ValueFault>
     ensures value { Says (λ m. m) result
-        (number_at 1 most_money argument (rows_of (found_of matches.now))) }
+        (number_word 1 most_money argument (rows_of (found_of matches.now))) }
     ensures in_range { IfOk result (λ m. (1 ≤ m) × (m ≤ most_money)) }
 {
     let micros = number_at(matches, 1, MOST_MONEY, argument)?;
@@ -98,7 +100,7 @@ pub(crate) fn amount_at(matches: &ArgMatches<'_>, argument: Argument) -> Result<
 /// The blocks of an allowance, 1 to 10^9.
 pub(crate) fn blocks(matches: &ArgMatches<'_>) -> Result<AllowanceBlocks, ValueFault>
     ensures value { Says (λ b. b) result
-        (number_at 1 most_blocks argument.Blocks (rows_of (found_of matches.now))) }
+        (number_word 1 most_blocks argument.Blocks (rows_of (found_of matches.now))) }
     ensures in_range { IfOk result (λ b. (1 ≤ b) × (b ≤ most_blocks)) }
 {
     let number = number_at(matches, 1, MOST_BLOCKS, Argument::Blocks)?;
@@ -107,7 +109,7 @@ pub(crate) fn blocks(matches: &ArgMatches<'_>) -> Result<AllowanceBlocks, ValueF
 
 /// The moment of `--from`.
 pub(crate) fn first_moment(matches: &ArgMatches<'_>) -> Result<Moment, ValueFault>
-    ensures value { Says (λ t. t) result (from_of (rows_of (found_of matches.now))) }
+    ensures value { Says (λ t. t) result (from_word (rows_of (found_of matches.now))) }
     ensures in_range { IfOk result (λ t. t ≤ latest_command) }
 {
     let seconds = number_at(matches, 0, LATEST_COMMAND, Argument::From)?;
@@ -124,7 +126,7 @@ fn found_all<'m, 'a>(matches: &'m ArgMatches<'a>, id: &str) -> Option<&'m [&'a s
 
 /// The moment of a command that a word says.
 fn moment_in(word: &str) -> Result<Moment, ValueFault>
-    ensures value { Says (λ t. t) result (moment_in word.now) }
+    ensures value { Says (λ t. t) result (moment_in_text word.now) }
     ensures in_range { IfOk result (λ t. t ≤ latest_command) }
 {
     let seconds = number_in(0, LATEST_COMMAND, Argument::Moment, word)?;
@@ -134,7 +136,7 @@ fn moment_in(word: &str) -> Result<Moment, ValueFault>
 /// The moments that words say.
 fn moments_in(alloc: Global, words: &[&str]) -> Result<Vec<Moment>, ValueFault>
     ensures value { GivesUnless Memory (λ v. v.items) result
-        (collected (λ before. moment_in) [] (map (λ w. w.now) words.now)) }
+        (collected (λ before. moment_in_text) [] (map (λ w. w.now) words.now)) }
     ensures in_range { IfOk result (λ v. All (λ t. t ≤ latest_command) v.items) }
 {
     let mut moments = Vec::new(alloc);
@@ -160,7 +162,7 @@ pub(crate) fn moments(alloc: Global, matches: &ArgMatches<'_>) -> Result<MomentL
 
 /// The moment of `--at`, where it is there.
 pub(crate) fn at(matches: &ArgMatches<'_>) -> Result<Option<Moment>, ValueFault>
-    ensures value { Says (λ t. t) result (at_of (rows_of (found_of matches.now))) }
+    ensures value { Says (λ t. t) result (at_word (rows_of (found_of matches.now))) }
     ensures in_range { IfOk result (λ o. IfSome o (λ t. t ≤ latest_command)) }
 {
     match optional_at(matches, 0, LATEST_COMMAND, Argument::At)? {
@@ -171,7 +173,7 @@ pub(crate) fn at(matches: &ArgMatches<'_>) -> Result<Option<Moment>, ValueFault>
 
 /// The end of `--until`, where it is there.
 pub(crate) fn until(matches: &ArgMatches<'_>) -> Result<Option<CreditEnd>, ValueFault>
-    ensures { Says (λ e. e) result (until_of (rows_of (found_of matches.now))) }
+    ensures { Says (λ e. e) result (until_word (rows_of (found_of matches.now))) }
 {
     match optional_at(matches, 1, NO_END, Argument::Until)? {
         None => Ok(None),
@@ -184,7 +186,7 @@ pub(crate) fn until(matches: &ArgMatches<'_>) -> Result<Option<CreditEnd>, Value
 
 /// The rating group of `--scope`, where it is there.
 pub(crate) fn scope(matches: &ArgMatches<'_>) -> Result<Option<u32>, ValueFault>
-    ensures { Says (λ g. g) result (scope_of (rows_of (found_of matches.now))) }
+    ensures { Says (λ g. g) result (scope_word (rows_of (found_of matches.now))) }
 {
     match optional_at(matches, 0, GREATEST_NUMBER, Argument::Scope)? {
         None => Ok(None),
@@ -194,21 +196,21 @@ pub(crate) fn scope(matches: &ArgMatches<'_>) -> Result<Option<u32>, ValueFault>
 
 /// The rating group of `--scope`, which must be there.
 pub(crate) fn group(matches: &ArgMatches<'_>) -> Result<u32, ValueFault>
-    ensures { Says (λ g. g) result (group_of (rows_of (found_of matches.now))) }
+    ensures { Says (λ g. g) result (group_word (rows_of (found_of matches.now))) }
 {
     let number = number_at(matches, 0, GREATEST_NUMBER, Argument::Scope)?;
     Ok(number as u32)
 }
 
 /// The path that an operand says.
-#[tactic(auto, unfolding(crate::specs::Values::path_at))]
+#[tactic(auto, unfolding(crate::specs::Values::path_word))]
 pub(crate) fn path_at(
     alloc: Global,
     matches: &ArgMatches<'_>,
     argument: Argument,
 ) -> Result<FilePath, ValueFault>
     ensures { GivesUnless Memory (λ p. p) result
-        (path_at argument (rows_of (found_of matches.now))) }
+        (path_word argument (rows_of (found_of matches.now))) }
 {
     let text = word(matches, argument)?;
     FilePath::new(alloc, text)?.ok_or(ValueFault::Invalid(argument))
@@ -217,35 +219,35 @@ pub(crate) fn path_at(
 /// The path of the database.
 pub(crate) fn database(alloc: Global, matches: &ArgMatches<'_>) -> Result<FilePath, ValueFault>
     ensures { GivesUnless Memory (λ p. p) result
-        (database_of (rows_of (found_of matches.now))) }
+        (database_word (rows_of (found_of matches.now))) }
 {
     path_at(alloc, matches, Argument::Database)
 }
 
 /// The account's number.
-#[tactic(auto, unfolding(crate::specs::Values::account_of))]
+#[tactic(auto, unfolding(crate::specs::Values::account_word))]
 pub(crate) fn account(alloc: Global, matches: &ArgMatches<'_>) -> Result<AccountNumber, ValueFault>
     ensures { GivesUnless Memory (λ a. a) result
-        (account_of (rows_of (found_of matches.now))) }
+        (account_word (rows_of (found_of matches.now))) }
 {
     let text = word(matches, Argument::Account)?;
     AccountNumber::new(alloc, text)?.ok_or(ValueFault::Invalid(Argument::Account))
 }
 
 /// The reference of a credit or an allowance.
-#[tactic(auto, unfolding(crate::specs::Values::reference_of))]
+#[tactic(auto, unfolding(crate::specs::Values::reference_word))]
 pub(crate) fn reference(alloc: Global, matches: &ArgMatches<'_>) -> Result<Reference, ValueFault>
     ensures { GivesUnless Memory (λ r. r) result
-        (reference_of (rows_of (found_of matches.now))) }
+        (reference_word (rows_of (found_of matches.now))) }
 {
     let text = word(matches, Argument::Reference)?;
     Reference::new(alloc, text)?.ok_or(ValueFault::Invalid(Argument::Reference))
 }
 
 /// The month.
-#[tactic(auto, unfolding(crate::specs::Values::month_at))]
+#[tactic(auto, unfolding(crate::specs::Values::month_word))]
 pub(crate) fn month(matches: &ArgMatches<'_>) -> Result<Month, ValueFault>
-    ensures { Says (λ m. m) result (month_at (rows_of (found_of matches.now))) }
+    ensures { Says (λ m. m) result (month_word (rows_of (found_of matches.now))) }
 {
     let text = word(matches, Argument::Month)?;
     Month::from_word(text).ok_or(ValueFault::Invalid(Argument::Month))

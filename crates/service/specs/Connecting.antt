@@ -10,7 +10,7 @@ use Rattle.sqlite.specs.Files.{file_state, IsOpened}
 use Rattle.sqlite.specs.Opening.{is_open_error}
 use Rattle.sqlite.specs.Start.{FindsIn}
 use Rattle.sqlite.specs.State.{HasCleanDisk}
-use Rattle.wal_check.specs.Sound.{IsSound}
+use Rattle.wal_check.specs.Sound.{IsSoundImage}
 use Rattle.sqlite.specs.declared.error.Error.TheVariants.{SqliteFailure}
 use Rattle.sqlite.specs.declared.error.ErrorCode.TheVariants.{CannotOpen}
 use Rattle.service.specs.declared.database_files.ConnectFault.{ConnectFault}
@@ -29,6 +29,6 @@ pub record ConnectsTo {D : Type 0} {g : disk.Ghosts D} (image : Image) (path : B
   pub named : IfErr result IsConnectFault
   pub opened : IfOk result (λ c. HasCleanDisk (file_state c) → IsOpened c)
   pub found : IfOk result (λ c. HasCleanDisk (file_state c) → FindsIn image (file_state c))
-  pub sound : IfOk result (λ c. HasCleanDisk (file_state c) → IsSound image)
+  pub sound : IfOk result (λ c. HasCleanDisk (file_state c) → IsSoundImage image)
   pub fresh : IfOk result IsNew
   pub guarded : IfOk result (λ c. HasCleanDisk (file_state c) → (file_state c).IsShielded)

@@ -37,7 +37,7 @@ use Rattle.operations.specs.Printed.{PrintsAnswer}
 use Rattle.operations.specs.Told.{answer_line, status_of}
 use Rattle.operations.specs.declared.stating.MonthQuery.{MonthQuery}
 use Rattle.operations.specs.declared.status.Status.{Status}
-use Rattle.operator.specs.Office.{command_of}
+use Rattle.operator.specs.Office.{command_of_office}
 use Rattle.operator.specs.declared.parsed.ImportWords.{ImportWords}
 use Rattle.operator.specs.declared.parsed.OfficeWords.{OfficeWords}
 use Rattle.operator.specs.declared.parsed.StatementWords.{StatementWords}
@@ -139,7 +139,7 @@ pub record IsCommandDone (words : OfficeWords) (before after : Option Bytes) (st
     (shelf : Shelf) (old new : Tables) : Type 0 where
   pub moment : Moment
   pub said : IsMomentOf words.at moment
-  pub carried : IsCarriedOut shelf (command_of words.command) moment old new
+  pub carried : IsCarriedOut shelf (command_of_office words.command) moment old new
       (λ answer. (status ≡ status_of answer) × Appends before after (answer_line answer))
 
 -- their month is written, or that there is no such account, and no row has changed

@@ -9,7 +9,7 @@ ghost use Rattle.operations.specs.Printed.{PrintsAnswer};
 ghost use Rattle.operations.specs.Told.{answer_line, status_of};
 ghost use Rattle.operations.specs.Written.{WritesBeginning};
 ghost use Rattle.operations.specs.declared.fault.OfficeFault.TheVariants.{Store, Write};
-ghost use Rattle.operator.specs.Office.{command_of};
+ghost use Rattle.operator.specs.Office.{command_of_office};
 ghost use Rattle.sqlite_wal.specs.Files.{image_at};
 ghost use Rattle.service.specs.Opening.{IsOfficeFault, IsUnanswered};
 ghost use Rattle.sql_keeper.specs.Inside.{tables_in};
@@ -103,13 +103,13 @@ fn carry_out<K: Keeper, O: Write>(
     output: &mut O,
 ) -> Result<Status, DatabaseFault>
     ensures done { (K.seen keeper.new).clean → IfOk result (λ status.
-        IsCarriedOut shelf.now (command_of words.command) moment (K.seen keeper.old).tables
+        IsCarriedOut shelf.now (command_of_office words.command) moment (K.seen keeper.old).tables
         (K.seen keeper.new).tables (λ answer. (status ≡ status_of answer)
         × Appends (O.contents output.old) (O.contents output.new) (answer_line answer))) }
     ensures printed { IfOk result (λ status.
         PrintsAnswer status (O.contents output.old) (O.contents output.new)) }
     ensures untold { (fault : StreamFault) → result ≡ Err (OfOffice (Write fault)) →
-        (K.seen keeper.new).clean → IsCarriedOut shelf.now (command_of words.command) moment
+        (K.seen keeper.new).clean → IsCarriedOut shelf.now (command_of_office words.command) moment
         (K.seen keeper.old).tables (K.seen keeper.new).tables (λ answer.
         WritesBeginning (O.contents output.old) (O.contents output.new) (answer_line answer)) }
     ensures unserved { (fault : StoreFault) → result ≡ Err (OfOffice (Store fault)) →

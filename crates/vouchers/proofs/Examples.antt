@@ -3,7 +3,7 @@ use Rattle.std.proofs.Common.{◌≡◌, [], ◌∷◌, Some, None, Ok, Err, cod
 use Rattle.csv.proofs.OnLiterals.{csv_on_literals}
 use Rattle.vouchers.specs.declared.fault.FaultKind.TheVariants.{Header, Code}
 use Rattle.vouchers.specs.Files.{fault_at, vouchers_from, vouchers_in}
-use Rattle.vouchers.specs.Rows.{number_in, optional_in, terms_of, voucher_of}
+use Rattle.vouchers.specs.Rows.{number_in_field, optional_in_field, terms_of, voucher_of}
 
 -- three vouchers: with days, with more days, with a scope
 pub three_vouchers : vouchers_in
@@ -21,13 +21,13 @@ pub three_vouchers : vouchers_in
       code = codes "000000000003";
       terms = record { amount = 1000000; days = Some 7; scope = Some 20 };
     } ∷ [])
-unfolding csv_on_literals vouchers_from voucher_of terms_of number_in optional_in
+unfolding csv_on_literals vouchers_from voucher_of terms_of number_in_field optional_in_field
 three_vouchers = refl
 
 -- a code of 11 digits in the second voucher
 pub short_code : vouchers_in (codes "code,amount,days,scope\n000000000001,5,1,\n00000000002,5,1,\n")
     ≡ Err (fault_at 3 Code)
-unfolding csv_on_literals vouchers_from voucher_of terms_of number_in optional_in
+unfolding csv_on_literals vouchers_from voucher_of terms_of number_in_field optional_in_field
 short_code = refl
 
 -- no record, and the header alone
@@ -46,5 +46,5 @@ pub as_csv_reads : vouchers_in
       code = codes "000000000001";
       terms = record { amount = 1; days = None; scope = Some 0 };
     } ∷ [])
-unfolding csv_on_literals vouchers_from voucher_of terms_of number_in optional_in
+unfolding csv_on_literals vouchers_from voucher_of terms_of number_in_field optional_in_field
 as_csv_reads = refl

@@ -17,24 +17,24 @@ abbrev pub field : List (List ℕ) → ℕ → List ℕ
 field fields i = get_or fields i []
 
 -- 1 to 16 digits say a number of this range
-unfoldable pub number_in : FaultKind → ℕ → ℕ → List ℕ → Result ℕ FaultKind
-number_in fault low high text = do
+unfoldable pub number_in_field : FaultKind → ℕ → ℕ → List ℕ → Result ℕ FaultKind
+number_in_field fault low high text = do
   n ← or_fault fault (number_of text)
   where_holds (nat_le low n && nat_le n high) fault n
 
 -- the same, where the field isn't empty
-unfoldable pub optional_in : FaultKind → ℕ → ℕ → List ℕ → Result (Option ℕ) FaultKind
-optional_in fault low high [] = Ok None
-optional_in fault low high (b ∷ bs) = do
-  n ← number_in fault low high (b ∷ bs)
+unfoldable pub optional_in_field : FaultKind → ℕ → ℕ → List ℕ → Result (Option ℕ) FaultKind
+optional_in_field fault low high [] = Ok None
+optional_in_field fault low high (b ∷ bs) = do
+  n ← number_in_field fault low high (b ∷ bs)
   Ok (Some n)
 
 -- behind the code: 1 to 10^15 micro-units, 1 to 3,650 days or none, a rating group or none
 unfoldable pub terms_of : List (List ℕ) → Result VoucherTerms FaultKind
 terms_of fields = do
-  amount ← number_in Amount 1 most_money (field fields 1)
-  days ← optional_in Days 1 most_days (field fields 2)
-  scope ← optional_in Scope 0 greatest_number (field fields 3)
+  amount ← number_in_field Amount 1 most_money (field fields 1)
+  days ← optional_in_field Days 1 most_days (field fields 2)
+  scope ← optional_in_field Scope 0 greatest_number (field fields 3)
   Ok (record { amount = amount; days = days; scope = scope })
 
 -- four fields: a code of 12 digits and the terms

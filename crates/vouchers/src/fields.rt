@@ -6,8 +6,8 @@ ghost use Rattle.csv.specs.Records.{fields_of};
 ghost use Rattle.texts.specs.Steps.{Says, GivesUnless, where_holds};
 ghost use Rattle.identifiers.specs.Texts.{is_voucher_code};
 ghost use Rattle.texts.specs.Numbers.{number_of};
-ghost use Rattle.vouchers.specs.Rows.{AreInRange, IsVoucher, field, is_header, number_in};
-ghost use Rattle.vouchers.specs.Rows.{optional_in, terms_of, voucher_of};
+ghost use Rattle.vouchers.specs.Rows.{AreInRange, IsVoucher, field, is_header, number_in_field};
+ghost use Rattle.vouchers.specs.Rows.{optional_in_field, terms_of, voucher_of};
 ghost use Rattle.vouchers.specs.declared.fault.FaultKind.TheVariants.{Amount, Code, Days, Scope};
 ghost use Rattle.vouchers.specs.declared.fault.FaultKind.TheVariants.{Memory};
 
@@ -52,9 +52,9 @@ fn number(field: &[u8]) -> Option<u64>
 }
 
 /// The number that a field says, from `low` to `high`.
-#[tactic(auto, unfolding(crate::specs::Rows::number_in))]
+#[tactic(auto, unfolding(crate::specs::Rows::number_in_field))]
 fn number_in(fault: FaultKind, low: u64, high: u64, field: &[u8]) -> Result<u64, FaultKind>
-    ensures value { Says (λ n. n) result (number_in fault low high field.now) }
+    ensures value { Says (λ n. n) result (number_in_field fault low high field.now) }
     ensures in_range { IfOk result (λ n. (low ≤ n) × (n ≤ high)) }
 {
     let number = number(field).ok_or(fault)?;
@@ -66,14 +66,14 @@ fn number_in(fault: FaultKind, low: u64, high: u64, field: &[u8]) -> Result<u64,
 }
 
 /// The whole number from `low` to `high` that a field is, and else `fault`; None where it is empty.
-#[tactic(auto, unfolding(crate::specs::Rows::optional_in))]
+#[tactic(auto, unfolding(crate::specs::Rows::optional_in_field))]
 fn optional_in(
     fault: FaultKind,
     low: u64,
     high: u64,
     field: &[u8],
 ) -> Result<Option<u64>, FaultKind>
-    ensures value { Says (λ n. n) result (optional_in fault low high field.now) }
+    ensures value { Says (λ n. n) result (optional_in_field fault low high field.now) }
     ensures in_range { IfOk result (λ o. IfSome o (λ n. (low ≤ n) × (n ≤ high))) }
 {
     if field.is_empty() {
@@ -97,7 +97,7 @@ fn code(alloc: Global, field: &[u8]) -> Result<VoucherCode, FaultKind>
 }
 
 fn amount(field: &[u8]) -> Result<Money, FaultKind>
-    ensures value { Says (λ m. m) result (number_in Amount 1 most_money field.now) }
+    ensures value { Says (λ m. m) result (number_in_field Amount 1 most_money field.now) }
     ensures in_range { IfOk result (λ m. (1 ≤ m) × (m ≤ most_money)) }
 {
     let micros = number_in(FaultKind::Amount, 1, MOST_MONEY, field)?;
@@ -105,7 +105,7 @@ fn amount(field: &[u8]) -> Result<Money, FaultKind>
 }
 
 fn days(field: &[u8]) -> Result<Option<u32>, FaultKind>
-    ensures value { Says (λ d. d) result (optional_in Days 1 most_days field.now) }
+    ensures value { Says (λ d. d) result (optional_in_field Days 1 most_days field.now) }
     ensures in_range { IfOk result (λ o. IfSome o (λ n. (1 ≤ n) × (n ≤ most_days))) }
 {
     match optional_in(FaultKind::Days, 1, MOST_DAYS, field)? {
@@ -115,7 +115,7 @@ fn days(field: &[u8]) -> Result<Option<u32>, FaultKind>
 }
 
 fn scope(field: &[u8]) -> Result<Option<u32>, FaultKind>
-    ensures { Says (λ g. g) result (optional_in Scope 0 greatest_number field.now) }
+    ensures { Says (λ g. g) result (optional_in_field Scope 0 greatest_number field.now) }
 {
     match optional_in(FaultKind::Scope, 0, GREATEST_NUMBER, field)? {
         None => Ok(None),
