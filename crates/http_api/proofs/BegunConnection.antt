@@ -7,10 +7,11 @@ use Rattle.std.proofs.Math.Seq.{take-append-add}
 use Rattle.shelves.specs.Shelves.{Shelf}
 use Rattle.keepers.specs.Tables.{Tables}
 use Rattle.charging.specs.Accepted.{Accepted}
-use Rattle.http_messages.specs.Texts.{Begins}
+use Rattle.http_messages.specs.Texts.{AppendsBeginning}
 use Rattle.http_api.specs.declared.fault.ServeFault.{ServeFault}
 use Rattle.http_api.specs.declared.fault.ServeFault.TheVariants as fault
-use Rattle.http_api.specs.Connections.{IsPart, IsTaken, IsUnread, IsCutOff, ComesTo}
+use Rattle.http_api.specs.Connections.{IsConnectionPart, AreRequestsTaken, IsNextUnread, IsCutOff}
+use Rattle.http_api.specs.Connections.{ComesTo}
 use Rattle.http_api.proofs.Leaving.{begins-all}
 
 pub record IsConnectionBegun {C : Type 0} (gives : C → Option ℕ → C → Type 0) (b : Shelf)
@@ -18,13 +19,13 @@ pub record IsConnectionBegun {C : Type 0} (gives : C → Option ℕ → C → Ty
     (Is : List Accepted → Type 0) : Type 0 where
   pub count : ℕ
   pub bounded : count ≤ 1000
-  pub taken : IsPart gives b before after old (Begins empty full)
-      (λ moments text. IsTaken b stream count moments text Is)
+  pub taken : IsConnectionPart gives b before after old (AppendsBeginning empty full)
+      (λ moments text. AreRequestsTaken b stream count moments text Is)
 
 module _ {C : Type 0} (gives : C → Option ℕ → C → Type 0) (b : Shelf) (stream : List ℕ)
     (before after : C) (empty full : Option (List ℕ)) (old : Tables)
     (Is : List Accepted → Type 0) where
-  unread_begun : IsUnread gives b stream before after empty full old Is →
+  unread_begun : IsNextUnread gives b stream before after empty full old Is →
       IsConnectionBegun gives b stream before after empty full old Is
   unread_begun u = record {
     count = u.count;

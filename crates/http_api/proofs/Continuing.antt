@@ -14,7 +14,7 @@ use Rattle.charging.specs.Continued.{ForEachList, IsContinued, LeavesOn}
 use Rattle.charging.specs.Runs.{after_commands}
 use Rattle.charging.proofs.runs.RunLemmas.{commands_after, time-more}
 use Rattle.charging.proofs.outcomes.Serving.{left_as}
-use Rattle.http_messages.specs.Asking.{Asking, refuses, reads, states, IsAsked}
+use Rattle.http_messages.specs.Asking.{Asking, refuses, reads, states, IsAskingGiven}
 use Rattle.http_messages.specs.declared.asking.HttpAsked.TheVariants as told
 use Rattle.http_api.specs.Replies.{LeavesReply}
 use Rattle.http_api.specs.ReplyParts.{reply_at}
@@ -109,7 +109,7 @@ module _ (b : Shelf) where
   -- of a command, whatever it is read from
   pub held_asked : (c : Command) (old new : Seen) →
       LeavesReply b (reads (Ok c)) old new → (asking : Asking) →
-      IsAsked asking (told.Does c) → LeavesReply b asking old new
+      IsAskingGiven asking (told.Does c) → LeavesReply b asking old new
   held_asked c old new left (refuses s) asked = absurd asked
   held_asked c old new left (reads read) asked =
       subst (λ r. LeavesReply b (reads r) old new) (sym asked) left

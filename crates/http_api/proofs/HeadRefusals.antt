@@ -13,12 +13,12 @@ use Rattle.http_messages.specs.Requests.{Next, asks}
 use Rattle.http_messages.specs.MessageParts.{length_of, fields_of, ask_of, after_length}
 use Rattle.http_messages.specs.Requests.{refused, ended}
 use Rattle.http_messages.specs.MessageParts.{IsNextOf}
-use Rattle.http_messages.specs.RequestsGiven.{Tells, TellsNext}
+use Rattle.http_messages.specs.RequestsGiven.{IsNextTaken, TellsNext}
 use Rattle.http_messages.specs.declared.requests.Taken.{Taken}
 use Rattle.http_messages.specs.declared.requests.Taken.TheVariants as taken
 use Rattle.http_messages.specs.declared.asking.HttpAsked.TheVariants as told
 use Rattle.http_messages.specs.declared.refusal.HttpRefusal.{HttpRefusal}
-use Rattle.http_messages.specs.Asking.{refuses, IsAsked}
+use Rattle.http_messages.specs.Asking.{refuses, IsAskingGiven}
 use Rattle.http_messages.specs.Refusals.{refusal_status, refusal_of}
 use Rattle.http_api.specs.declared.hearing.Heard.{Heard}
 use Rattle.http_api.specs.Hearing.{IsOfHead, Hears, HearsNext}
@@ -81,11 +81,11 @@ next_of_head cut next h = subst IsOfHead (sym h) tt
 
 pub refused_heard : (next : Next) (left : Option (List ℕ)) (status : ℕ) (why : HttpRefusal)
     (heard : Heard) → why ≡ refusal_of status → heard.asked ≡ told.Refused why →
-    heard.closes ≡ true → IsOfHead next → Tells next (taken.Refused status) left →
+    heard.closes ≡ true → IsOfHead next → IsNextTaken next (taken.Refused status) left →
     HearsNext next (Some heard) left
 refused_heard (asks ask rest) left status why heard is asked closes of tells = absurd tells
 refused_heard (refused code) left status why heard is asked closes of tells = (
-  subst (λ a. IsAsked (refuses code) a) (sym asked)
+  subst (λ a. IsAskingGiven (refuses code) a) (sym asked)
       (ap refusal_status is ∙ ap (λ s. refusal_status (refusal_of s)) tells ∙ of),
   closes,
 )
@@ -93,7 +93,7 @@ refused_heard ended left status why heard is asked closes of tells = absurd tell
 
 pub heard_next : (old left : Option (List ℕ)) (taken : Taken) (heard : Option Heard) →
     IfSome old (λ stream. TellsNext (first_part stream) taken left) →
-    ((next : Next) (l : Option (List ℕ)) → IsOfHead next → Tells next taken l →
+    ((next : Next) (l : Option (List ℕ)) → IsOfHead next → IsNextTaken next taken l →
     HearsNext next heard l) → IfSome old (λ stream. Hears stream heard left)
 heard_next None left taken heard tells hears = tt
 heard_next (Some stream) left taken heard tells hears = record {

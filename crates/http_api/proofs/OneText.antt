@@ -11,14 +11,14 @@ use Rattle.charging.specs.Accepted.{Accepted}
 use Rattle.http_messages.proofs.OneNext.{next_is_one}
 use Rattle.http_messages.proofs.Refusals.{refused_says}
 use Rattle.http_messages.specs.Parts.{first_part}
-use Rattle.http_messages.specs.Requests.{Next, asks, refused, ended, IsNext}
+use Rattle.http_messages.specs.Requests.{Next, asks, refused, ended, IsNextRequest}
 use Rattle.http_messages.specs.Asking.{Asking, refuses, reads, states}
 use Rattle.http_messages.specs.Table.{asked_of}
 use Rattle.http_api.specs.Replies.{Reply, IsDue, IsReply}
 use Rattle.http_api.specs.ReplyParts.{reply_at, statement_at}
 use Rattle.http_api.specs.Connections.{Connection, new_connection, after_reply, IsOver}
-use Rattle.http_api.specs.ReplyParts.{left_after}
-use Rattle.http_api.specs.Connections.{IsAnswered, Takes}
+use Rattle.http_api.specs.ReplyParts.{requests_left_after}
+use Rattle.http_api.specs.Connections.{IsRequestAnswered, Takes}
 use Rattle.http_api.specs.OneText.{GetsDue, NextGetsDue, IsDueTurn, DueTurns, DueTurnsAreTurns}
 use Rattle.http_api.specs.OneText.{TextIsOne, TurnsAreOne}
 use Rattle.http_api.proofs.Statuses.{SaysStatus, asked_says, reply_says}
@@ -33,7 +33,7 @@ due_is_reply b list (states q) moments reply due = inl due
 
 answered : (b : Shelf) (asking : Asking) (closes : Bool) (rest : List ℕ) (old new : Connection) →
     SaysStatus asking → GetsDue b asking closes rest old new →
-    IsAnswered b asking closes rest old new
+    IsRequestAnswered b asking closes rest old new
 answered b asking closes rest old new says gets =
     let is = due_is_reply b old.list asking gets.moments gets.reply gets.due in
     record {
@@ -44,7 +44,7 @@ answered b asking closes rest old new says gets =
       after = gets.after;
     }
 
-takes : (b : Shelf) (next : Next) (old new : Connection) → IsNext old.rest next →
+takes : (b : Shelf) (next : Next) (old new : Connection) → IsNextRequest old.rest next →
     NextGetsDue b next old new → Takes b next old new
 takes b (asks ask rest) old new is gets =
     answered b (asked_of ask) ask.closes rest old new (asked_says ask) gets
@@ -125,7 +125,7 @@ got_alike b asking closes rest u v x y same one gx gy =
     due_count b u.list asking gx.moments gx.reply gx.due
     ∙ sym (due_count b v.list asking gy.moments gy.reply gy.due) in (
       record {
-        left = ap (λ (c : Connection). c.left) gx.after ∙ ap (left_after closes) same.left
+        left = ap (λ (c : Connection). c.left) gx.after ∙ ap (requests_left_after closes) same.left
             ∙ sym (ap (λ (c : Connection). c.left) gy.after);
         rest = ap (λ (c : Connection). c.rest) gx.after
             ∙ sym (ap (λ (c : Connection). c.rest) gy.after);
@@ -160,7 +160,7 @@ one_turn : (b : Shelf) (u v x y : Connection) → SameRest u v → SameIfSo u v 
     IsDueTurn b v y → SameRest x y × SameIfSo x y
 one_turn b u v x y same one tx ty =
     let next : ty.next ≡ tx.next = next_is_one v.rest ty.next tx.next ty.is_next
-    (subst (λ r. IsNext r tx.next) same.rest tx.is_next) in
+    (subst (λ r. IsNextRequest r tx.next) same.rest tx.is_next) in
     turned_alike b tx.next u v x y same one tx.gets
     (subst (λ n. NextGetsDue b n v y) next ty.gets)
 
@@ -217,7 +217,7 @@ no_turn : (b : Shelf) (v w x : Connection) → SameRest x v → IsOver x → IsD
 no_turn b v w x same (inl none) turn = omega (arith, turn.taken, same.left, none)
 no_turn b v w x same (inr over) turn =
     let next : turn.next ≡ ended = next_is_one v.rest turn.next ended turn.is_next
-    (subst (λ r. IsNext r ended) same.rest over) in
+    (subst (λ r. IsNextRequest r ended) same.rest over) in
     subst (λ n. NextGetsDue b n v w) next turn.gets
 
 not_fewer : (b : Shelf) (n m : ℕ) (first x y : Connection) → DueTurns b n first x →

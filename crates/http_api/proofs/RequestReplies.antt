@@ -17,15 +17,15 @@ use Rattle.charging.specs.Accepted.{Accepted}
 use Rattle.charging.specs.Continued.{ForEachList}
 use Rattle.charging.specs.Served.{AreTables, Serves}
 use Rattle.http_messages.specs.Statuses as status
-use Rattle.http_messages.specs.Asking.{Asking, refuses, reads, states, IsAsked}
+use Rattle.http_messages.specs.Asking.{Asking, refuses, reads, states, IsAskingGiven}
 use Rattle.http_messages.specs.declared.asking.StatementAsked.{StatementAsked}
 use Rattle.http_messages.specs.declared.asking.HttpAsked.TheVariants as told
 use Rattle.http_messages.specs.Refusals.{refusal_status}
-use Rattle.http_messages.specs.Texts.{response, no_members, unable, TellsFault}
+use Rattle.http_messages.specs.Texts.{response, no_members, unable, AnswersFault}
 use Rattle.http_messages.specs.declared.refusal.HttpRefusal.{HttpRefusal}
 use Rattle.http_api.specs.Clocks.{GivesInTurn}
 use Rattle.http_api.specs.Faults.{serve_fault}
-use Rattle.http_api.specs.Replies.{refusal, unserved, IsDue, IsReply, Replies}
+use Rattle.http_api.specs.Replies.{refusal_reply, unserved, IsDue, IsReply, Replies}
 use Rattle.http_api.specs.ReplyParts.{reply_at, MayAsk}
 use Rattle.http_api.specs.declared.fault.ServeFault.{ServeFault}
 use Rattle.http_api.specs.declared.fault.ServeFault.TheVariants as serve
@@ -98,7 +98,7 @@ module _ {C : Type 0} (gives : C → Option ℕ → C → Type 0) (b : Shelf) (c
 
   -- a request that changes nothing, without the clock
   due_reply : (asking : Asking) (code : ℕ) (body : List ℕ) (c : C) (tables : Tables) →
-      ((list : List Accepted) → IsReply b list asking [] (refusal list code body)) →
+      ((list : List Accepted) → IsReply b list asking [] (refusal_reply list code body)) →
       Writes (response code closes body) → Replies gives b asking closes c c Writes tables tables
   due_reply asking code body c tables due w = record {
     moments = [];
@@ -106,7 +106,7 @@ module _ {C : Type 0} (gives : C → Option ℕ → C → Type 0) (b : Shelf) (c
     text = response code closes body;
     written = w;
     replied = λ list time are. record {
-      reply = refusal list code body;
+      reply = refusal_reply list code body;
       is_reply = due list;
       written = refl;
       tables = are;
@@ -122,7 +122,8 @@ module _ {C : Type 0} (gives : C → Option ℕ → C → Type 0) (b : Shelf) (c
   -- a refusal
   pub refused_reply : (why : HttpRefusal) (c : C) (tables : Tables) →
       Writes (response (refusal_status why) closes no_members) → (asking : Asking) →
-      IsAsked asking (told.Refused why) → Replies gives b asking closes c c Writes tables tables
+      IsAskingGiven asking (told.Refused why) →
+      Replies gives b asking closes c c Writes tables tables
   refused_reply why c tables w (refuses s) asked =
       subst (λ x. Replies gives b (refuses x) closes c c Writes tables tables) asked
       (refused_by (refusal_status why) c tables w)
@@ -130,18 +131,19 @@ module _ {C : Type 0} (gives : C → Option ℕ → C → Type 0) (b : Shelf) (c
   refused_reply why c tables w (states q) asked = absurd asked
 
   unread_by : (fault : WireFault) (c : C) (tables : Tables) (read : Result Command WireFault) →
-      TellsFault closes fault Writes → (¬ (fault ≡ Memory) → read ≡ Err fault) →
+      AnswersFault closes fault Writes → (¬ (fault ≡ Memory) → read ≡ Err fault) →
       Replies gives b (reads read) closes c c Writes tables tables
   unread_by fault c tables read (inl w) fails =
       due_reply (reads read) status.bad_request (fault_text fault) c tables
       (λ list. inl (subst (λ r. IsDue b list (reads r) []
-      (refusal list status.bad_request (fault_text fault))) (sym (fails w.0)) (refl, refl))) w.1
+      (refusal_reply list status.bad_request (fault_text fault))) (sym (fails w.0))
+      (refl, refl))) w.1
   unread_by fault c tables read (inr w) fails = unserved_reply (reads read) [] c c tables tables
       (λ list. unread_unserved b list read) refl (λ list time are. are) w.1
 
   -- memory ran out for a statement that is asked for
   unstated_by : (fault : WireFault) (c : C) (tables : Tables) (q : StatementAsked) →
-      TellsFault closes fault Writes → (¬ (fault ≡ Memory) → Ok q ≡ Err fault) →
+      AnswersFault closes fault Writes → (¬ (fault ≡ Memory) → Ok q ≡ Err fault) →
       Replies gives b (states q) closes c c Writes tables tables
   unstated_by fault c tables q (inl w) fails = let same = fails w.0 in absurd (cc)
   unstated_by fault c tables q (inr w) fails = unserved_reply (states q) [] c c tables tables
@@ -149,7 +151,8 @@ module _ {C : Type 0} (gives : C → Option ℕ → C → Type 0) (b : Shelf) (c
 
   -- a request that isn't read
   pub unread_reply : (fault : WireFault) (c : C) (tables : Tables) →
-      TellsFault closes fault Writes → (asking : Asking) → IsAsked asking (told.Unread fault) →
+      AnswersFault closes fault Writes → (asking : Asking) →
+      IsAskingGiven asking (told.Unread fault) →
       Replies gives b asking closes c c Writes tables tables
   unread_reply fault c tables tells (refuses s) asked = absurd asked
   unread_reply fault c tables tells (reads read) asked = unread_by fault c tables read tells asked
@@ -158,7 +161,7 @@ module _ {C : Type 0} (gives : C → Option ℕ → C → Type 0) (b : Shelf) (c
   -- a command, whatever it is read from
   pub command_reply : (c : Command) (c0 c1 : C) (old new : Tables) →
       Replies gives b (reads (Ok c)) closes c0 c1 Writes old new → (asking : Asking) →
-      IsAsked asking (told.Does c) → Replies gives b asking closes c0 c1 Writes old new
+      IsAskingGiven asking (told.Does c) → Replies gives b asking closes c0 c1 Writes old new
   command_reply c c0 c1 old new replies (refuses s) asked = absurd asked
   command_reply c c0 c1 old new replies (reads read) asked =
       subst (λ r. Replies gives b (reads r) closes c0 c1 Writes old new) (sym asked) replies
@@ -167,7 +170,7 @@ module _ {C : Type 0} (gives : C → Option ℕ → C → Type 0) (b : Shelf) (c
   -- a statement, whatever it is read from
   pub statement_reply : (q : StatementAsked) (c0 c1 : C) (old new : Tables) →
       Replies gives b (states q) closes c0 c1 Writes old new → (asking : Asking) →
-      IsAsked asking (told.States q) → Replies gives b asking closes c0 c1 Writes old new
+      IsAskingGiven asking (told.States q) → Replies gives b asking closes c0 c1 Writes old new
   statement_reply q c0 c1 old new replies (refuses s) asked = absurd asked
   statement_reply q c0 c1 old new replies (reads read) asked = absurd asked
   statement_reply q c0 c1 old new replies (states a) asked =

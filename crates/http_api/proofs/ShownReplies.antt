@@ -10,8 +10,8 @@ use Rattle.charging.specs.declared.running.DatedCommand.{DatedCommand}
 use Rattle.charging.specs.Continued.{ForEachList, Continues}
 use Rattle.charging.specs.Parts.{Leaves}
 use Rattle.charging.specs.Served.{AreTables, Writes}
-use Rattle.http_messages.specs.Texts.{Begins}
-use Rattle.http_api.specs.Replies.{AreLeftAfter, HoldsNext, ShowsReply, Shows}
+use Rattle.http_messages.specs.Texts.{AppendsBeginning}
+use Rattle.http_api.specs.Replies.{AreLeftAfter, HoldsNext, ShowsReply, ShowsHonestReply}
 use Rattle.http_api.proofs.Continuing.{continued_none, continued_more}
 use Rattle.http_api.proofs.RequestReplies.{ok_gives, err_gives}
 
@@ -90,21 +90,23 @@ module _ {A : Type 0} (Told : (List ℕ → Type 0) → Tables → Tables → Ty
       (new.honest → (held : Tables) → (old.clean → held ≡ old.tables) →
       HoldsNext b old new held held) →
       ((Writes : List ℕ → Type 0) (t : Tables) → Tells Writes → Told Writes t t) →
-      OnOk result (Tells (Appends empty full)) → OnErr result (Tells (Begins empty full)) →
-      Shows Told b empty full old new result
+      OnOk result (Tells (Appends empty full)) →
+      OnErr result (Tells (AppendsBeginning empty full)) →
+      ShowsHonestReply Told b empty full old new result
   shows_held Tells holds told ok err = λ h held before. record {
     next = held;
     holds = holds h held before;
     ok = ok_gives result (told (Appends empty full) held) ok;
-    err = err_gives result (told (Begins empty full) held) err;
+    err = err_gives result (told (AppendsBeginning empty full) held) err;
   }
 
   pub shows_same : (Tells : (List ℕ → Type 0) → Type 0) → (new.clean → old.clean) →
       (new.clean → new.tables ≡ old.tables) →
       (new.honest → (t : Tables) → new.left t → old.left t) →
       ((Writes : List ℕ → Type 0) (t : Tables) → Tells Writes → Told Writes t t) →
-      OnOk result (Tells (Appends empty full)) → OnErr result (Tells (Begins empty full)) →
-      Shows Told b empty full old new result
+      OnOk result (Tells (Appends empty full)) →
+      OnErr result (Tells (AppendsBeginning empty full)) →
+      ShowsHonestReply Told b empty full old new result
   shows_same Tells cleanness same left told ok err = shows_held Tells
       (λ h held before. holds_same b old new held before cleanness same (left h)) told ok err
 
@@ -113,8 +115,9 @@ module _ {A : Type 0} (Told : (List ℕ → Type 0) → Tables → Tables → Ty
       (new.clean → old.clean) → (new.clean → new.tables ≡ old.tables) →
       Leaves old new (λ t. old.clean × Writes b d.command d.moment old.tables t) →
       ((Writes : List ℕ → Type 0) (t : Tables) → Tells Writes → Told Writes t t) →
-      OnOk result (Tells (Appends empty full)) → OnErr result (Tells (Begins empty full)) →
-      Shows Told b empty full old new result
+      OnOk result (Tells (Appends empty full)) →
+      OnErr result (Tells (AppendsBeginning empty full)) →
+      ShowsHonestReply Told b empty full old new result
   shows_failed d Tells cleanness same left told ok err = shows_held Tells
       (λ h held before. holds_failed b old new held before cleanness d same (left h)) told ok err
 
@@ -123,8 +126,9 @@ module _ {A : Type 0} (Told : (List ℕ → Type 0) → Tables → Tables → Ty
       (new.clean → old.clean) → (new.clean → Continues b old.tables new.tables) →
       ((t : Tables) → new.clean → new.left t → t ≡ new.tables) →
       ((Writes : List ℕ → Type 0) → new.clean → Tells Writes → Told Writes old.tables new.tables) →
-      OnOk result (Tells (Appends empty full)) → OnErr result (Tells (Begins empty full)) →
-      Shows Told b empty full old new result
+      OnOk result (Tells (Appends empty full)) →
+      OnErr result (Tells (AppendsBeginning empty full)) →
+      ShowsHonestReply Told b empty full old new result
   shows_new Tells stands cleanness continued settled told ok err = λ h held before.
       let c : new.clean = stands h in
       let same : old.tables ≡ held = sym (before (cleanness c)) in
@@ -133,19 +137,21 @@ module _ {A : Type 0} (Told : (List ℕ → Type 0) → Tables → Tables → Ty
         holds = holds_new b old new held before cleanness c (continued c) (λ t l. settled t c l);
         ok = subst (λ (x : Tables). OnOk result (Told (Appends empty full) x new.tables)) same
             (ok_gives result (told (Appends empty full) c) ok);
-        err = subst (λ (x : Tables). OnErr result (Told (Begins empty full) x new.tables)) same
-            (err_gives result (told (Begins empty full) c) err);
+        err = subst (λ (x : Tables). OnErr result (Told (AppendsBeginning empty full) x new.tables))
+            same
+            (err_gives result (told (AppendsBeginning empty full) c) err);
       }
 
   -- said otherwise
   pub shows_as : (Other : (List ℕ → Type 0) → Tables → Tables → Type 0) →
       ((Writes : List ℕ → Type 0) (x y : Tables) → Told Writes x y → Other Writes x y) →
-      Shows Told b empty full old new result → Shows Other b empty full old new result
+      ShowsHonestReply Told b empty full old new result →
+      ShowsHonestReply Other b empty full old new result
   shows_as Other told shows = λ h held before.
       let had : ShowsReply Told b empty full old new held result = shows h held before in
       record {
         next = had.next;
         holds = had.holds;
         ok = ok_gives result (told (Appends empty full) held had.next) had.ok;
-        err = err_gives result (told (Begins empty full) held had.next) had.err;
+        err = err_gives result (told (AppendsBeginning empty full) held had.next) had.err;
       }

@@ -25,11 +25,11 @@ use Rattle.http_messages.specs.Statuses as status
 use Rattle.http_messages.specs.Asking.{states}
 use Rattle.http_messages.specs.declared.asking.StatementAsked.{StatementAsked}
 use Rattle.http_messages.specs.declared.text.Media.TheVariants.{Text}
-use Rattle.http_messages.specs.Texts.{response, response_of, unable, TellsText}
+use Rattle.http_messages.specs.Texts.{response, response_of, unable, AnswersText}
 use Rattle.charging.specs.Balances.{by_number}
 use Rattle.ledger.specs.Balance.{buckets_at}
 use Rattle.ledger.specs.Pricing.{validity_of}
-use Rattle.http_api.specs.Replies.{unserved, GoesOn}
+use Rattle.http_api.specs.Replies.{unserved, GoesOnAfterReply}
 use Rattle.http_api.specs.ReplyParts.{MayAsk, statement_media, statement_reply}
 use Rattle.http_api.specs.Replies.{reply_text, IsReplied, Replies}
 use Rattle.http_api.specs.Told.{IsBodyTold, TellsAnswer, TellsCharges}
@@ -53,7 +53,7 @@ pub goes_on_same : {A : Type 0} (b : Shelf) (old new : Seen) (result : Result A 
     OnErr result (result ≡ Err stream.Write) → (new.clean → new.tables ≡ old.tables) →
     (new.clean → old.clean) → (new.honest → old.honest) →
     (new.honest → (t : Tables) → new.left t → old.left t) → old.failed ≤ new.failed →
-    GoesOn b old new result
+    GoesOnAfterReply b old new result
 goes_on_same b old new result only same cleanness honesty left failures =
     record {
       fault = only;
@@ -194,7 +194,7 @@ module _ (charges : ℕ → Option ChargeColumns) (body : List ChargeColumns →
 
   pub tells_body : (text : List ℕ) →
       ((rows : List ChargeColumns) → AreCharges charges rows → text ≡ body rows) →
-      TellsText closes status.ok text Writes → TellsCharges charges body closes Writes
+      AnswersText closes status.ok text Writes → TellsCharges charges body closes Writes
   tells_body text is (inl w) = record {
     text = response_of Text status.ok closes text;
     written = w;

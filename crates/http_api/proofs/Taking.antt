@@ -18,10 +18,10 @@ use Rattle.charging.specs.Served.{AreTables}
 use Rattle.charging.proofs.outcomes.Serving.{left_as}
 use Rattle.http_messages.specs.Parts.{first_part}
 use Rattle.http_messages.proofs.Refusals.{refused_says}
-use Rattle.http_messages.specs.Requests.{Next, asks, refused, ended, IsNext}
-use Rattle.http_messages.specs.Asking.{Asking, refuses, IsAsked}
+use Rattle.http_messages.specs.Requests.{Next, asks, refused, ended, IsNextRequest}
+use Rattle.http_messages.specs.Asking.{Asking, refuses, IsAskingGiven}
 use Rattle.http_messages.specs.Table.{asked_of}
-use Rattle.http_messages.specs.Texts.{Begins}
+use Rattle.http_messages.specs.Texts.{AppendsBeginning}
 use Rattle.http_api.specs.declared.fault.ServeFault.{ServeFault}
 use Rattle.http_api.specs.declared.fault.ServeFault.TheVariants as fault
 use Rattle.http_api.specs.declared.hearing.Heard.{Heard}
@@ -32,11 +32,11 @@ use Rattle.http_api.specs.Hearing.{Hears, HearsNext}
 use Rattle.http_api.specs.Replies.{reply_text, IsReplied, Replies, IsReplyHeld, LeavesReply}
 use Rattle.http_api.specs.Replies.{AreLeftAfter, HoldsNext}
 use Rattle.http_api.specs.Connections.{Connection, new_connection, after_reply}
-use Rattle.http_api.specs.ReplyParts.{left_after}
-use Rattle.http_api.specs.Connections.{IsAnswered, Takes, Turns, IsTaken, IsOver}
-use Rattle.http_api.specs.Connections.{IsPart, IsUnread, IsCutOff}
+use Rattle.http_api.specs.ReplyParts.{requests_left_after}
+use Rattle.http_api.specs.Connections.{IsRequestAnswered, Takes, AreTurns, AreRequestsTaken, IsOver}
+use Rattle.http_api.specs.Connections.{IsConnectionPart, IsNextUnread, IsCutOff}
 use Rattle.http_api.specs.Connections.{ComesTo}
-use Rattle.http_api.specs.Connections.{ServesConnection, IsLeftWithin}
+use Rattle.http_api.specs.Connections.{ServesConnection, IsLeftByRequests}
 use Rattle.http_api.proofs.Continuing.{continued_none}
 use Rattle.http_api.proofs.RequestReplies.{fault_is, not_memory, not_read}
 use Rattle.http_api.proofs.ShownReplies.{holds_none, left_same}
@@ -46,7 +46,7 @@ use Rattle.http_api.proofs.Statuses.{SaysStatus, asked_says, reply_says}
 -- clean before, tables to which at most so many of its requests come
 abbrev pub LeavesTurns : Shelf → Option (List ℕ) → ℕ → Seen → Seen → Type 0
 LeavesTurns b bytes most old new = IfSome bytes (λ stream.
-    Leaves old new (λ t. old.clean × ForEachList b old.tables (IsLeftWithin b stream most t)))
+    Leaves old new (λ t. old.clean × ForEachList b old.tables (IsLeftByRequests b stream most t)))
 
 plus_one : (n : ℕ) → suc n ≡ n + 1
 plus_one n = omega arith
@@ -65,14 +65,14 @@ gives-more gives a b c (m ∷ ms) ns f g = (f.0, f.1, gives-more gives f.0 b c m
 record IsHeard (b : Shelf) (next : Next) (heard : Heard) (left : Option (List ℕ)) : Type 0 where
   asking : Asking
   rest : List ℕ
-  asked : IsAsked asking heard.asked
+  asked : IsAskingGiven asking heard.asked
   says : SaysStatus asking
-  takes : (old new : Connection) → IsAnswered b asking heard.closes rest old new →
+  takes : (old new : Connection) → IsRequestAnswered b asking heard.closes rest old new →
       Takes b next old new
   goes_on : heard.closes ≡ false → left ≡ Some rest
 
 heard_case : (b : Shelf) (stream : List ℕ) (next : Next) (heard : Heard)
-    (left : Option (List ℕ)) → IsNext stream next → HearsNext next (Some heard) left →
+    (left : Option (List ℕ)) → IsNextRequest stream next → HearsNext next (Some heard) left →
     IsHeard b next heard left
 heard_case b stream (asks ask rest) heard left is_next h = record {
   asking = asked_of ask;
@@ -80,7 +80,7 @@ heard_case b stream (asks ask rest) heard left is_next h = record {
   asked = h.0;
   says = asked_says ask;
   takes = λ old new answered.
-      subst (λ closes. IsAnswered b (asked_of ask) closes rest old new) h.1 answered;
+      subst (λ closes. IsRequestAnswered b (asked_of ask) closes rest old new) h.1 answered;
   goes_on = λ e. h.2;
 }
 heard_case b stream (refused status) heard left is_next h = record {
@@ -89,7 +89,7 @@ heard_case b stream (refused status) heard left is_next h = record {
   asked = h.0;
   says = refused_says (first_part stream) status is_next;
   takes = λ old new answered.
-      subst (λ closes. IsAnswered b (refuses status) closes [] old new) h.1 answered;
+      subst (λ closes. IsRequestAnswered b (refuses status) closes [] old new) h.1 answered;
   goes_on = λ e. absurd (true≢false (sym h.1 ∙ e));
 }
 heard_case b stream ended heard left is_next h = absurd h
@@ -100,7 +100,7 @@ ended_case (refused status) left h = absurd h
 ended_case ended left h = refl
 
 -- a connection that takes more requests wasn't ended
-not_closed : (closes : Bool) (left : ℕ) → left_after closes left ≢ 0 → closes ≡ false
+not_closed : (closes : Bool) (left : ℕ) → requests_left_after closes left ≢ 0 → closes ≡ false
 not_closed true left h = absurd (h refl)
 not_closed false left h = refl
 
@@ -114,7 +114,7 @@ AreOf b tables = λ list. AreTables b list tables
 record IsAt (b : Shelf) (stream : List ℕ)
     (count left : ℕ) (rest : List ℕ) (moments : List (Option ℕ)) (text : List ℕ) (content : Tables)
     (list : List Accepted) : Type 0 where
-  taken : IsTaken b stream count moments text (AreOf b content) list
+  taken : AreRequestsTaken b stream count moments text (AreOf b content) list
   left_is : taken.last.left ≡ left
   rest_is : taken.last.rest ≡ rest
 
@@ -137,7 +137,7 @@ at-none b stream tables = λ list time are. record {
 abbrev IsTakenWith : Shelf → List ℕ → ℕ → List (Option ℕ) → List ℕ → List ℕ →
     (List Accepted → Type 0) → List Accepted → Type 0
 IsTakenWith b stream count moments text more Is list =
-    (taken : IsTaken b stream (suc count) moments (text ++ more) Is list)
+    (taken : AreRequestsTaken b stream (suc count) moments (text ++ more) Is list)
     × (taken.turns.0.written ≡ text)
 
 -- one more is answered, and this is left
@@ -145,16 +145,17 @@ record IsMoreAt (b : Shelf) (stream : List ℕ) (count left : ℕ) (closes : Boo
     (moments : List (Option ℕ)) (text more : List ℕ) (content : Tables) (list : List Accepted) :
     Type 0 where
   turned : IsTakenWith b stream count moments text more (AreOf b content) list
-  left_is : turned.0.last.left ≡ left_after closes left
+  left_is : turned.0.last.left ≡ requests_left_after closes left
   rest_is : turned.0.last.rest ≡ after
 
 more-at : (b : Shelf) (stream : List ℕ) (count left : ℕ) (rest after : List ℕ)
     (moments ms : List (Option ℕ)) (text more : List ℕ) (mid new : Tables) (list : List Accepted)
     (asking : Asking) (closes : Bool) (next : Next) →
-    0 < left → IsNext rest next → SaysStatus asking →
-    ((old last : Connection) → IsAnswered b asking closes after old last → Takes b next old last) →
+    0 < left → IsNextRequest rest next → SaysStatus asking →
+    ((old last : Connection) → IsRequestAnswered b asking closes after old last →
+    Takes b next old last) →
     (at : IsAt b stream count left rest moments text mid list) →
-    IsReplied b asking (left_after closes left == 0) ms more new at.taken.last.list →
+    IsReplied b asking (requests_left_after closes left == 0) ms more new at.taken.last.list →
     IsMoreAt b stream count left closes after (moments ++ ms) text more new list
 more-at b stream count left rest after moments ms text more mid new list asking closes next some
     is_next says takes at replied =
@@ -170,7 +171,7 @@ more-at b stream count left rest after moments ms text more mid new list asking 
             record {
               taken = subst (λ n. 0 < n) (sym at.left_is) some;
               next = next;
-              is_next = subst (λ r. IsNext r next) (sym at.rest_is) is_next;
+              is_next = subst (λ r. IsNextRequest r next) (sym at.rest_is) is_next;
               takes = takes old last (record {
                 moments = ms;
                 reply = replied.reply;
@@ -182,14 +183,14 @@ more-at b stream count left rest after moments ms text more mid new list asking 
           );
           given = ap (λ l. l ++ ms) at.taken.given;
           written = (λ i. at.taken.written i
-              ++ reply_text (left_after closes (at.left_is i) == 0) replied.reply)
+              ++ reply_text (requests_left_after closes (at.left_is i) == 0) replied.reply)
               ∙ ap (λ l. text ++ l) (sym replied.written);
           is = replied.tables;
           time = replied.time;
         },
         at.taken.written,
       );
-      left_is = ap (left_after closes) at.left_is;
+      left_is = ap (requests_left_after closes) at.left_is;
       rest_is = refl;
     }
 
@@ -197,11 +198,12 @@ more-at b stream count left rest after moments ms text more mid new list asking 
 at-more : (b : Shelf) (stream : List ℕ) (count left : ℕ) (closes : Bool) (after : List ℕ)
     (moments : List (Option ℕ)) (text more : List ℕ) (new : Tables) (list : List Accepted) →
     IsMoreAt b stream count left closes after moments text more new list →
-    IsAt b stream (count + 1) (left_after closes left) after moments (text ++ more) new list
+    IsAt b stream (count + 1) (requests_left_after closes left) after moments (text ++ more) new
+    list
 at-more b stream count left closes after moments text more new list m = record {
   taken = record {
     last = m.turned.0.last;
-    turns = subst (λ n. Turns b n (new_connection stream list) m.turned.0.last) (plus_one count)
+    turns = subst (λ n. AreTurns b n (new_connection stream list) m.turned.0.last) (plus_one count)
         m.turned.0.turns;
     given = m.turned.0.given;
     written = m.turned.0.written;
@@ -258,14 +260,15 @@ module _ {C : Type 0} (gives : C → Option ℕ → C → Type 0) (b : Shelf) wh
     wrote : Writes more
     turned : ForEachList b old (IsTakenWith b stream count moments text more (AreOf b new))
     at : ForEachList b old
-        (IsAt b stream (count + 1) (left_after closes left) rest moments (text ++ more) new)
+        (IsAt b stream (count + 1) (requests_left_after closes left) rest moments (text ++ more)
+        new)
 
   one_more : (stream : List ℕ) (count left : ℕ) (r1 r2 : Option (List ℕ))
       (c0 c1 c2 : C) (w0 w1 : Option (List ℕ)) (Writes : List ℕ → Type 0) (old mid new : Tables)
       (heard : Heard) → 0 < left →
       IsSoFar stream count left r1 c0 c1 w0 w1 old mid → IfSome r1 (λ s. Hears s (Some heard) r2) →
-      ((asking : Asking) → IsAsked asking heard.asked →
-      Replies gives b asking (left_after heard.closes left == 0) c1 c2 Writes mid new) →
+      ((asking : Asking) → IsAskingGiven asking heard.asked →
+      Replies gives b asking (requests_left_after heard.closes left == 0) c1 c2 Writes mid new) →
       IsOneMore stream count left heard.closes r2 c0 c2 w0 w1 Writes old new
   one_more stream count left r1 r2 c0 c1 c2 w0 w1 Writes old mid new heard some so hears replies =
       let here : Hears so.rest (Some heard) r2 =
@@ -273,7 +276,8 @@ module _ {C : Type 0} (gives : C → Option ℕ → C → Type 0) (b : Shelf) wh
       let case : IsHeard b here.next heard r2 = heard_case b so.rest here.next heard r2 here.is_next
       here.hears in
       let reply : Replies gives b case.asking
-      (left_after heard.closes left == 0) c1 c2 Writes mid new = replies case.asking case.asked in
+      (requests_left_after heard.closes left == 0) c1 c2 Writes mid new =
+      replies case.asking case.asked in
       let moments : List (Option ℕ) = so.moments ++ reply.moments in
       let more_at : ForEachList b old (IsMoreAt b stream count left heard.closes case.rest moments
       so.text reply.text new) = λ list time are.
@@ -300,11 +304,12 @@ module _ {C : Type 0} (gives : C → Option ℕ → C → Type 0) (b : Shelf) wh
   pub taken_one : (count left next : ℕ) (flag : Bool) (r0 r1 r2 : Option (List ℕ))
       (c0 c1 c2 : C) (w0 w1 : Option (List ℕ)) (Writes : List ℕ → Type 0) (old mid new : Tables)
       (o : Option Heard) (heard : Heard) →
-      0 < left → o ≡ Some heard → next ≡ left_after heard.closes left → flag ≡ (next == 0) →
+      0 < left → o ≡ Some heard → next ≡ requests_left_after heard.closes left →
+      flag ≡ (next == 0) →
       IfSome r0 (λ stream. IsSoFar stream count left r1 c0 c1 w0 w1 old mid) →
       IfSome r1 (λ s. Hears s o r2) →
       ((asking : Asking) →
-      IsAsked asking heard.asked → Replies gives b asking flag c1 c2 Writes mid new) →
+      IsAskingGiven asking heard.asked → Replies gives b asking flag c1 c2 Writes mid new) →
       IfSome r0 (λ stream. IsOneMore stream count left heard.closes r2 c0 c2 w0 w1 Writes old new)
   taken_one count left next flag None r1 r2 c0 c1 c2 w0 w1 Writes old mid new o heard some is
       next_is flag_is so hears replies = tt
@@ -319,7 +324,7 @@ module _ {C : Type 0} (gives : C → Option ℕ → C → Type 0) (b : Shelf) wh
   -- rule: http-end
   pub so_far-more : (count left next : ℕ) (closes : Bool) (r0 r2 : Option (List ℕ)) (c0 c2 : C)
       (w0 w1 w2 : Option (List ℕ)) (old new : Tables) →
-      next ≡ left_after closes left → next ≢ 0 →
+      next ≡ requests_left_after closes left → next ≢ 0 →
       IfSome r0
       (λ stream. IsOneMore stream count left closes r2 c0 c2 w0 w1 (Appends w1 w2) old new) →
       IfSome r0 (λ stream. IsSoFar stream (count + 1) next r2 c0 c2 w0 w2 old new)
@@ -339,15 +344,15 @@ module _ {C : Type 0} (gives : C → Option ℕ → C → Type 0) (b : Shelf) wh
   -- a stream is served to the end of the connection
   abbrev IsServed : List ℕ → ℕ → C → C → Option (List ℕ) → Option (List ℕ) → Tables →
       (List Accepted → Type 0) → Type 0
-  IsServed stream count c0 c1 w0 w1 old Is = IsPart gives b c0 c1 old (Appends w0 w1)
+  IsServed stream count c0 c1 w0 w1 old Is = IsConnectionPart gives b c0 c1 old (Appends w0 w1)
       (λ moments text list.
-      (taken : IsTaken b stream count moments text Is list) × IsOver taken.last)
+      (taken : AreRequestsTaken b stream count moments text Is list) × IsOver taken.last)
 
   -- or it ends
   -- rule: http-end
   pub so_far-closed : (count total left next : ℕ) (closes : Bool) (r0 r2 : Option (List ℕ))
       (c0 c2 : C) (w0 w1 w2 : Option (List ℕ)) (old new : Tables) →
-      total ≡ count + 1 → next ≡ left_after closes left → next ≡ 0 →
+      total ≡ count + 1 → next ≡ requests_left_after closes left → next ≡ 0 →
       IfSome r0
       (λ stream. IsOneMore stream count left closes r2 c0 c2 w0 w1 (Appends w1 w2) old new) →
       IfSome r0 (λ stream. IsServed stream total c0 c2 w0 w2 old (AreOf b new))
@@ -362,7 +367,8 @@ module _ {C : Type 0} (gives : C → Option ℕ → C → Type 0) (b : Shelf) wh
         text = one.text ++ one.more;
         written = Appends-trans w0 w1 w2 one.text one.more one.written one.wrote;
         is = λ list time are.
-            let at : IsAt b stream (count + 1) (left_after closes left) one.rest one.moments
+            let at : IsAt b stream (count + 1) (requests_left_after closes left) one.rest
+            one.moments
             (one.text ++ one.more) new list = one.at list time are in
             (at.taken, inl (at.left_is ∙ sym next_is ∙ over));
       } in
@@ -373,7 +379,8 @@ module _ {C : Type 0} (gives : C → Option ℕ → C → Type 0) (b : Shelf) wh
   pub so_far-cut : (count left : ℕ) (closes : Bool) (r0 r2 : Option (List ℕ)) (c0 c2 : C)
       (w0 w1 w2 : Option (List ℕ)) (old new : Tables) → count < 1000 →
       IfSome r0
-      (λ stream. IsOneMore stream count left closes r2 c0 c2 w0 w1 (Begins w1 w2) old new) →
+      (λ stream. IsOneMore stream count left closes r2 c0 c2 w0 w1 (AppendsBeginning w1 w2) old
+      new) →
       IfSome r0 (λ stream. IsCutOff gives b stream c0 c2 w0 w2 old (AreOf b new))
   so_far-cut count left closes None r2 c0 c2 w0 w1 w2 old new few one = tt
   so_far-cut count left closes (Some stream) r2 c0 c2 w0 w1 w2 old new few one = record {
@@ -420,10 +427,10 @@ module _ {C : Type 0} (gives : C → Option ℕ → C → Type 0) (b : Shelf) wh
       let here : Hears so.rest None r2 =
       subst (λ (r : Option (List ℕ)). IfSome r (λ s. Hears s None r2)) so.rest_is
       (subst (λ (x : Option Heard). IfSome r1 (λ s. Hears s x r2)) is hears) in
-      let nothing : IsNext so.rest ended =
-      subst (IsNext so.rest) (ended_case here.next r2 here.hears) here.is_next in
+      let nothing : IsNextRequest so.rest ended =
+      subst (IsNextRequest so.rest) (ended_case here.next r2 here.hears) here.is_next in
       served_over stream count left r1 c0 c1 w0 w1 old new so
-      (λ list at. inr (subst (λ r. IsNext r ended) (sym at.rest_is) nothing))
+      (λ list at. inr (subst (λ r. IsNextRequest r ended) (sym at.rest_is) nothing))
 
   -- no more requests are taken
   pub so_far-full : (count total left : ℕ) (r0 r1 : Option (List ℕ)) (c0 c1 : C)
@@ -444,7 +451,7 @@ module _ {C : Type 0} (gives : C → Option ℕ → C → Type 0) (b : Shelf) wh
   pub so_far-unread : (count left : ℕ) (r0 r1 : Option (List ℕ)) (c0 c1 : C)
       (w0 w1 : Option (List ℕ)) (old new : Tables) → count < 1000 → 0 < left →
       IfSome r0 (λ stream. IsSoFar stream count left r1 c0 c1 w0 w1 old new) →
-      IfSome r0 (λ stream. IsUnread gives b stream c0 c1 w0 w1 old (AreOf b new))
+      IfSome r0 (λ stream. IsNextUnread gives b stream c0 c1 w0 w1 old (AreOf b new))
   so_far-unread count left None r1 c0 c1 w0 w1 old new few some so = tt
   so_far-unread count left (Some stream) r1 c0 c1 w0 w1 old new few some so = record {
     count = count;
@@ -464,7 +471,8 @@ module _ {C : Type 0} (gives : C → Option ℕ → C → Type 0) (b : Shelf) wh
   -- ---- what a stop leaves
 
   pub left_within : (stream : List ℕ) (few most : ℕ) (held : Tables) (list : List Accepted) →
-      few ≤ most → IsLeftWithin b stream few held list → IsLeftWithin b stream most held list
+      few ≤ most → IsLeftByRequests b stream few held list →
+      IsLeftByRequests b stream most held list
   left_within stream few most held list le x = record {
     count = x.count;
     bounded = omega (arith, x.bounded, le);
@@ -478,16 +486,17 @@ module _ {C : Type 0} (gives : C → Option ℕ → C → Type 0) (b : Shelf) wh
   left_one : (stream : List ℕ) (count left : ℕ) (rest after : List ℕ)
       (moments : List (Option ℕ)) (text : List ℕ) (mid new : Tables) (list : List Accepted)
       (asking : Asking) (closes : Bool) (next : Next) →
-      0 < left → IsNext rest next → SaysStatus asking →
-      ((old last : Connection) → IsAnswered b asking closes after old last →
+      0 < left → IsNextRequest rest next → SaysStatus asking →
+      ((old last : Connection) → IsRequestAnswered b asking closes after old last →
       Takes b next old last) → (at : IsAt b stream count left rest moments text mid list) →
-      IsReplyHeld b asking new at.taken.last.list → IsLeftWithin b stream (count + 1) new list
+      IsReplyHeld b asking new at.taken.last.list → IsLeftByRequests b stream (count + 1) new list
   left_one stream count left rest after moments text mid new list asking closes next some is_next
       says takes at held =
       let more : IsMoreAt b stream count left closes after (moments ++ held.moments) text
-      (reply_text (left_after closes left == 0) held.reply) new list =
+      (reply_text (requests_left_after closes left == 0) held.reply) new list =
       more-at b stream count left rest after moments held.moments text
-      (reply_text (left_after closes left == 0) held.reply) mid new list asking closes next some
+      (reply_text (requests_left_after closes left == 0) held.reply) mid new list asking closes next
+      some
       is_next says takes at (record {
         reply = held.reply;
         is_reply = held.is_reply;
@@ -495,10 +504,11 @@ module _ {C : Type 0} (gives : C → Option ℕ → C → Type 0) (b : Shelf) wh
         tables = held.tables;
         time = held.time;
       }) in
-      let here : IsAt b stream (count + 1) (left_after closes left) after (moments ++ held.moments)
-      (text ++ reply_text (left_after closes left == 0) held.reply) new list =
+      let here : IsAt b stream (count + 1) (requests_left_after closes left) after
+      (moments ++ held.moments)
+      (text ++ reply_text (requests_left_after closes left == 0) held.reply) new list =
       at-more b stream count left closes after (moments ++ held.moments) text
-      (reply_text (left_after closes left == 0) held.reply) new list more in
+      (reply_text (requests_left_after closes left == 0) held.reply) new list more in
       record {
         count = count + 1;
         bounded = le_refl (count + 1);
@@ -528,7 +538,7 @@ module _ {C : Type 0} (gives : C → Option ℕ → C → Type 0) (b : Shelf) wh
       0 < left → o ≡ Some heard → (mid.clean → old.clean) → (new.honest → mid.honest) →
       (mid.honest → IsHeldSoFar count left r0 r1 c0 c1 w0 w1 old mid) →
       IfSome r1 (λ s. Hears s o r2) →
-      ((asking : Asking) → IsAsked asking heard.asked → LeavesReply b asking mid new) →
+      ((asking : Asking) → IsAskingGiven asking heard.asked → LeavesReply b asking mid new) →
       LeavesTurns b r0 count old mid → LeavesTurns b r0 (count + 1) old new
   turns_more count left None r1 r2 c0 c1 w0 w1 old mid new o heard some is cleanness honesty had
       hears replies first = tt
@@ -573,8 +583,8 @@ module _ {C : Type 0} (gives : C → Option ℕ → C → Type 0) (b : Shelf) wh
   module _ (c0 c1 : C) (w0 w1 : Option (List ℕ)) (old : Tables) (Is Are : List Accepted → Type 0)
       (weaker : (list : List Accepted) → IsInTime list → Is list → Are list) where
     abbrev taken_as : (stream : List ℕ) (count : ℕ) (moments : List (Option ℕ)) (text : List ℕ)
-        (list : List Accepted) → IsTaken b stream count moments text Is list →
-        IsTaken b stream count moments text Are list
+        (list : List Accepted) → AreRequestsTaken b stream count moments text Is list →
+        AreRequestsTaken b stream count moments text Are list
     taken_as stream count moments text list x = record {
       last = x.last;
       turns = x.turns;
@@ -584,8 +594,8 @@ module _ {C : Type 0} (gives : C → Option ℕ → C → Type 0) (b : Shelf) wh
       time = x.time;
     }
 
-    unread_as : (stream : List ℕ) → IsUnread gives b stream c0 c1 w0 w1 old Is →
-        IsUnread gives b stream c0 c1 w0 w1 old Are
+    unread_as : (stream : List ℕ) → IsNextUnread gives b stream c0 c1 w0 w1 old Is →
+        IsNextUnread gives b stream c0 c1 w0 w1 old Are
     unread_as stream x = record {
       count = x.count;
       bounded = x.bounded;
@@ -693,7 +703,7 @@ module _ {C : Type 0} (gives : C → Option ℕ → C → Type 0) (b : Shelf) wh
       (q : Result Served ServeFault) (r0 : Option (List ℕ)) (c0 c1 : C) (w0 w1 : Option (List ℕ))
       (old : Tables) (Is : List Accepted → Type 0) → r ≡ Err why → (r ≡ Err broken.Write → ⊥) →
       IsErrAnd q (λ e. e ≡ serve_fault why) →
-      IfSome r0 (λ stream. IsUnread gives b stream c0 c1 w0 w1 old Is) →
+      IfSome r0 (λ stream. IsNextUnread gives b stream c0 c1 w0 w1 old Is) →
       IfSome r0 (λ stream. ComesTo gives b stream c0 c1 w0 w1 old Is q)
   unread_comes r why q r0 c0 c1 w0 w1 old Is was other is unread =
       subst (λ (x : Result Served ServeFault).
@@ -740,7 +750,8 @@ less_one (suc n) next served e h t =
     let next_is : next ≡ n = e ∙ same in
     omega (arith, next_is, t)
 
-pub turns-more : (closes : Bool) (left next served : ℕ) → next ≡ left_after closes left → next ≢ 0 →
+pub turns-more : (closes : Bool) (left next served : ℕ) → next ≡ requests_left_after closes left →
+    next ≢ 0 →
     left + served ≡ 1000 → next + (served + 1) ≡ 1000
 turns-more true left next served e h t = absurd (h e)
 turns-more false left next served e h t = less_one left next served e h t

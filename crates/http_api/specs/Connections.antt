@@ -15,7 +15,7 @@ use Rattle.charging.specs.Continued.{ForEachList, GoesOn}
 use Rattle.charging.specs.Parts.{Leaves}
 use Rattle.charging.specs.Served.{AreTables}
 use Rattle.http_messages.specs.Statuses.{IsAnswerStatus}
-use Rattle.http_messages.specs.Requests.{Next, asks, refused, ended, IsNext}
+use Rattle.http_messages.specs.Requests.{Next, asks, refused, ended, IsNextRequest}
 use Rattle.http_messages.specs.Asking.{Asking, refuses}
 use Rattle.http_messages.specs.Table.{asked_of}
 use Rattle.http_api.specs.Words.{most_requests}
@@ -53,7 +53,7 @@ after_reply old closes rest moments reply = record {
     left = if closes then 0 else old.left - 1
 
 -- a request is answered, with one of the statuses of answers
-pub record IsAnswered (b : Shelf) (asking : Asking) (closes : Bool) (rest : Bytes)
+pub record IsRequestAnswered (b : Shelf) (asking : Asking) (closes : Bool) (rest : Bytes)
     (old new : Connection) : Type 0 where
   pub moments : List (Option Moment)
   pub reply : Reply
@@ -63,8 +63,8 @@ pub record IsAnswered (b : Shelf) (asking : Asking) (closes : Bool) (rest : Byte
 
 -- what comes next is answered; after a refusal of the head or of the length nothing more is read
 abbrev pub Takes : Shelf → Next → Connection → Connection → Type 0
-Takes b (asks ask rest) old new = IsAnswered b (asked_of ask) ask.closes rest old new
-Takes b (refused status) old new = IsAnswered b (refuses status) true [] old new
+Takes b (asks ask rest) old new = IsRequestAnswered b (asked_of ask) ask.closes rest old new
+Takes b (refused status) old new = IsRequestAnswered b (refuses status) true [] old new
 Takes b ended old new = ⊥
 
 -- one turn
@@ -72,29 +72,30 @@ Takes b ended old new = ⊥
 pub record IsTurn (b : Shelf) (old new : Connection) : Type 0 where
   pub taken : 0 < old.left
   pub next : Next
-  pub is_next : IsNext old.rest next
+  pub is_next : IsNextRequest old.rest next
   pub takes : Takes b next old new
 
 -- so many turns
 -- rule: http-end: a connection: what is written and accepted
-abbrev pub Turns : Shelf → ℕ → Connection → Connection → Type 0
-Turns b zero first last = last ≡ first
-Turns b (suc n) first last = (between : Connection) × Turns b n first between
+abbrev pub AreTurns : Shelf → ℕ → Connection → Connection → Type 0
+AreTurns b zero first last = last ≡ first
+AreTurns b (suc n) first last = (between : Connection) × AreTurns b n first between
     × IsTurn b between last
 
 -- no more requests are taken, or the stream ends before a request does
 -- rule: http-end
 abbrev pub IsOver : Connection → Type 0
-IsOver last = (last.left ≡ 0) ⊎ IsNext last.rest ended
+IsOver last = (last.left ≡ 0) ⊎ IsNextRequest last.rest ended
 
 -- ---- over a reader, a writer, a keeper and a clock
 
 -- so many requests of a stream come to these moments, to this text, and to accepted commands of
 -- which this is so
-pub record IsTaken (b : Shelf) (stream : Bytes) (count : ℕ) (moments : List (Option Moment))
+pub record AreRequestsTaken (b : Shelf) (stream : Bytes) (count : ℕ)
+    (moments : List (Option Moment))
     (text : Bytes) (Is : List Accepted → Type 0) (list : List Accepted) : Type 0 where
   pub last : Connection
-  pub turns : Turns b count (new_connection stream list) last
+  pub turns : AreTurns b count (new_connection stream list) last
   pub given : last.moments ≡ moments
   pub written : last.written ≡ text
   pub is : Is last.list
@@ -103,7 +104,7 @@ pub record IsTaken (b : Shelf) (stream : Bytes) (count : ℕ) (moments : List (O
 -- a part of a connection: the moments that the clock gave in turn, the text of the answers, what is
 -- written of it, and what both are of the stream, over each list of commands that the tables before
 -- come from
-pub record IsPart {C : Type 0} (gives : C → Option Moment → C → Type 0) (b : Shelf)
+pub record IsConnectionPart {C : Type 0} (gives : C → Option Moment → C → Type 0) (b : Shelf)
     (before after : C) (old : Tables) (Writes : Bytes → Type 0)
     (Is : List (Option Moment) → Bytes → List Accepted → Type 0) : Type 0 where
   pub moments : List (Option Moment)
@@ -115,15 +116,14 @@ pub record IsPart {C : Type 0} (gives : C → Option Moment → C → Type 0) (b
 -- so many requests of a stream were answered whole, it takes more, and nothing is done for the next
 -- rule: http-unanswered: an answer's text is made before its command is accepted, and what a
 --   connection that runs out of memory leaves
-pub record IsUnread {C : Type 0} (gives : C → Option Moment → C → Type 0) (b : Shelf)
+pub record IsNextUnread {C : Type 0} (gives : C → Option Moment → C → Type 0) (b : Shelf)
     (stream : Bytes) (before after : C) (empty full : Option Bytes) (old : Tables)
     (Is : List Accepted → Type 0) : Type 0 where
   pub count : ℕ
   -- rule: http-end
   pub bounded : count < most_requests
-  pub taken : IsPart gives b before after old (Appends empty full)
-      (λ moments text list.
-      (taken : IsTaken b stream count moments text Is list) × (0 < taken.last.left))
+  pub taken : IsConnectionPart gives b before after old (Appends empty full) (λ moments text list.
+      (taken : AreRequestsTaken b stream count moments text Is list) × (0 < taken.last.left))
 
 -- so many were answered whole, and of the answer to the next one a beginning is written
 pub record IsCutOff {C : Type 0} (gives : C → Option Moment → C → Type 0) (b : Shelf)
@@ -133,9 +133,10 @@ pub record IsCutOff {C : Type 0} (gives : C → Option Moment → C → Type 0) 
   pub bounded : count < most_requests
   pub more : Bytes
   pub begun : ℕ
-  pub taken : IsPart gives b before after old (λ text. Appends empty full (text ++ take begun more))
+  pub taken : IsConnectionPart gives b before after old
+      (λ text. Appends empty full (text ++ take begun more))
       (λ moments text list.
-      (taken : IsTaken b stream (suc count) moments (text ++ more) Is list)
+      (taken : AreRequestsTaken b stream (suc count) moments (text ++ more) Is list)
       × (taken.turns.0.written ≡ text))
 
 -- what comes of a connection, by its end: it is served to its end; or the reader fails, or memory
@@ -146,13 +147,12 @@ abbrev pub ComesTo : {C : Type 0} → (C → Option Moment → C → Type 0) →
     Option Bytes → Option Bytes → Tables → (List Accepted → Type 0) → Result Served ServeFault →
     Type 0
 ComesTo gives b stream before after empty full old Is (Ok done) =
-    IsPart gives b before after old (Appends empty full)
-    (λ moments text list.
-    (taken : IsTaken b stream done.requests moments text Is list) × IsOver taken.last)
+    IsConnectionPart gives b before after old (Appends empty full) (λ moments text list.
+    (taken : AreRequestsTaken b stream done.requests moments text Is list) × IsOver taken.last)
 ComesTo gives b stream before after empty full old Is (Err Memory) =
-    IsUnread gives b stream before after empty full old Is
+    IsNextUnread gives b stream before after empty full old Is
 ComesTo gives b stream before after empty full old Is (Err Read) =
-    IsUnread gives b stream before after empty full old Is
+    IsNextUnread gives b stream before after empty full old Is
 ComesTo gives b stream before after empty full old Is (Err Write) =
     IsCutOff gives b stream before after empty full old Is
 
@@ -160,12 +160,12 @@ ComesTo gives b stream before after empty full old Is (Err Write) =
 
 -- at most so many requests of a stream come to these tables
 -- rule: http-end
-pub record IsLeftWithin (b : Shelf) (stream : Bytes) (most : ℕ) (held : Tables)
+pub record IsLeftByRequests (b : Shelf) (stream : Bytes) (most : ℕ) (held : Tables)
     (list : List Accepted) : Type 0 where
   pub count : ℕ
   pub bounded : count ≤ most
   pub last : Connection
-  pub turns : Turns b count (new_connection stream list) last
+  pub turns : AreTurns b count (new_connection stream list) last
   pub tables : AreTables b last.list held
   pub time : IsInTime last.list
 
@@ -194,4 +194,4 @@ pub record ServesConnection {C : Type 0} (gives : C → Option Moment → C → 
   pub goes_on : GoesOn b old new
   -- rule: http-end
   pub held : IfSome bytes (λ stream. Leaves old new (λ left.
-      old.clean × ForEachList b old.tables (IsLeftWithin b stream most_requests left)))
+      old.clean × ForEachList b old.tables (IsLeftByRequests b stream most_requests left)))

@@ -5,11 +5,11 @@ use Rattle.units.specs.Words.{Moment}
 use Rattle.texts.specs.StreamWords.{Bytes}
 use Rattle.shelves.specs.Shelves.{Shelf}
 use Rattle.charging.specs.Accepted.{Accepted}
-use Rattle.http_messages.specs.Requests.{Next, asks, refused, ended, IsNext}
+use Rattle.http_messages.specs.Requests.{Next, asks, refused, ended, IsNextRequest}
 use Rattle.http_messages.specs.Asking.{Asking, refuses}
 use Rattle.http_messages.specs.Table.{asked_of}
 use Rattle.http_api.specs.Replies.{Reply, IsDue}
-use Rattle.http_api.specs.Connections.{Connection, new_connection, after_reply, IsOver, Turns}
+use Rattle.http_api.specs.Connections.{Connection, new_connection, after_reply, IsOver, AreTurns}
 
 -- a request gets what is due
 pub record GetsDue (b : Shelf) (asking : Asking) (closes : Bool) (rest : Bytes)
@@ -29,7 +29,7 @@ NextGetsDue b ended old new = ⊥
 pub record IsDueTurn (b : Shelf) (old new : Connection) : Type 0 where
   pub taken : 0 < old.left
   pub next : Next
-  pub is_next : IsNext old.rest next
+  pub is_next : IsNextRequest old.rest next
   pub gets : NextGetsDue b next old new
 
 -- so many turns
@@ -44,7 +44,7 @@ DueTurns b (suc n) first last = (between : Connection) × DueTurns b n first bet
 -- rule: http-text
 abbrev pub DueTurnsAreTurns : Type 0
 DueTurnsAreTurns = (b : Shelf) (n : ℕ) (first last : Connection) → DueTurns b n first last →
-    Turns b n first last
+    AreTurns b n first last
 
 -- the same stream, list of accepted commands and moments give the same text and list
 -- rule: http-text

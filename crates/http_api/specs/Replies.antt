@@ -32,7 +32,7 @@ use Rattle.http_messages.specs.Statuses as status
 use Rattle.http_messages.specs.Asking.{Asking, refuses, reads, states}
 use Rattle.http_messages.specs.declared.text.Media.{Media}
 use Rattle.http_messages.specs.declared.text.Media.TheVariants.{Json, Text}
-use Rattle.http_messages.specs.Texts.{response_of, no_members, unable, Begins}
+use Rattle.http_messages.specs.Texts.{response_of, no_members, unable, AppendsBeginning}
 use Rattle.http_api.specs.Clocks.{GivesInTurn}
 
 -- an answer's status and body, what the body is, and the accepted commands after it
@@ -43,12 +43,12 @@ pub record Reply : Type 0 where
   pub after : List Accepted
 
 -- a request that isn't accepted leaves the list
-abbrev pub refusal : List Accepted → StatusCode → Bytes → Reply
-refusal list code text = record { status = code; media = Json; body = text; after = list }
+abbrev pub refusal_reply : List Accepted → StatusCode → Bytes → Reply
+refusal_reply list code text = record { status = code; media = Json; body = text; after = list }
 
 -- no memory, no store or no clock
 abbrev pub unserved : List Accepted → Reply
-unserved list = refusal list status.service_unavailable unable
+unserved list = refusal_reply list status.service_unavailable unable
 
 -- the bytes of a reply
 abbrev pub reply_text : Bool → Reply → Bytes
@@ -60,9 +60,10 @@ reply_text closes reply = response_of reply.media reply.status closes reply.body
 -- there is no account is written as an answer is.
 -- rule: http-read, http-503
 abbrev pub IsDue : Shelf → List Accepted → Asking → List (Option Moment) → Reply → Type 0
-IsDue b list (refuses code) moments reply = (moments ≡ []) × (reply ≡ refusal list code no_members)
+IsDue b list (refuses code) moments reply = (moments ≡ [])
+    × (reply ≡ refusal_reply list code no_members)
 IsDue b list (reads (Err fault)) moments reply = (moments ≡ [])
-    × (reply ≡ refusal list status.bad_request (fault_text fault))
+    × (reply ≡ refusal_reply list status.bad_request (fault_text fault))
 IsDue b list (reads (Ok c)) moments reply = (m : Option ℕ) × (moments ≡ m ∷ [])
     × (reply ≡ answered m)
   where
@@ -74,8 +75,7 @@ IsDue b list (reads (Ok c)) moments reply = (m : Option ℕ) × (moments ≡ m �
       body = answer_text (answer_to b list c (moment_of list t));
       after = with_command b list c (moment_of list t);
     }
-IsDue b list (states q) moments reply = (m : Option ℕ) × (moments ≡ m ∷ [])
-    × (reply ≡ stated m)
+IsDue b list (states q) moments reply = (m : Option ℕ) × (moments ≡ m ∷ []) × (reply ≡ stated m)
   where
     media : Bool → Media
     media true = Text
@@ -157,12 +157,12 @@ pub record ShowsReply {A : Type 0} (Told : (Bytes → Type 0) → Tables → Tab
   pub next : Tables
   pub holds : HoldsNext b old new held next
   pub ok : OnOk result (Told (Appends empty full) held next)
-  pub err : OnErr result (Told (Begins empty full) held next)
+  pub err : OnErr result (Told (AppendsBeginning empty full) held next)
 
 -- so it is over an honest keeper, from any tables on that are the keeper's where it is clean
-abbrev pub Shows : {A : Type 0} → ((Bytes → Type 0) → Tables → Tables → Type 0) → Shelf →
+abbrev pub ShowsHonestReply : {A : Type 0} → ((Bytes → Type 0) → Tables → Tables → Type 0) → Shelf →
     Option Bytes → Option Bytes → Seen → Seen → Result A StreamFault → Type 0
-Shows Told b empty full old new result =
+ShowsHonestReply Told b empty full old new result =
     new.honest → (held : Tables) → (old.clean → held ≡ old.tables) →
     ShowsReply Told b empty full old new held result
 
@@ -183,7 +183,7 @@ LeavesReply b asking old new =
 -- what answering a request leaves, whatever it asks: the writer alone fails, and the accepted
 -- commands go on
 -- rule: http-unanswered
-pub record GoesOn {A : Type 0} (b : Shelf) (old new : Seen)
+pub record GoesOnAfterReply {A : Type 0} (b : Shelf) (old new : Seen)
     (result : Result A StreamFault) : Type 0 where
   pub fault : OnErr result (result ≡ Err Write)
   pub continued : new.clean → Continues b old.tables new.tables

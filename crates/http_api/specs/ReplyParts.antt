@@ -74,5 +74,5 @@ MayAsk (states q) moments = length moments ≤ 1
 -- ---- after a request (`Connections`)
 
 -- how many a connection takes after a request: none where that ends it
-abbrev pub left_after : Bool → ℕ → ℕ
-left_after closes left = if closes then 0 else left - 1
+abbrev pub requests_left_after : Bool → ℕ → ℕ
+requests_left_after closes left = if closes then 0 else left - 1

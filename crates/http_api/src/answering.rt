@@ -1,8 +1,8 @@
 //! A request, answered over a keeper.
 
 ghost use Rattle.std.specs.Prelude.{Ok};
-ghost use Rattle.http_messages.specs.Asking.{Asking, reads, IsAsked};
-ghost use Rattle.http_api.specs.Replies.{GoesOn, LeavesReply, Replies, Shows};
+ghost use Rattle.http_messages.specs.Asking.{Asking, reads, IsAskingGiven};
+ghost use Rattle.http_api.specs.Replies.{GoesOnAfterReply, LeavesReply, Replies, ShowsHonestReply};
 
 use crate::clock::Clock;
 use crate::stating::serve_statement;
@@ -34,12 +34,12 @@ pub(crate) fn answer_request<W: Write, K: ChargeSource, C: Clock>(
     asked: HttpAsked,
     following: Following,
 ) -> Result<(), StreamFault>
-    ensures shown { Shows (λ Writes x y. (asking : Asking) → IsAsked asking asked →
+    ensures shown { ShowsHonestReply (λ Writes x y. (asking : Asking) → IsAskingGiven asking asked →
         Replies C.gives shelf.now asking following.closes clock.old clock.new Writes x y) shelf.now
         (W.contents writer.old) (W.contents writer.new) (K.seen keeper.old) (K.seen keeper.new)
         result }
-    ensures goes_on { GoesOn shelf.now (K.seen keeper.old) (K.seen keeper.new) result }
-    ensures held { (asking : Asking) → IsAsked asking asked →
+    ensures goes_on { GoesOnAfterReply shelf.now (K.seen keeper.old) (K.seen keeper.new) result }
+    ensures held { (asking : Asking) → IsAskingGiven asking asked →
         LeavesReply shelf.now asking (K.seen keeper.old) (K.seen keeper.new) }
 {
     match asked {
@@ -66,11 +66,11 @@ fn serve_command<W: Write, K: ChargeSource, C: Clock>(
     command: Command,
     following: Following,
 ) -> Result<(), StreamFault>
-    ensures shown { Shows
+    ensures shown { ShowsHonestReply
         (Replies C.gives shelf.now (reads (Ok command)) following.closes clock.old clock.new)
         shelf.now (W.contents writer.old) (W.contents writer.new) (K.seen keeper.old) (K.seen keeper.new)
         result }
-    ensures goes_on { GoesOn shelf.now (K.seen keeper.old) (K.seen keeper.new) result }
+    ensures goes_on { GoesOnAfterReply shelf.now (K.seen keeper.old) (K.seen keeper.new) result }
     ensures held { LeavesReply shelf.now (reads (Ok command))
         (K.seen keeper.old) (K.seen keeper.new) }
 {

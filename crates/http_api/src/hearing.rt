@@ -2,9 +2,9 @@
 
 ghost use Rattle.std.specs.Prelude.{◌≡◌, ℕ, List, Option, Err, IfOk, OnErr, IsErrOf, IfSome};
 ghost use Rattle.http_messages.specs.Requests.{Next};
-ghost use Rattle.http_messages.specs.RequestsGiven.{Tells, seen};
-ghost use Rattle.http_messages.specs.Asking.{IsAsked};
-ghost use Rattle.http_messages.specs.Table.{table, asked_of};
+ghost use Rattle.http_messages.specs.RequestsGiven.{IsNextTaken, seen};
+ghost use Rattle.http_messages.specs.Asking.{IsAskingGiven};
+ghost use Rattle.http_messages.specs.Table.{route_table, asked_of};
 ghost use Rattle.http_api.specs.Hearing.{IsOfHead, Hears, HearsNext};
 
 use http_messages::{
@@ -30,7 +30,7 @@ pub(crate) struct RequestParser {
     router: Router<Route>,
     buffers: Buffers,
     scratch: Scratch,
-    ghost known: { router ≡ table },
+    ghost known: { router ≡ route_table },
 }
 
 impl RequestParser {
@@ -83,8 +83,8 @@ fn heard_of(
     buffers: &mut Buffers,
     scratch: &mut Scratch,
 ) -> Option<Heard>
-    requires { router.now ≡ table }
-    ensures { (next : Next) (left : Option (List ℕ)) → IsOfHead next → Tells next taken left →
+    requires { router.now ≡ route_table }
+    ensures { (next : Next) (left : Option (List ℕ)) → IsOfHead next → IsNextTaken next taken left →
         HearsNext next result left }
 {
     match taken {
@@ -108,8 +108,8 @@ fn heard_request(
     request: &HttpRequest,
     scratch: &mut Scratch,
 ) -> Heard
-    requires { router.now ≡ table }
-    ensures asked { IsAsked (asked_of (seen request.now)) result.asked }
+    requires { router.now ≡ route_table }
+    ensures asked { IsAskingGiven (asked_of (seen request.now)) result.asked }
     ensures closes { result.closes ≡ request.now.closes }
 {
     Heard {

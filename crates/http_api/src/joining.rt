@@ -2,7 +2,7 @@
 
 ghost use Rattle.std.specs.Prelude.{◌≡◌, ◌≤◌, ◌++◌, [], true, false, length, Err, OnOk, OnErr};
 ghost use Rattle.std.specs.Io.KnownBytes.{Appends, append_known};
-ghost use Rattle.http_messages.specs.Texts.{Begins};
+ghost use Rattle.http_messages.specs.Texts.{AppendsBeginning};
 ghost use Rattle.http_api.specs.Words.{most_waiting};
 
 use http_messages::write_text;
@@ -38,7 +38,7 @@ pub(crate) fn write_waiting<W: Write>(
     ensures ok { OnOk result
         (Appends (W.contents writer.old) (W.contents writer.new) waiting.old.items) }
     ensures err { OnErr result
-        (Begins (W.contents writer.old) (W.contents writer.new) waiting.old.items) }
+        (AppendsBeginning (W.contents writer.old) (W.contents writer.new) waiting.old.items) }
     ensures none { waiting.new.items ≡ [] }
     ensures fault { OnErr result (result ≡ Err StreamFault.Write) }
 {
@@ -55,7 +55,7 @@ fn write_after<W: Write>(
 ) -> Result<(), StreamFault>
     ensures ok { OnOk result (Appends (W.contents writer.old) (W.contents writer.new)
         (waiting.old.items ++ text.now)) }
-    ensures err { OnErr result (Begins (W.contents writer.old) (W.contents writer.new)
+    ensures err { OnErr result (AppendsBeginning (W.contents writer.old) (W.contents writer.new)
         (waiting.old.items ++ text.now)) }
     ensures none { waiting.new.items ≡ [] }
     ensures fault { OnErr result (result ≡ Err StreamFault.Write) }
@@ -77,7 +77,7 @@ pub(crate) fn join<W: Write>(
 ) -> Result<(), StreamFault>
     ensures ok { OnOk result (Appends (append_known (W.contents writer.old) waiting.old.items)
         (append_known (W.contents writer.new) waiting.new.items) text.now) }
-    ensures err { OnErr result (Begins (W.contents writer.old) (W.contents writer.new)
+    ensures err { OnErr result (AppendsBeginning (W.contents writer.old) (W.contents writer.new)
         (waiting.old.items ++ text.now)) }
     ensures bounded { length waiting.old.items ≤ most_waiting
         → length waiting.new.items ≤ most_waiting }

@@ -3,7 +3,7 @@
 ghost use Rattle.std.specs.Prelude.{◌≡◌, ◌<◌, ◌+◌};
 ghost use Rattle.std.specs.Io.Buffered.{reader_remaining};
 ghost use Rattle.http_api.specs.Connections.{ServesConnection};
-ghost use Rattle.http_api.specs.ReplyParts.{left_after};
+ghost use Rattle.http_api.specs.ReplyParts.{requests_left_after};
 ghost use Rattle.http_api.specs.Words.{most_requests};
 
 use crate::answering::answer_request;
@@ -80,7 +80,7 @@ fn one_more(served: u32) -> Served
 /// How many requests a connection takes after one.
 fn left_after(closes: bool, left: u32) -> u32
     requires { 0 < left }
-    ensures { result ≡ left_after closes left }
+    ensures { result ≡ requests_left_after closes left }
 {
     if closes { 0 } else { left - 1 }
 }

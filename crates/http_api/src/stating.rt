@@ -10,8 +10,8 @@ ghost use Rattle.keepers.specs.Tables.{Tables};
 ghost use Rattle.statements.specs.Charges.{Asks};
 ghost use Rattle.statements.specs.Texts.{statement_text};
 ghost use Rattle.http_messages.specs.Asking.{states};
-ghost use Rattle.http_messages.specs.Texts.{Begins};
-ghost use Rattle.http_api.specs.Replies.{Replies, Shows};
+ghost use Rattle.http_messages.specs.Texts.{AppendsBeginning};
+ghost use Rattle.http_api.specs.Replies.{Replies, ShowsHonestReply};
 ghost use Rattle.http_api.specs.Told.{TellsAnswer, TellsCharges};
 
 use crate::clock::Clock;
@@ -40,7 +40,7 @@ pub(crate) fn serve_statement<W: Write, K: ChargeSource, C: Clock>(
     asked: &StatementAsked,
     following: Following,
 ) -> Result<(), StreamFault>
-    ensures shown { Shows
+    ensures shown { ShowsHonestReply
         (Replies C.gives shelf.now (states asked.now) following.closes clock.old clock.new)
         shelf.now (W.contents writer.old) (W.contents writer.new) (K.seen keeper.old) (K.seen keeper.new)
         result }
@@ -85,7 +85,7 @@ fn tell_statement<W: Write, K: ChargeSource>(
         (TellsCharges ((K.seen keeper.old).tables.charges asked.now.account)
         (λ rows. statement_text shelf.now.first asked.now.account asked.now.month state.now.moment
         rows state.now.buckets.items) following.closes
-        (Begins (W.contents writer.old) (W.contents writer.new))) }
+        (AppendsBeginning (W.contents writer.old) (W.contents writer.new))) }
     ensures fault { OnErr result (result ≡ Err StreamFault.Write) }
     ensures same { (K.seen keeper.new).clean →
         (K.seen keeper.new).tables ≡ (K.seen keeper.old).tables }
@@ -139,7 +139,7 @@ fn tell_unknown<W: Write>(
     ensures ok { OnOk result (TellsAnswer (Refused Unknown) following.closes
         (Appends (W.contents writer.old) (W.contents writer.new))) }
     ensures err { OnErr result (TellsAnswer (Refused Unknown) following.closes
-        (Begins (W.contents writer.old) (W.contents writer.new))) }
+        (AppendsBeginning (W.contents writer.old) (W.contents writer.new))) }
     ensures fault { OnErr result (result ≡ Err StreamFault.Write) }
 {
     let unknown = Answer::Refused(Refusal::AccountUnknown);

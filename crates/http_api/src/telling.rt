@@ -5,7 +5,8 @@ ghost use Rattle.std.specs.Io.KnownBytes.{Keeps};
 ghost use Rattle.wire.specs.Spelled.{answer_text};
 ghost use Rattle.http_messages.specs.Refusals.{refusal_status};
 ghost use Rattle.http_messages.specs.Statuses.{ok, service_unavailable};
-ghost use Rattle.http_messages.specs.Texts.{response, no_members, unable, TellsFault, TellsText};
+ghost use Rattle.http_messages.specs.Texts.{response, no_members, unable, AnswersFault};
+ghost use Rattle.http_messages.specs.Texts.{AnswersText};
 ghost use Rattle.http_messages.specs.Texts.{WritesText, WritesTold};
 
 use http::StatusCode;
@@ -78,7 +79,7 @@ pub(crate) fn tell_fault<W: Write>(
     fault: WireFault,
     following: Following,
 ) -> Result<(), StreamFault>
-    ensures { WritesTold (TellsFault following.closes fault) (W.contents writer.old)
+    ensures { WritesTold (AnswersFault following.closes fault) (W.contents writer.old)
         (W.contents writer.new) result }
 {
     http_messages::tell_fault(alloc, writer, fault, following.closes)?;
@@ -96,7 +97,7 @@ pub(crate) fn tell_text<W: Write>(
     body: &[u8],
     following: Following,
 ) -> Result<(), StreamFault>
-    ensures { WritesTold (TellsText following.closes ok body.now) (W.contents writer.old)
+    ensures { WritesTold (AnswersText following.closes ok body.now) (W.contents writer.old)
         (W.contents writer.new) result }
 {
     http_messages::tell_text(alloc, writer, StatusCode::OK, following.closes, body)?;

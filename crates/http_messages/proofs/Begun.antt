@@ -6,7 +6,7 @@ use Rattle.std.specs.Io.KnownBytes.{Appends}
 use Rattle.std.proofs.KnownBytes.{Appends-trans}
 use Rattle.std.proofs.Math.Seq.{take-append-add}
 pub use Rattle.std.proofs.lemmas.Result.{on_err_weaker as err_gives}
-use Rattle.http_messages.specs.Texts.{Begins}
+use Rattle.http_messages.specs.Texts.{AppendsBeginning}
 
 pub at_err : {A E P : Type 0} (r : Result A E) → P → OnErr r P
 at_err (Ok x) h = tt
@@ -21,8 +21,8 @@ take_first (suc n) (x ∷ xs) more =
     (suc rest.0, ap (λ l. x ∷ l) rest.1)
 
 -- rule: http-answer
-pub begun_first : (a b : Option (List ℕ)) (text more : List ℕ) → Begins a b text →
-    Begins a b (text ++ more)
+pub begun_first : (a b : Option (List ℕ)) (text more : List ℕ) → AppendsBeginning a b text →
+    AppendsBeginning a b (text ++ more)
 begun_first a b text more h =
     let first = take_first h.0 text more in
     (first.0, subst (Appends a b) (sym first.1) h.1)
@@ -30,7 +30,7 @@ begun_first a b text more h =
 -- so do the text and a beginning of what is after it
 -- rule: http-answer
 pub begun_second : (a b c : Option (List ℕ)) (text more : List ℕ) → Appends a b text →
-    Begins b c more → Begins a c (text ++ more)
+    AppendsBeginning b c more → AppendsBeginning a c (text ++ more)
 begun_second a b c text more h k = (
   length text + k.0,
   subst (Appends a c) (sym (take-append-add text more k.0))

@@ -6,31 +6,32 @@ use Rattle.std.proofs.Math.ListN.{drop_of_length-le}
 use Rattle.texts.specs.StreamWords.{Bytes}
 use Rattle.matchit.specs.Route.{scan}
 use Rattle.http_messages.specs.Routes.{every_route, about_route}
-use Rattle.http_messages.specs.Table.{Rows, with_routes}
+use Rattle.http_messages.specs.Table.{RouteRows, with_routes}
 use Rattle.http_messages.specs.MessageParts.{Fits, AreFitting}
 use Rattle.http_messages.specs.Table.{added}
 use Rattle.http_messages.specs.declared.routes.Route.{Route}
 
 -- the routes that are left fit, and make of these rows what all of them make of the first rows
-pub record IsAddedTo (all : List Route) (first : Rows) (left : List Route) (rows : Rows) :
+pub record IsAddedTo (all : List Route) (first : RouteRows) (left : List Route) (rows : RouteRows) :
     Type 0 where
   pub fit : AreFitting left rows
   pub made : with_routes left rows ≡ with_routes all first
 
 -- the next one, at a place of the list
-next_is : (all : List Route) (first : Rows) (i : ℕ) (d : Route) (rows : Rows) → i < length all →
+next_is : (all : List Route) (first : RouteRows) (i : ℕ) (d : Route) (rows : RouteRows) →
+    i < length all →
     IsAddedTo all first (drop i all) rows →
     IsAddedTo all first (get_or all i d ∷ drop (i + 1) all) rows
 next_is all first i d rows less so =
     subst (λ left. IsAddedTo all first left rows) (drop_more all i d less) so
 
-pub next_fits : (all : List Route) (first : Rows) (i : ℕ) (d : Route) (rows : Rows)
+pub next_fits : (all : List Route) (first : RouteRows) (i : ℕ) (d : Route) (rows : RouteRows)
     (text : Bytes) → text ≡ (about_route (get_or all i d)).pattern → i < length all →
     IsAddedTo all first (drop i all) rows → Fits text rows
 next_fits all first i d rows text is less so =
     subst (λ t. Fits t rows) (sym is) (next_is all first i d rows less so).fit.0
 
-pub one_added : (all : List Route) (first : Rows) (i : ℕ) (d : Route) (rows new : Rows)
+pub one_added : (all : List Route) (first : RouteRows) (i : ℕ) (d : Route) (rows new : RouteRows)
     (text : Bytes) → text ≡ (about_route (get_or all i d)).pattern →
     new ≡ added text (get_or all i d) rows → i < length all →
     IsAddedTo all first (drop i all) rows → IsAddedTo all first (drop (i + 1) all) new
@@ -47,7 +48,7 @@ one_added all first i d rows new text is adds less so =
 
 -- after the last one
 -- rule: http-path
-pub all_added : (all : List Route) (first : Rows) (i : ℕ) (rows : Rows) → length all ≤ i →
+pub all_added : (all : List Route) (first : RouteRows) (i : ℕ) (rows : RouteRows) → length all ≤ i →
     IsAddedTo all first (drop i all) rows → rows ≡ with_routes all first
 all_added all first i rows less so =
     (subst (λ left. IsAddedTo all first left rows) (drop_of_length-le all less) so).made

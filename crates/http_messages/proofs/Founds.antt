@@ -6,9 +6,9 @@ use Rattle.std.specs.Prelude.{if◌then◌else◌, Result}
 use Rattle.httparse.specs.Spans.{header_bytes}
 use Rattle.httparse.specs.declared.spans.HeaderSpan.{HeaderSpan}
 use Rattle.http_messages.specs.declared.fields.Found.{Found}
-use Rattle.http_messages.specs.Fields.{Fields, same_name, values_of}
+use Rattle.http_messages.specs.Fields.{Fields, same_field_name, values_of}
 use Rattle.http_messages.specs.MessageParts.{length_unless}
-use Rattle.http_messages.specs.Found.{IsFound}
+use Rattle.http_messages.specs.Found.{AreValuesFound}
 
 values-first : (b : Bool) (value : List ℕ) (all values more : List (List ℕ)) →
     all ≡ values ++ more →
@@ -21,16 +21,18 @@ pub values-append : (name : List ℕ) (fields more : Fields) →
     values_of name (fields ++ more) ≡ values_of name fields ++ values_of name more
 values-append name [] more = refl
 values-append name (f ∷ fields) more =
-    values-first (same_name f.0 name) f.1 (values_of name (fields ++ more)) (values_of name fields)
+    values-first (same_field_name f.0 name) f.1 (values_of name (fields ++ more))
+    (values_of name fields)
     (values_of name more) (values-append name fields more)
 
 -- one field more
 pub found_more : (part name : List ℕ) (fields : List HeaderSpan) (i : ℕ) (d : HeaderSpan)
     (found new : Found) → i < length fields →
-    IsFound part (values_of name (map (header_bytes part) (take i fields))) found →
-    ((values : List (List ℕ)) → IsFound part values found →
-    IsFound part (values ++ values_of name (header_bytes part (get_or fields i d) ∷ [])) new) →
-    IsFound part (values_of name (map (header_bytes part) (take (i + 1) fields))) new
+    AreValuesFound part (values_of name (map (header_bytes part) (take i fields))) found →
+    ((values : List (List ℕ)) → AreValuesFound part values found →
+    AreValuesFound part (values ++ values_of name (header_bytes part (get_or fields i d) ∷ []))
+    new) →
+    AreValuesFound part (values_of name (map (header_bytes part) (take (i + 1) fields))) new
 found_more part name fields i d found new within h goes =
     let one : List HeaderSpan = get_or fields i d ∷ [] in
     let all : values_of name (map (header_bytes part) (take (i + 1) fields))
@@ -40,7 +42,7 @@ found_more part name fields i d found new within h goes =
     ∙ ap (values_of name) (map-append (header_bytes part) (take i fields) one)
     ∙ values-append name (map (header_bytes part) (take i fields))
     (header_bytes part (get_or fields i d) ∷ []) in
-    subst (λ values. IsFound part values new) (sym all)
+    subst (λ values. AreValuesFound part values new) (sym all)
     (goes (values_of name (map (header_bytes part) (take i fields))) h)
 
 -- no coding

@@ -8,12 +8,12 @@ use Rattle.matchit.specs.declared.InsertError.TheVariants.{Conflict, InvalidPara
 use Rattle.matchit.specs.declared.InsertError.TheVariants.{InvalidParam, InvalidCatchAll}
 use Rattle.matchit.specs.declared.InsertError.TheVariants.{OutOfMemory}
 use Rattle.http_messages.specs.declared.routes.Route.{Route}
-use Rattle.http_messages.specs.Table.{Rows}
+use Rattle.http_messages.specs.Table.{RouteRows}
 use Rattle.http_messages.specs.MessageParts.{fits_read}
 use Rattle.http_messages.specs.Table.{added_read}
 
 -- rule: http-path
-pub inserts_read : (x : Result Scan InsertError) (value : Route) (old new : Rows)
+pub inserts_read : (x : Result Scan InsertError) (value : Route) (old new : RouteRows)
     (r : Result (Unit {0}) InsertError) (u : Unit {0}) → InsertsRead x value old new r →
     r ≡ Ok u → new ≡ added_read x value old
 inserts_read x value old new r u h is = inserted x (subst (InsertsRead x value old new) is h)
@@ -24,7 +24,7 @@ inserts_read x value old new r u h is = inserted x (subst (InsertsRead x value o
     inserted (Err e) h = h.0
 
 -- of a route that fits the one error is lack of memory
-pub one_error : (x : Result Scan InsertError) (value : Route) (old new : Rows)
+pub one_error : (x : Result Scan InsertError) (value : Route) (old new : RouteRows)
     (r : Result (Unit {0}) InsertError) (e : InsertError) → fits_read x old →
     InsertsRead x value old new r → r ≡ Err e → e ≡ OutOfMemory
 one_error x value old new r e fits h is =

@@ -11,7 +11,7 @@ use Rattle.http_messages.specs.declared.requests.Taken.TheVariants as taken
 use Rattle.http_messages.specs.Statuses.{bad_request, fields_too_large}
 use Rattle.http_messages.specs.Parts.{Part, whole, too_long, cut, IsHeadPart}
 use Rattle.http_messages.specs.Requests.{after_head, refused, ended}
-use Rattle.http_messages.specs.RequestsGiven.{IsHeadIn, IsHeadOf, Tells}
+use Rattle.http_messages.specs.RequestsGiven.{IsHeadIn, IsHeadOf, IsNextTaken}
 use Rattle.http_messages.specs.RequestsGiven.{TellsNext}
 
 long_next : (begun : Part) (left right : Option (List ℕ)) →
@@ -80,7 +80,8 @@ next_none part o (Some rest) right e h = record {
 pub next_some : {E : Type 0} (result : Result Taken E) (part : List ℕ) (o : Option HttpHead)
     (head : HttpHead) (left right : Option (List ℕ)) → o ≡ Some head → IsHeadIn part o →
     IfOk result (λ told. IfSome left
-    (λ rest. (said : RequestHead) → IsHeadOf said head → Tells (after_head said rest) told right)) →
+    (λ rest. (said : RequestHead) → IsHeadOf said head →
+    IsNextTaken (after_head said rest) told right)) →
     IfOk result (λ told. IfSome left (λ rest. TellsNext (whole part rest) told right))
 next_some (Err x) part o head left right e h k = tt
 next_some (Ok told) part o head None right e h k = tt

@@ -23,8 +23,8 @@ use Rattle.matchit.proofs.LongestLemmas.{longest-kid}
 use Rattle.http_messages.specs.declared.routes.Route.{Route}
 use Rattle.http_messages.specs.declared.routes.Route.TheVariants.{Ccr, Account, Statement, Credits}
 use Rattle.http_messages.specs.declared.routes.Route.TheVariants.{Allowances, Redeem, Sweep}
-use Rattle.http_messages.specs.Routes.{IsPart, IsPathOf}
-use Rattle.http_messages.specs.Table.{table, route_at, AreRoutesPaths}
+use Rattle.http_messages.specs.Routes.{IsPathPart, IsPathOf}
+use Rattle.http_messages.specs.Table.{route_table, route_at, AreRoutesPaths}
 
 -- ---- the table as nodes
 
@@ -67,8 +67,8 @@ abbrev numbered : ℕ → Route
 numbered n = cond (n == 0) Allowances (cond (n == 1) Credits (cond (n == 2) Statement
     (cond (n == 3) Account (cond (n == 4) Ccr (cond (n == 5) Sweep Redeem)))))
 
-table_is : rename (λ (r : RouteOf Route). r.value) table ≡ rename numbered (rows root)
-unfolding table scan
+table_is : rename (λ (r : RouteOf Route). r.value) route_table ≡ rename numbered (rows root)
+unfolding route_table scan
 table_is = refl
 
 -- ---- options and texts
@@ -324,8 +324,8 @@ part_before rs pv b a rest is byte slashless =
 
 -- what is found after a part
 data Took (rs : Rows) (pv : Option ℕ) (path : List ℕ) (n : ℕ) : Type 0 where
-  took_all : IsPart path → pv ≡ Some n → Took rs pv path n
-  took_part : (a rest : List ℕ) → IsPart a → path ≡ a ++ 47 ∷ rest → first rs rest ≡ Some n →
+  took_all : IsPathPart path → pv ≡ Some n → Took rs pv path n
+  took_part : (a rest : List ℕ) → IsPathPart a → path ≡ a ++ 47 ∷ rest → first rs rest ≡ Some n →
       Took rs pv path n
 
 took : (rs : Rows) (pv : Option ℕ) (path : List ℕ) (n : ℕ) → IsSlashed rs → IsText path →
@@ -356,12 +356,12 @@ last_whole n b p byte slashless = by_part [] (Some n) b p byte
     ∙ after_param-end [] (Some n) b p tt refl slashless
 
 last_took : (n : ℕ) (path : List ℕ) (m : ℕ) → IsText path → first (of_last n) path ≡ Some m →
-    IsPart path × (n ≡ m)
+    IsPathPart path × (n ≡ m)
 last_took n [] m text h =
     let no : None ≡ Some m = sym (level-nil [] [] [] (Some n) None None tt) ∙ h in absurd (cc)
 last_took n (b ∷ p) m text h = by (has_slash (b ∷ p)) refl
   where
-    by : (t : Bool) → has_slash (b ∷ p) ≡ t → IsPart (b ∷ p) × (n ≡ m)
+    by : (t : Bool) → has_slash (b ∷ p) ≡ t → IsPathPart (b ∷ p) × (n ≡ m)
     by false w = (
       record { some = omega arith; slashless = w },
       value_of n m (sym (last_whole n b p text.0 w) ∙ h),
@@ -425,7 +425,7 @@ leaf_found w n word = ap (first (rows (leaf w n))) (sym (append-nil w))
 -- ---- from what is found to the path
 
 -- the last words of a path of an account
-after_account : (path a rest : List ℕ) (n : ℕ) → IsPart a → IsText rest →
+after_account : (path a rest : List ℕ) (n : ℕ) → IsPathPart a → IsText rest →
     path ≡ codes "/accounts/" ++ (a ++ 47 ∷ rest) →
     first (level of_account [] None None None) rest ≡ Some n → IsPathOf (numbered n) path
 after_account path a rest n part text is h =
@@ -486,7 +486,7 @@ voucher_path : (path rest : List ℕ) (n : ℕ) → IsText rest → path ≡ cod
 voucher_path path rest n text is h =
     by (took (level of_voucher [] None None None) None rest n voucher_slashed text h)
   where
-    last : (a more : List ℕ) → IsPart a → rest ≡ a ++ 47 ∷ more → (i : ℕ) → i < 1 →
+    last : (a more : List ℕ) → IsPathPart a → rest ≡ a ++ 47 ∷ more → (i : ℕ) → i < 1 →
         first (rows (get_or of_voucher i empty_node)) more ≡ Some n → IsPathOf (numbered n) path
     last a more part same zero less f =
         let left : IsText more = text_after (a ++ 47 ∷ []) more
@@ -558,18 +558,19 @@ to_voucher rest = at_prefix root (codes "vouchers/" ++ rest) (omega arith, tt)
     (omega arith) refl
     ∙ at_prefix voucher_node rest (is_text (codes "vouchers/") refl)
 
-part_found : (rs : Rows) (n : ℕ) (a : List ℕ) → IsSlashed rs → IsPart a → IsText a →
+part_found : (rs : Rows) (n : ℕ) (a : List ℕ) → IsSlashed rs → IsPathPart a → IsText a →
     first (of_part rs (Some n)) a ≡ Some n
 part_found rs n [] is part text = absurd (omega (arith, part.some))
 part_found rs n (b ∷ p) is part text = part_whole rs (Some n) b p is text.0 part.slashless
 
-more_found : (rs : Rows) (pv : Option ℕ) (a rest : List ℕ) → IsSlashed rs → IsPart a → IsText a →
+more_found : (rs : Rows) (pv : Option ℕ) (a rest : List ℕ) → IsSlashed rs → IsPathPart a →
+    IsText a →
     first (of_part rs pv) (a ++ 47 ∷ rest) ≡ first rs rest
 more_found rs pv [] rest is part text = absurd (omega (arith, part.some))
 more_found rs pv (b ∷ p) rest is part text =
     part_before rs pv b p rest is text.0 part.slashless
 
-last_found : (n : ℕ) (a : List ℕ) → IsPart a → IsText a → first (of_last n) a ≡ Some n
+last_found : (n : ℕ) (a : List ℕ) → IsPathPart a → IsText a → first (of_last n) a ≡ Some n
 last_found n [] part text = absurd (omega (arith, part.some))
 last_found n (b ∷ p) part text = last_whole n b p text.0 part.slashless
 
@@ -670,8 +671,8 @@ map_key_is f None = refl
 map_key_is f (Some k) = refl
 
 row_is : (path : List ℕ) → route_at path ≡ map_key numbered (first (rows root) path)
-row_is path = map_key_is (λ (r : RouteOf Route). r.value) (first table path)
-    ∙ sym (first-rename (λ (r : RouteOf Route). r.value) table path)
+row_is path = map_key_is (λ (r : RouteOf Route). r.value) (first route_table path)
+    ∙ sym (first-rename (λ (r : RouteOf Route). r.value) route_table path)
     ∙ ap (λ (rs : RowsOf Route). first rs path) table_is
     ∙ first-rename numbered (rows root) path
 

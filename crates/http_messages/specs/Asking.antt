@@ -23,19 +23,19 @@ pub data Asking : Type 0 where
 
 -- what is asked, as it is given
 -- rule: http-path: what a request of HTTP asks
-abbrev pub IsAsked : Asking → HttpAsked → Type 0
-IsAsked (refuses status) (told.Refused given) = refusal_status given ≡ status
-IsAsked (refuses status) (told.Unread fault) = ⊥
-IsAsked (refuses status) (told.Does c) = ⊥
-IsAsked (refuses status) (told.States q) = ⊥
-IsAsked (reads read) (told.Refused given) = ⊥
-IsAsked (reads read) (told.Unread fault) = Fails fault read
-IsAsked (reads read) (told.Does c) = read ≡ Ok c
-IsAsked (reads read) (told.States q) = ⊥
-IsAsked (states asked) (told.Refused given) = ⊥
-IsAsked (states asked) (told.Unread fault) = Fails {Y = StatementAsked} fault (Ok asked)
-IsAsked (states asked) (told.Does c) = ⊥
-IsAsked (states asked) (told.States q) = asked ≡ q
+abbrev pub IsAskingGiven : Asking → HttpAsked → Type 0
+IsAskingGiven (refuses status) (told.Refused given) = refusal_status given ≡ status
+IsAskingGiven (refuses status) (told.Unread fault) = ⊥
+IsAskingGiven (refuses status) (told.Does c) = ⊥
+IsAskingGiven (refuses status) (told.States q) = ⊥
+IsAskingGiven (reads read) (told.Refused given) = ⊥
+IsAskingGiven (reads read) (told.Unread fault) = Fails fault read
+IsAskingGiven (reads read) (told.Does c) = read ≡ Ok c
+IsAskingGiven (reads read) (told.States q) = ⊥
+IsAskingGiven (states asked) (told.Refused given) = ⊥
+IsAskingGiven (states asked) (told.Unread fault) = Fails {Y = StatementAsked} fault (Ok asked)
+IsAskingGiven (states asked) (told.Does c) = ⊥
+IsAskingGiven (states asked) (told.States q) = asked ≡ q
 
 -- ---- parts of a path
 
@@ -45,6 +45,6 @@ part_behind zero target = before_first (λ b. b == 47) target
 part_behind (suc n) target = part_behind n (after_first (λ b. b == 47) target)
 
 -- the number of an account in a path
-abbrev pub account_in : Bytes → Result AccountName WireFault
-account_in target = if is_account_number (part_behind 2 target) then Ok (part_behind 2 target)
+abbrev pub account_in_path : Bytes → Result AccountName WireFault
+account_in_path target = if is_account_number (part_behind 2 target) then Ok (part_behind 2 target)
     else Err (Invalid avp.SubscriptionIdData)

@@ -16,14 +16,14 @@ abbrev pub Fields : Type 0
 Fields = List (List ℕ × List ℕ)
 
 -- names of fields without regard to ASCII case (RFC 9110 section 5.1)
-abbrev pub same_name : Bytes → Bytes → Bool
-same_name a b = bytes_eq (map to_ascii_lowercase a) (map to_ascii_lowercase b)
+abbrev pub same_field_name : Bytes → Bytes → Bool
+same_field_name a b = bytes_eq (map to_ascii_lowercase a) (map to_ascii_lowercase b)
 
 -- the values of the fields of a name
 abbrev pub values_of : Bytes → Fields → List Bytes
 values_of name [] = []
 values_of name (field ∷ fields) =
-    if same_name field.0 name then field.1 ∷ values_of name fields else values_of name fields
+    if same_field_name field.0 name then field.1 ∷ values_of name fields else values_of name fields
 
 -- ---- the length of a body (RFC 9112 section 6)
 
@@ -64,4 +64,4 @@ closes minor fields = minor == 0 || nat_lt 0 (count_by says_close fields)
   where
     says_close : Bytes × Bytes → Bool
     says_close field =
-        same_name field.0 (codes "Connection") && same_name field.1 (codes "close")
+        same_field_name field.0 (codes "Connection") && same_field_name field.1 (codes "close")

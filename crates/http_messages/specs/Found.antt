@@ -12,7 +12,7 @@ FoundWithin n (One span) = IsWithin n span
 FoundWithin n Many = Unit {0}
 
 -- none, one or more of these values
-abbrev pub IsFound : Bytes → List Bytes → Found → Type 0
-IsFound part values None = values ≡ []
-IsFound part values (One span) = values ≡ span_bytes part span ∷ []
-IsFound part values Many = 2 ≤ length values
+abbrev pub AreValuesFound : Bytes → List Bytes → Found → Type 0
+AreValuesFound part values None = values ≡ []
+AreValuesFound part values (One span) = values ≡ span_bytes part span ∷ []
+AreValuesFound part values Many = 2 ≤ length values

@@ -33,12 +33,12 @@ use Rattle.http_messages.specs.Methods.{is_get, is_post, is_put}
 use Rattle.http_messages.specs.Statuses.{bad_request, length_required, payload_too_large}
 use Rattle.http_messages.specs.Statuses.{fields_too_large}
 use Rattle.http_messages.specs.Statuses.{not_implemented, not_found, method_not_allowed}
-use Rattle.http_messages.specs.Fields.{Fields, body_length, closes, same_name}
+use Rattle.http_messages.specs.Fields.{Fields, body_length, closes, same_field_name}
 use Rattle.http_messages.specs.Parts.{Part, whole, too_long, cut}
 use Rattle.http_messages.specs.Requests.{Ask, Next, asks, refused, ended, after_head}
-use Rattle.http_messages.specs.Asking.{Asking, refuses, reads, states, account_in}
+use Rattle.http_messages.specs.Asking.{Asking, refuses, reads, states, account_in_path}
 use Rattle.http_messages.specs.Routes.{about_route, asking_by}
-use Rattle.http_messages.specs.Table.{Rows, added}
+use Rattle.http_messages.specs.Table.{RouteRows, added}
 use Rattle.http_messages.specs.Texts.{closing_line, phrase}
 use Rattle.http_messages.specs.declared.asking.StatementAsked.{StatementAsked}
 use Rattle.http_messages.specs.declared.routes.Route.{Route}
@@ -77,7 +77,8 @@ length_unless (coding ∷ codings) length = Err not_implemented
 
 -- Connection: close
 abbrev pub says_close : Bytes × Bytes → Bool
-says_close field = same_name field.0 (codes "Connection") && same_name field.1 (codes "close")
+says_close field =
+    same_field_name field.0 (codes "Connection") && same_field_name field.1 (codes "close")
 
 -- ---- heads and bodies (`Requests`)
 
@@ -148,15 +149,15 @@ abbrev pub account_command : Bytes → AccountName → Command
 account_command method a = if is_get method then command.Balance a else command.OpenAccount a
 
 abbrev pub account_asked : Bytes → Bytes → Result Command WireFault
-account_asked method target = account_in target >>= λ a. Ok (account_command method a)
+account_asked method target = account_in_path target >>= λ a. Ok (account_command method a)
 
 abbrev pub credit_asked : Bytes → Bytes → Result Command WireFault
 credit_asked target body =
-    account_in target >>= λ a. credit_of a body >>= λ c. Ok (command.Credit c)
+    account_in_path target >>= λ a. credit_of a body >>= λ c. Ok (command.Credit c)
 
 abbrev pub allowance_asked : Bytes → Bytes → Result Command WireFault
 allowance_asked target body =
-    account_in target >>= λ a. allowance_of a body >>= λ x. Ok (command.Allow x)
+    account_in_path target >>= λ a. allowance_of a body >>= λ x. Ok (command.Allow x)
 
 -- rule: http-paths
 abbrev pub redemption_asked : Bytes → Bytes → Result Command WireFault
@@ -167,20 +168,20 @@ redemption_asked target body =
 -- rule: http-paths
 abbrev pub statement_in : Bytes → Result StatementAsked WireFault
 statement_in target =
-    account_in target >>= λ a. month_in target >>= λ m. Ok (record { account = a; month = m })
+    account_in_path target >>= λ a. month_in target >>= λ m. Ok (record { account = a; month = m })
 
 -- ---- the table (`Table`)
 
 -- a pattern that reads well, and conflicts with none of the rows
-abbrev pub fits_read : Result Scan InsertError → Rows → Type 0
+abbrev pub fits_read : Result Scan InsertError → RouteRows → Type 0
 fits_read (Ok scan) rows = nearest scan.pattern rows ≡ None
 fits_read (Err e) rows = ⊥
 
-abbrev pub Fits : Bytes → Rows → Type 0
+abbrev pub Fits : Bytes → RouteRows → Type 0
 Fits text rows = fits_read (parse_route text) rows
 
 -- each of these routes fits among those before it
-abbrev pub AreFitting : List Route → Rows → Type 0
+abbrev pub AreFitting : List Route → RouteRows → Type 0
 AreFitting [] rows = Unit {0}
 AreFitting (route ∷ rest) rows = Fits (about_route route).pattern rows
     × AreFitting rest (added (about_route route).pattern route rows)

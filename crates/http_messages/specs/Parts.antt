@@ -56,7 +56,7 @@ pub record TakesHead (before after : Bytes) (old left : Option Bytes) : Type 0 w
   pub taken : Consumes old left part
 
 -- a head part has at most 8,192 bytes
-abbrev pub IsShort : HeadPart → Type 0
-IsShort (head_part.Whole bytes) = length bytes.items ≤ most_head
-IsShort head_part.TooLong = Unit {0}
-IsShort head_part.Ended = Unit {0}
+abbrev pub IsShortHead : HeadPart → Type 0
+IsShortHead (head_part.Whole bytes) = length bytes.items ≤ most_head
+IsShortHead head_part.TooLong = Unit {0}
+IsShortHead head_part.Ended = Unit {0}

@@ -49,8 +49,8 @@ after_head head rest = after_length (body_length head.method fields) rest
 -- The head part as a whole is a head (RFC 9112 sections 3 and 5), and what follows is its body; one
 -- that is no head is refused.
 -- rule: http-head.next-is-one
-abbrev pub IsNext : Bytes → Next → Type 0
-IsNext stream next = follows (first_part stream) next
+abbrev pub IsNextRequest : Bytes → Next → Type 0
+IsNextRequest stream next = follows (first_part stream) next
   where
     is_head : Bytes → RequestHead → Type 0
     is_head part head = ReadsRequest part head []

@@ -23,28 +23,28 @@ abbrev pub IsHeadIn : Bytes → Option HttpHead → Type 0
 IsHeadIn part (Some told) = (head : RequestHead) × IsHead part head × IsHeadOf head told
 IsHeadIn part None = (head : RequestHead) → ¬ (IsHead part head)
 
-pub record IsRequest (ask : Ask) (told : HttpRequest) : Type 0 where
+pub record IsRequestGiven (ask : Ask) (told : HttpRequest) : Type 0 where
   pub method : told.method ≡ ask.method
   pub target : string_bytes told.target ≡ ask.target
   pub closes : told.closes ≡ ask.closes
   pub body : told.body.items ≡ ask.body
 
-abbrev pub Tells : Next → Taken → Option Bytes → Type 0
-Tells (asks ask rest) (taken.Request told) left = IsRequest ask told × (left ≡ Some rest)
-Tells (asks ask rest) (taken.Refused status) left = ⊥
-Tells (asks ask rest) taken.Ended left = ⊥
-Tells (refused status) (taken.Request told) left = ⊥
-Tells (refused status) (taken.Refused told) left = told ≡ status
-Tells (refused status) taken.Ended left = ⊥
-Tells ended (taken.Request told) left = ⊥
-Tells ended (taken.Refused status) left = ⊥
-Tells ended taken.Ended left = Unit {0}
+abbrev pub IsNextTaken : Next → Taken → Option Bytes → Type 0
+IsNextTaken (asks ask rest) (taken.Request told) left = IsRequestGiven ask told × (left ≡ Some rest)
+IsNextTaken (asks ask rest) (taken.Refused status) left = ⊥
+IsNextTaken (asks ask rest) taken.Ended left = ⊥
+IsNextTaken (refused status) (taken.Request told) left = ⊥
+IsNextTaken (refused status) (taken.Refused told) left = told ≡ status
+IsNextTaken (refused status) taken.Ended left = ⊥
+IsNextTaken ended (taken.Request told) left = ⊥
+IsNextTaken ended (taken.Refused status) left = ⊥
+IsNextTaken ended taken.Ended left = Unit {0}
 
 -- the request that the part begins is given, and what follows it is left
 pub record TellsNext (part : Part) (told : Taken) (left : Option Bytes) : Type 0 where
   pub next : Next
   pub is_next : IsNextOf part next
-  pub tells : Tells next told left
+  pub tells : IsNextTaken next told left
 
 -- a refusal says one of the statuses of answers
 abbrev pub SaysStatus : Taken → Type 0

@@ -18,7 +18,7 @@ use Rattle.wire.specs.Allowances.{allowance_of}
 use Rattle.wire.specs.Credits.{credit_of}
 use Rattle.wire.specs.Redeemed.{redemption_of}
 use Rattle.http_messages.specs.Methods.{is_get, is_post, is_put}
-use Rattle.http_messages.specs.Asking.{Asking, reads, states, account_in, part_behind}
+use Rattle.http_messages.specs.Asking.{Asking, reads, states, account_in_path, part_behind}
 use Rattle.http_messages.specs.declared.asking.StatementAsked.{StatementAsked}
 use Rattle.http_messages.specs.declared.routes.Route.{Route}
 use Rattle.http_messages.specs.declared.routes.Route.TheVariants.{Ccr, Account, Statement, Credits}
@@ -55,22 +55,22 @@ about_route Sweep = record { pattern = codes "/sweep"; has = is_post }
 -- a part of a path: it isn't empty and has no slash
 -- rule: http-path.part: a path has a row of the table exactly where it is one of that row's, in
 --   words
-pub record IsPart (part : Bytes) : Type 0 where
+pub record IsPathPart (part : Bytes) : Type 0 where
   pub some : 0 < length part
   pub slashless : has_slash part ≡ false
 
 -- a path with one part between two texts
 pub record HasPart (front back path : Bytes) : Type 0 where
   pub part : Bytes
-  pub is_part : IsPart part
+  pub is_part : IsPathPart part
   pub is : path ≡ front ++ (part ++ back)
 
 -- the path of a statement, with its account and its month
 pub record IsStatementPath (path : Bytes) : Type 0 where
   pub account : Bytes
-  pub is_account : IsPart account
+  pub is_account : IsPathPart account
   pub month : Bytes
-  pub is_month : IsPart month
+  pub is_month : IsPathPart month
   pub is : path ≡ codes "/accounts/" ++ (account ++ (codes "/statement/" ++ month))
 
 -- the paths of a route
@@ -91,18 +91,18 @@ IsPathOf Sweep path = path ≡ codes "/sweep"
 -- rule: http-paths: faults in the path before faults in the body
 abbrev pub asking_by : Route → Bytes → Bytes → Bytes → Asking
 asking_by Ccr method target body = reads (command_of body)
-asking_by Account method target body = reads (account_in target >>= λ a.
+asking_by Account method target body = reads (account_in_path target >>= λ a.
     Ok (if is_get method then command.Balance a else command.OpenAccount a))
-asking_by Statement method target body = stated (account_in target >>= λ a.
+asking_by Statement method target body = stated (account_in_path target >>= λ a.
     or_fault (Invalid avp.Month) (month_of (part_behind 4 target)) >>= λ m.
     Ok (record { account = a; month = m }))
   where
     stated : Result StatementAsked WireFault → Asking
     stated (Ok q) = states q
     stated (Err fault) = reads (Err fault)
-asking_by Credits method target body = reads (account_in target >>= λ a.
+asking_by Credits method target body = reads (account_in_path target >>= λ a.
     credit_of a body >>= λ c. Ok (command.Credit c))
-asking_by Allowances method target body = reads (account_in target >>= λ a.
+asking_by Allowances method target body = reads (account_in_path target >>= λ a.
     allowance_of a body >>= λ x. Ok (command.Allow x))
 asking_by Redeem method target body = reads (code >>= λ c.
     redemption_of c body >>= λ r. Ok (command.Redeem r))

@@ -5,7 +5,7 @@ use Rattle.std.specs.List.{ends_with}
 use Rattle.texts.specs.StreamWords.{Bytes}
 use Rattle.http_messages.specs.Words.{most_head}
 use Rattle.http_messages.specs.Parts.{Part, whole, too_long, cut, first_part}
-use Rattle.http_messages.specs.Requests.{Next, IsNext}
+use Rattle.http_messages.specs.Requests.{Next, IsNextRequest}
 
 -- the bytes end with an empty line: CR LF CR LF
 abbrev pub ends_head : Bytes → Bool
@@ -43,4 +43,4 @@ pub record AreShortest : Type 0 where
 -- a stream has one next
 -- rule: http-head.next-is-one: what comes next in a stream is one thing
 abbrev pub NextIsOne : Type 0
-NextIsOne = (stream : Bytes) (a b : Next) → IsNext stream a → IsNext stream b → a ≡ b
+NextIsOne = (stream : Bytes) (a b : Next) → IsNextRequest stream a → IsNextRequest stream b → a ≡ b

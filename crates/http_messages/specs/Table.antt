@@ -17,32 +17,32 @@ use Rattle.http_messages.specs.Routes.{every_route, about_route, asking_by, IsPa
 use Rattle.http_messages.specs.Statuses.{not_found, method_not_allowed}
 use Rattle.http_messages.specs.declared.routes.Route.{Route}
 
-abbrev pub Rows : Type 0
-Rows = RowsOf (RouteOf Route)
+abbrev pub RouteRows : Type 0
+RouteRows = RowsOf (RouteOf Route)
 
 -- rows with one more, by what its pattern reads as
-abbrev pub added_read : Result Scan InsertError → Route → Rows → Rows
+abbrev pub added_read : Result Scan InsertError → Route → RouteRows → RouteRows
 added_read (Ok scan) value rows = placed (scan.pattern, route_from scan value) rows
 added_read (Err e) value rows = rows
 
-abbrev pub added : Bytes → Route → Rows → Rows
+abbrev pub added : Bytes → Route → RouteRows → RouteRows
 added text value rows = added_read (parse_route text) value rows
 
 -- rows with one more for each of these routes
-abbrev pub with_routes : List Route → Rows → Rows
+abbrev pub with_routes : List Route → RouteRows → RouteRows
 with_routes [] rows = rows
 with_routes (route ∷ rest) rows =
     with_routes rest (added (about_route route).pattern route rows)
 
 -- the table has a row for each route
 -- rule: http-path
-unfoldable pub table : Rows
-table = with_routes every_route []
+unfoldable pub route_table : RouteRows
+route_table = with_routes every_route []
 
 -- the route of a path
 -- rule: http-path.part
 abbrev pub route_at : Bytes → Option Route
-route_at path = option_map (λ r. r.value) (first table path)
+route_at path = option_map (λ r. r.value) (first route_table path)
 
 -- a path of bytes has a route exactly where it is, in words, one of that route's
 -- rule: http-path.part

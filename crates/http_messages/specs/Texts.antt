@@ -52,21 +52,21 @@ abbrev pub unable : Bytes
 unable = codes "{\"Result-Code\":5012}"
 
 -- a text is written, or that there is no memory
-abbrev pub TellsText : Bool → StatusCode → Bytes → (Bytes → Type 0) → Type 0
-TellsText closes status body Writes = Writes (response_of Text status closes body)
+abbrev pub AnswersText : Bool → StatusCode → Bytes → (Bytes → Type 0) → Type 0
+AnswersText closes status body Writes = Writes (response_of Text status closes body)
     ⊎ Writes (response service_unavailable closes unable)
 
 -- a request that isn't read is answered its fault, or that there is no memory: not so what is no
 -- JSON object
 -- rule: http-refusals
-abbrev pub TellsFault : Bool → WireFault → (Bytes → Type 0) → Type 0
-TellsFault closes fault Writes =
+abbrev pub AnswersFault : Bool → WireFault → (Bytes → Type 0) → Type 0
+AnswersFault closes fault Writes =
     ((fault ≡ Memory → ⊥) × Writes (response bad_request closes (fault_text fault)))
     ⊎ ((fault ≡ NotRequest → ⊥) × Writes (response service_unavailable closes unable))
 
 -- a beginning of a text is written
-abbrev pub Begins : Option Bytes → Option Bytes → Bytes → Type 0
-Begins old new text = (n : ℕ) × Appends old new (take n text)
+abbrev pub AppendsBeginning : Option Bytes → Option Bytes → Bytes → Type 0
+AppendsBeginning old new text = (n : ℕ) × Appends old new (take n text)
 
 -- ---- what is written
 
@@ -76,7 +76,7 @@ Begins old new text = (n : ℕ) × Appends old new (take n text)
 pub record WritesText {A : Type 0} (text : Bytes) (old new : Option Bytes)
     (result : Result A StreamFault) : Type 0 where
   pub ok : OnOk result (Appends old new text)
-  pub err : OnErr result (Begins old new text)
+  pub err : OnErr result (AppendsBeginning old new text)
   pub fault : OnErr result (result ≡ Err Write)
 
 -- so it is of what this writes
@@ -84,5 +84,5 @@ pub record WritesText {A : Type 0} (text : Bytes) (old new : Option Bytes)
 pub record WritesTold {A : Type 0} (tells : (Bytes → Type 0) → Type 0) (old new : Option Bytes)
     (result : Result A StreamFault) : Type 0 where
   pub ok : OnOk result (tells (Appends old new))
-  pub err : OnErr result (tells (Begins old new))
+  pub err : OnErr result (tells (AppendsBeginning old new))
   pub fault : OnErr result (result ≡ Err Write)

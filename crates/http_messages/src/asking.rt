@@ -6,9 +6,9 @@ ghost use Rattle.commands.specs.declared.command.Command.{Command};
 ghost use Rattle.json_fields.specs.Gives.{Gives, Says};
 ghost use Rattle.json_fields.specs.declared.fault.WireFault.{WireFault};
 ghost use Rattle.http_messages.specs.RequestsGiven.{seen};
-ghost use Rattle.http_messages.specs.Asking.{account_in};
+ghost use Rattle.http_messages.specs.Asking.{account_in_path};
 ghost use Rattle.http_messages.specs.MessageParts.{is_slash, second_part, fourth_part};
-ghost use Rattle.http_messages.specs.Asking.{reads, IsAsked};
+ghost use Rattle.http_messages.specs.Asking.{reads, IsAskingGiven};
 ghost use Rattle.http_messages.specs.MessageParts.{code_in};
 ghost use Rattle.http_messages.specs.MessageParts.{month_in};
 ghost use Rattle.http_messages.specs.MessageParts.{stated};
@@ -16,7 +16,7 @@ ghost use Rattle.http_messages.specs.MessageParts.{account_asked, account_comman
 ghost use Rattle.http_messages.specs.Routes.{asking_by};
 ghost use Rattle.http_messages.specs.MessageParts.{credit_asked, redemption_asked};
 ghost use Rattle.http_messages.specs.MessageParts.{statement_in};
-ghost use Rattle.http_messages.specs.Table.{table, asked_of};
+ghost use Rattle.http_messages.specs.Table.{route_table, asked_of};
 ghost use Rattle.http_messages.specs.declared.asking.StatementAsked.{StatementAsked};
 
 use crate::refusal::HttpRefusal;
@@ -88,7 +88,7 @@ fn fourth_part(target: &str) -> &str
 
 /// The number of the account that a path names.
 fn account_in(alloc: Global, target: &str) -> Result<AccountNumber, WireFault>
-    ensures { Gives (λ a. a) result (account_in target.now) }
+    ensures { Gives (λ a. a) result (account_in_path target.now) }
 {
     let number = AccountNumber::new(alloc, second_part(target))?;
     number.ok_or(WireFault::Invalid(Avp::SubscriptionIdData))
@@ -181,7 +181,7 @@ fn read_statement(alloc: Global, target: &str) -> Result<StatementAsked, WireFau
 /// A command that is read, or its fault.
 fn told(read: Result<Command, WireFault>) -> HttpAsked
     ensures { (reading : Result Command WireFault) → Gives (λ c. c) read reading →
-        IsAsked (reads reading) result }
+        IsAskingGiven (reads reading) result }
 {
     match read {
         Ok(command) => HttpAsked::Does(command),
@@ -193,7 +193,7 @@ fn told(read: Result<Command, WireFault>) -> HttpAsked
 #[tactic(auto, using(crate::proofs::StatedLemmas::stated_is, crate::proofs::StatedLemmas::unstated_is))]
 fn told_statement(read: Result<StatementAsked, WireFault>) -> HttpAsked
     ensures { (reading : Result StatementAsked WireFault) → Gives (λ q. q) read reading →
-        IsAsked (stated reading) result }
+        IsAskingGiven (stated reading) result }
 {
     match read {
         Ok(statement) => HttpAsked::States(statement),
@@ -210,7 +210,7 @@ fn asked_by(
     body: &[u8],
     scratch: &mut Scratch,
 ) -> HttpAsked
-    ensures { IsAsked (asking_by route method.now target.now body.now) result }
+    ensures { IsAskingGiven (asking_by route method.now target.now body.now) result }
 {
     match route {
         Route::Ccr => told(read_request(alloc, body, scratch)),
@@ -232,8 +232,8 @@ pub fn ask(
     request: &HttpRequest,
     scratch: &mut Scratch,
 ) -> HttpAsked
-    requires { router.now ≡ table }
-    ensures { IsAsked (asked_of (seen request.now)) result }
+    requires { router.now ≡ route_table }
+    ensures { IsAskingGiven (asked_of (seen request.now)) result }
 {
     let Some(route) = route_of(router, request.target.as_str()) else {
         return HttpAsked::Refused(HttpRefusal::NotFound);

@@ -6,11 +6,11 @@ ghost use Rattle.std.specs.List.{list_all};
 ghost use Rattle.std.specs.Char.{is_ascii_digit};
 ghost use Rattle.std.specs.Str.Parse.{digits_value};
 ghost use Rattle.httparse.specs.Spans.{IsHeaderWithin, header_bytes};
-ghost use Rattle.http_messages.specs.Fields.{same_name, values_of};
+ghost use Rattle.http_messages.specs.Fields.{same_field_name, values_of};
 ghost use Rattle.http_messages.specs.MessageParts.{said_number, said_length};
 ghost use Rattle.http_messages.specs.Fields.{body_length};
 ghost use Rattle.http_messages.specs.MessageParts.{length_without, length_by, says_close};
-ghost use Rattle.http_messages.specs.Found.{IsFound, FoundWithin};
+ghost use Rattle.http_messages.specs.Found.{AreValuesFound, FoundWithin};
 
 use http::{Method, StatusCode};
 use httparse::spans::{HeaderSpan, Span};
@@ -31,7 +31,7 @@ pub(crate) enum Found {
 
 /// Whether two names are the same without regard to ASCII case.
 fn same_name(a: &[u8], b: &[u8]) -> bool
-    ensures { result ≡ same_name a.now b.now }
+    ensures { result ≡ same_field_name a.now b.now }
 {
     a.eq_ignore_ascii_case(b)
 }
@@ -40,8 +40,8 @@ fn same_name(a: &[u8], b: &[u8]) -> bool
 fn with_field(found: Found, part: &[u8], field: &HeaderSpan, name: &str) -> Found
     requires { IsHeaderWithin (length part.now) field.now }
     ensures within { FoundWithin (length part.now) found → FoundWithin (length part.now) result }
-    ensures found { (values : List (List ℕ)) → IsFound part.now values found
-        → IsFound part.now
+    ensures found { (values : List (List ℕ)) → AreValuesFound part.now values found
+        → AreValuesFound part.now
         (values ++ values_of name.now (header_bytes part.now field.now ∷ [])) result }
 {
     if !same_name(field.name.of(part), name.as_bytes()) {
@@ -58,7 +58,7 @@ fn with_field(found: Found, part: &[u8], field: &HeaderSpan, name: &str) -> Foun
 fn find_field(part: &[u8], fields: &[HeaderSpan], name: &str) -> Found
     requires { All (IsHeaderWithin (length part.now)) fields.now }
     ensures within { FoundWithin (length part.now) result }
-    ensures found { IsFound part.now
+    ensures found { AreValuesFound part.now
         (values_of name.now (map (header_bytes part.now) fields.now)) result }
 {
     let mut found = Found::None;
@@ -126,7 +126,7 @@ fn length_without(method: &Method) -> Result<usize, StatusCode>
 /// The length by the values of Content-Length.
 fn length_by(method: &Method, part: &[u8], found: Found) -> Result<usize, StatusCode>
     requires { FoundWithin (length part.now) found }
-    ensures { (values : List (List ℕ)) → IsFound part.now values found →
+    ensures { (values : List (List ℕ)) → AreValuesFound part.now values found →
         result ≡ length_by method.now values }
 {
     match found {

@@ -3,7 +3,7 @@
 ghost use Rattle.std.specs.Prelude.{◌≡◌, ◌≢◌, ◌≤◌, List, ℕ, length, take, drop, true, false, Some};
 ghost use Rattle.std.specs.Prelude.{IfOk, IsErrOf, IfSome, IfNone};
 ghost use Rattle.std.specs.Io.KnownBytes.{Keeps, IsAtEnd};
-ghost use Rattle.http_messages.specs.Parts.{first_part, whole, IsHeadPart, IsShort, TakesHead};
+ghost use Rattle.http_messages.specs.Parts.{first_part, whole, IsHeadPart, IsShortHead, TakesHead};
 
 use memchr::memmem;
 use std::io::{BufRead, ErrorKind};
@@ -107,7 +107,7 @@ fn take_whole<R: BufRead>(reader: &mut R, part: &mut Vec<u8>) -> Result<Shown, S
 pub fn next_head_part<R: BufRead>(reader: &mut R, room: Vec<u8>) -> Result<HeadPart, StreamFault>
     ensures part { IfOk result (λ part. IfSome (R.remaining reader.old)
         (λ stream. IsHeadPart (first_part stream) part (R.remaining reader.new))) }
-    ensures short { IfOk result IsShort }
+    ensures short { IfOk result IsShortHead }
     ensures fault { IsErrOf result StreamFault.Write → ⊥ }
 {
     let mut part = room;

@@ -2,9 +2,9 @@
 
 ghost use Rattle.std.specs.Prelude.{◌≤◌, length, IfOk, IsErrOf, IfSome};
 ghost use Rattle.httparse.specs.Grammar.{RequestHead};
-ghost use Rattle.http_messages.specs.Parts.{Part, whole, first_part, IsHeadPart, IsShort};
+ghost use Rattle.http_messages.specs.Parts.{Part, whole, first_part, IsHeadPart, IsShortHead};
 ghost use Rattle.http_messages.specs.Requests.{after_head};
-ghost use Rattle.http_messages.specs.RequestsGiven.{TellsNext, IsHeadOf, Tells, SaysStatus};
+ghost use Rattle.http_messages.specs.RequestsGiven.{TellsNext, IsHeadOf, IsNextTaken, SaysStatus};
 ghost use Rattle.http_messages.specs.Words.{most_head};
 
 use crate::buffers::Buffers;
@@ -66,7 +66,7 @@ fn after_part<R: BufRead>(
     part: HeadPart,
     buffers: &mut Buffers,
 ) -> Result<Taken, StreamFault>
-    requires short { IsShort part }
+    requires short { IsShortHead part }
     ensures next { IfOk result (λ taken. (begun : Part) → IsHeadPart begun part
         (R.remaining reader.old) → TellsNext begun taken (R.remaining reader.new)) }
     ensures status { IfOk result SaysStatus }
@@ -113,7 +113,7 @@ fn with_body<R: BufRead>(
 ) -> Result<Taken, StreamFault>
     ensures tells { IfOk result (λ taken. IfSome (R.remaining reader.old)
         (λ rest. (said : RequestHead) → IsHeadOf said head →
-        Tells (after_head said rest) taken (R.remaining reader.new))) }
+        IsNextTaken (after_head said rest) taken (R.remaining reader.new))) }
     ensures status { IfOk result (λ taken. (said : RequestHead) → IsHeadOf said head →
         SaysStatus taken) }
     ensures fault { IsErrOf result StreamFault.Write → ⊥ }

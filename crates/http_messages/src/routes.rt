@@ -4,7 +4,7 @@ ghost use Rattle.std.specs.Prelude.{◌≡◌, IfOk, OnOk, OnErr};
 ghost use Rattle.matchit.specs.declared.InsertError.TheVariants.{OutOfMemory};
 ghost use Rattle.http_messages.specs.Methods.{is_get, is_post, is_put};
 ghost use Rattle.http_messages.specs.Routes.{about_route};
-ghost use Rattle.http_messages.specs.Table.{with_routes, table};
+ghost use Rattle.http_messages.specs.Table.{with_routes, route_table};
 ghost use Rattle.http_messages.specs.MessageParts.{Fits, AreFitting};
 ghost use Rattle.http_messages.specs.Table.{added};
 ghost use Rattle.http_messages.specs.Table.{route_at, route_of};
@@ -136,9 +136,9 @@ fn add_each(router: &mut Router<Route>, routes: &[Route]) -> Result<(), StreamFa
 ///
 /// # Errors
 /// `Memory` where a growth was refused.
-#[tactic(auto, unfolding(crate::specs::Table::table))]
+#[tactic(auto, unfolding(crate::specs::Table::route_table))]
 pub fn known_router(alloc: Global) -> Result<Router<Route>, StreamFault>
-    ensures table { IfOk result (λ r. r ≡ table) }
+    ensures table { IfOk result (λ r. r ≡ route_table) }
     ensures fault { OnErr result (result ≡ Err StreamFault.Memory) }
 {
     let mut router = Router::new(alloc);
@@ -148,7 +148,7 @@ pub fn known_router(alloc: Global) -> Result<Router<Route>, StreamFault>
 
 /// The route of a path.
 fn row_of(router: &Router<Route>, path: &str) -> Option<Route>
-    requires { router.now ≡ table }
+    requires { router.now ≡ route_table }
     ensures { result ≡ route_at path.now }
 {
     match router.at(path) {
@@ -166,7 +166,7 @@ fn has_query(target: &str) -> bool
 
 /// What a target names: a path without a query that has a route in the table.
 pub(crate) fn route_of(router: &Router<Route>, target: &str) -> Option<Route>
-    requires { router.now ≡ table }
+    requires { router.now ≡ route_table }
     ensures { result ≡ route_of target.now }
 {
     if has_query(target) {

@@ -10,7 +10,7 @@ ghost use Rattle.wire.specs.Spelled.{fault_text};
 ghost use Rattle.http_messages.specs.declared.text.Media.TheVariants.{Text};
 ghost use Rattle.http_messages.specs.Texts.{phrase, closing_line, response};
 ghost use Rattle.http_messages.specs.MessageParts.{type_and_length};
-ghost use Rattle.http_messages.specs.Texts.{unable, Begins, TellsText, TellsFault};
+ghost use Rattle.http_messages.specs.Texts.{unable, AppendsBeginning, AnswersText, AnswersFault};
 ghost use Rattle.http_messages.specs.MessageParts.{text_head};
 ghost use Rattle.http_messages.specs.Texts.{WritesText, WritesTold};
 
@@ -118,7 +118,7 @@ fn after_length(closes: bool) -> &'static [u8]
 pub fn tell_json<W: Write>(writer: &mut W, closes: bool, body: &[u8]) -> Result<(), StreamFault>
     ensures ok { OnOk result (Appends (W.contents writer.old) (W.contents writer.new)
         (response ok closes body.now)) }
-    ensures err { OnErr result (Begins (W.contents writer.old) (W.contents writer.new)
+    ensures err { OnErr result (AppendsBeginning (W.contents writer.old) (W.contents writer.new)
         (response ok closes body.now)) }
     ensures fault { OnErr result (result ≡ Err StreamFault.Write) }
 {
@@ -184,7 +184,7 @@ pub fn tell_text<W: Write>(
     closes: bool,
     body: &[u8],
 ) -> Result<(), StreamFault>
-    ensures { WritesTold (TellsText closes status body.now) (W.contents writer.old)
+    ensures { WritesTold (AnswersText closes status body.now) (W.contents writer.old)
         (W.contents writer.new) result }
 {
     match text_head(alloc, status, closes, body.len()) {
@@ -270,7 +270,7 @@ pub fn tell_fault<W: Write>(
     fault: WireFault,
     closes: bool,
 ) -> Result<(), StreamFault>
-    ensures { WritesTold (TellsFault closes fault) (W.contents writer.old)
+    ensures { WritesTold (AnswersFault closes fault) (W.contents writer.old)
         (W.contents writer.new) result }
 {
     match fault {
@@ -287,7 +287,7 @@ fn tell_member_fault<W: Write>(
     closes: bool,
 ) -> Result<(), StreamFault>
     requires { fault ≡ NotRequest → ⊥ }
-    ensures { WritesTold (TellsFault closes fault) (W.contents writer.old)
+    ensures { WritesTold (AnswersFault closes fault) (W.contents writer.old)
         (W.contents writer.new) result }
 {
     match fault_response(alloc, fault, closes) {

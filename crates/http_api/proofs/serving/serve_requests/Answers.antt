@@ -3,7 +3,7 @@ use Rattle.std.proofs.Common.{IfSome, inl}
 use Rattle.std.specs.Prelude.{IsErrAnd}
 use Rattle.std.specs.Io.Buffered.{reader_remaining}
 use Rattle.charging.specs.Continued.{GoesOn}
-use Rattle.http_messages.specs.Asking.{Asking, IsAsked}
+use Rattle.http_messages.specs.Asking.{Asking, IsAskingGiven}
 use Rattle.keepers.specs.Tables.{Tables}
 use Rattle.http_api.specs.Replies.{Replies}
 use Rattle.http_api.proofs.Continuing.{continued_none, continued_more, leaves_more}
@@ -47,7 +47,7 @@ one_more : (g : _) (c : After-answer_request g) (Writes : List ℕ → Type 0) (
     (reader_remaining g.R.Read.remaining c.loop-served.reader) c.args.clock.now c.loop-served.clock
     (g.W.Write.contents c.args.writer.now) (g.W.Write.contents c.loop-served.writer)
     (g.K.Keeper.seen c.args.keeper.now).tables mid) →
-    ((asking : Asking) → IsAsked asking c.in-Some.heard.asked →
+    ((asking : Asking) → IsAskingGiven asking c.in-Some.heard.asked →
     Replies g.C.Clock.gives c.args.shelf.now asking (c.left_after-left.result == 0)
     c.loop-served.clock c.answer_request.new.clock Writes mid new) →
     IfSome (reader_remaining g.R.Read.remaining c.args.reader.now) (λ stream.

@@ -6,7 +6,7 @@ use Rattle.commands.specs.declared.answer.Refusal.TheVariants.{AccountUnknown}
 use Rattle.keepers.specs.Tables.{Tables}
 use Rattle.http_messages.specs.Statuses.{service_unavailable}
 use Rattle.http_messages.specs.Asking.{states}
-use Rattle.http_messages.specs.Texts.{Begins, response, unable}
+use Rattle.http_messages.specs.Texts.{AppendsBeginning, response, unable}
 use Rattle.http_api.specs.Replies.{Replies}
 use Rattle.http_api.specs.Told.{TellsAnswer, TellsCharges}
 use Rattle.http_api.proofs.RequestReplies.{ok_gives, err_gives}
@@ -104,7 +104,7 @@ returns-in-Some-state-clause-shown g c = λ h held before.
       err = subst (λ (x : Tables). OnErr c.tell_statement.result (Replies g.C.Clock.gives
           c.args.shelf.now (states c.args.asked.now) c.args.following.closes c.args.clock.now
           c.now.new.self
-          (Begins (g.W.Write.contents c.args.writer.now)
+          (AppendsBeginning (g.W.Write.contents c.args.writer.now)
           (g.W.Write.contents c.tell_statement.new.writer)) x
           (g.K.Keeper.seen c.account_state.new.keeper).tables)) is
           (err_gives c.tell_statement.result (told _) (c.tell_statement.ensures.err h));
