@@ -7,7 +7,7 @@ ghost use Rattle.commands.specs.declared.answer.Refusal.TheVariants.{AccountUnkn
 ghost use Rattle.ledger.specs.ChargeColumns.{ChargeColumns};
 ghost use Rattle.keepers.specs.Rows.{AreCharges};
 ghost use Rattle.keepers.specs.Tables.{Tables};
-ghost use Rattle.statements.specs.Charges.{Asks};
+ghost use Rattle.statements.specs.Charges.{AsksSource};
 ghost use Rattle.statements.specs.Texts.{statement_text};
 ghost use Rattle.http_messages.specs.Asking.{states};
 ghost use Rattle.http_messages.specs.Texts.{AppendsBeginning};
@@ -114,7 +114,7 @@ fn statement_of<K: ChargeSource>(
         text.items ≡ statement_text shelf.now.first asked.now.account asked.now.month
         state.now.moment
         rows state.now.buckets.items) }
-    ensures asks { Asks (K.seen keeper.old) (K.seen keeper.new)
+    ensures asks { AsksSource (K.seen keeper.old) (K.seen keeper.new)
         result }
 {
     let mut text = Vec::new(alloc);

@@ -23,8 +23,8 @@ use Rattle.voucher_rules.specs.Adding.{addition}
 use Rattle.voucher_rules.specs.declared.adding.Addition.{Addition}
 use Rattle.voucher_rules.specs.declared.adding.Addition.TheVariants.{New, Present, Conflicting}
 use Rattle.voucher_rules.specs.declared.voucher.Voucher.{Voucher}
-use Rattle.operations.specs.Counts.{counted, counted_as, counts_line, no_counts, total}
-use Rattle.operations.specs.Imports.{Imports, TellsImport, IsAdded, IsImportBegun}
+use Rattle.operations.specs.Counts.{counted, counted_as, counts_line, no_counts, total_count}
+use Rattle.operations.specs.Imports.{Imports, TellsImport, IsVoucherAdded, IsImportBegun}
 use Rattle.operations.specs.Imports.{IsImported, addition_at, additions, counted_after}
 use Rattle.operations.specs.Imports.{counts_after}
 use Rattle.operations.specs.Written.{WritesBeginning}
@@ -65,7 +65,7 @@ ImportsSoFar b ds old new counts = (list : List Accepted) → IsInTime list → 
 
 so-far-more : (b : Shelf) (list : List Accepted) (ds : List DatedCommand) (d : DatedCommand)
     (old mid new : Tables) (n : Counts) (x : Addition) → IsSoFar b list ds old mid n →
-    IsAdded b (after_commands b list ds) d mid new x →
+    IsVoucherAdded b (after_commands b list ds) d mid new x →
     IsSoFar b list (ds ++ d ∷ []) old new (counted_as x n)
 so-far-more b list ds d old mid new n x so added = record {
   counted = added.counts n
@@ -82,7 +82,7 @@ so-far-more b list ds d old mid new n x so added = record {
 pub one-more : (b : Shelf) (t : ℕ) (list : List Accepted) (rows : List VoucherAddition)
     (row : VoucherAddition) (old mid new : Tables) (n m : Counts) (x : Addition) →
     IsSoFar b list (additions t rows) old mid n →
-    IsAdded b (after_commands b list (additions t rows)) (addition_at t row) mid new x →
+    IsVoucherAdded b (after_commands b list (additions t rows)) (addition_at t row) mid new x →
     m ≡ counted_as x n → IsSoFar b list (additions t (rows ++ row ∷ [])) old new m
 one-more b t list rows row old mid new n m x so added e =
     subst (λ (k : Counts). IsSoFar b list (additions t (rows ++ row ∷ [])) old new k) (sym e)
@@ -207,7 +207,7 @@ pub added : (b : Shelf) (t : ℕ) (row : VoucherAddition) (old mid new : Tables)
     ((list : List Accepted) → IsInTime list → AreTables b list mid →
     (given : Answer) × IsServed b list (AddVoucher row) (moment_of list t) mid new given) →
     (list : List Accepted) → IsInTime list → AreTables b list old →
-    IsAdded b list (addition_at t row) old new x
+    IsVoucherAdded b list (addition_at t row) old new x
 added b t row old mid new found x stands is same serves = λ list time tables.
     let there : AreTables b list mid = subst (AreTables b list) (sym same) tables in
     let (given, served) = serves list time there in
@@ -229,5 +229,5 @@ added b t row old mid new found x stands is same serves = λ list time tables.
 
 -- ---- counts
 
-pub one-counted : (x : Addition) (n : Counts) → total (counted_as x n) ≡ total n + 1
+pub one-counted : (x : Addition) (n : Counts) → total_count (counted_as x n) ≡ total_count n + 1
 one-counted x n = grind arith

@@ -10,15 +10,15 @@ use Rattle.keepers.specs.Seen.{Seen}
 use Rattle.keepers.specs.declared.fault.StoreFault.{StoreFault}
 use Rattle.keepers.specs.declared.fault.StoreFault.TheVariants.{Store as StoreFailed}
 use Rattle.charging.specs.Promise.{Carries}
-use Rattle.operations.specs.Faults.{keeper_fault, store_fault}
+use Rattle.operations.specs.Faults.{office_store_fault, store_fault}
 use Rattle.operations.specs.declared.fault.OfficeFault.{OfficeFault}
 use Rattle.operations.specs.declared.fault.OfficeFault.TheVariants.{Store, Write}
 
 -- what a call ended with is the keeper's fault, or none of it
 pub fault_is : {A : Type 0} (result : Result A OfficeFault) (given fault : OfficeFault) →
-    result ≡ Err given → given ≡ fault → store_fault fault ≡ keeper_fault result
+    result ≡ Err given → given ≡ fault → store_fault fault ≡ office_store_fault result
 fault_is {A = A} result given fault is told =
-    sym (ap (λ (r : Result A OfficeFault). keeper_fault r)
+    sym (ap (λ (r : Result A OfficeFault). office_store_fault r)
     (is ∙ ap (λ (f : OfficeFault). Err f) told))
 
 -- ---- by what the one call of the keeper gave
@@ -52,18 +52,19 @@ module _ (old new : Seen) (clean : new.clean → old.clean) (honest : new.honest
 module _ {A : Type 0} (old new : Seen) where
   -- what ends well leaves a keeper that can be asked
   pub carried-stands : (result : Result A OfficeFault) →
-      IfNone (keeper_fault result) new.clean → OnOk result new.clean
+      IfNone (office_store_fault result) new.clean → OnOk result new.clean
   carried-stands (Ok x) there = there
   carried-stands (Err fault) there = tt
 
   -- and so does a fault of the writer
   pub carried-asked : (result : Result A OfficeFault) →
-      IfNone (keeper_fault result) new.clean →
+      IfNone (office_store_fault result) new.clean →
       (fault : StreamFault) → result ≡ Err (Write fault) → new.clean
   carried-asked result there fault is =
-      subst (λ (r : Result A OfficeFault). IfNone (keeper_fault r) new.clean) is there
+      subst (λ (r : Result A OfficeFault). IfNone (office_store_fault r) new.clean) is there
 
   -- a failure of the store has a cause
-  pub carried-cause : (result : Result A OfficeFault) → Carries old new (keeper_fault result) →
+  pub carried-cause : (result : Result A OfficeFault) →
+      Carries old new (office_store_fault result) →
       result ≡ Err (Store StoreFailed) → min (old.failed + 1) max_failures ≤ new.failed
-  carried-cause result h is = h.cause (ap (λ (r : Result A OfficeFault). keeper_fault r) is)
+  carried-cause result h is = h.cause (ap (λ (r : Result A OfficeFault). office_store_fault r) is)

@@ -18,16 +18,15 @@ use Rattle.charging.specs.States.{IsState, IsStateAt, TellsState}
 use Rattle.charging.specs.declared.balances.AccountState.{AccountState}
 use Rattle.keepers.specs.Rows.{AreCharges}
 use Rattle.keepers.proofs.Numbered.{charges_rise}
-use Rattle.statements.specs.Charges.{Asks, Writes, WritesSome}
-use Rattle.statements.specs.Texts.{export_text, statement_text}
-use Rattle.statements.specs.Texts as month
+use Rattle.statements.specs.Charges.{AsksSource, WritesAll, WritesSome}
+use Rattle.statements.specs.Texts.{WritesBeginning, export_text, statement_text}
 use Rattle.statements.specs.declared.fault.StatementFault.{StatementFault}
 use Rattle.statements.specs.declared.fault.StatementFault.TheVariants as statement
-use Rattle.operations.specs.Months.{BeginsMonth, IsMonthTold, OnlyReads, PrintsMonth, Tells}
+use Rattle.operations.specs.Months.{BeginsMonth, IsMonthTold, OnlyReadsMonth, PrintsMonth}
+use Rattle.operations.specs.Months.{WritesAndEnds}
 use Rattle.operations.specs.Months.{ledger_text, month_ended}
-use Rattle.operations.specs.Months.{month_status, month_text, rows_text, unknown_line}
+use Rattle.operations.specs.Months.{month_status, month_text, month_rows_text, unknown_line}
 use Rattle.operations.specs.Printed.{IsEnded}
-use Rattle.operations.specs.Written.{WritesBeginning}
 use Rattle.operations.specs.declared.fault.OfficeFault.{OfficeFault}
 use Rattle.operations.specs.declared.fault.OfficeFault.TheVariants.{Store}
 use Rattle.operations.specs.declared.stating.MonthQuery.{MonthQuery}
@@ -46,7 +45,7 @@ are_charges b a list tables h =
 -- one form of the text or the other
 pub as_csv : (b : Shelf) (first : Book) (q : MonthQuery) (t : ℕ) (buckets : List BucketRow)
     (charges : List ChargeColumns) → first ≡ b.first → q.csv ≡ true →
-    export_text first q.month charges ≡ rows_text b q t charges buckets
+    export_text first q.month charges ≡ month_rows_text b q t charges buckets
 as_csv b first q t buckets charges of_shelf is =
     ap (λ (x : Book). export_text x q.month charges) of_shelf
     ∙ sym (ap (λ v. if v then export_text b.first q.month charges
@@ -54,7 +53,7 @@ as_csv b first q t buckets charges of_shelf is =
 
 pub as_lines : (b : Shelf) (first : Book) (q : MonthQuery) (t : ℕ) (shown buckets : List BucketRow)
     (charges : List ChargeColumns) → first ≡ b.first → q.csv ≡ false → shown ≡ buckets →
-    statement_text first q.account q.month t charges shown ≡ rows_text b q t charges buckets
+    statement_text first q.account q.month t charges shown ≡ month_rows_text b q t charges buckets
 as_lines b first q t shown buckets charges of_shelf is same =
     (λ i. statement_text (of_shelf i) q.account q.month t charges (same i))
     ∙ sym (ap (λ v. if v then export_text b.first q.month charges
@@ -63,15 +62,15 @@ as_lines b first q t shown buckets charges of_shelf is same =
 -- another form of the text is written where it is the same
 pub writes_as : {T : Type 0} (charges : ℕ → Option ChargeColumns) (old new : Option (List ℕ))
     (f g : List ChargeColumns → List ℕ) (r : Result T StatementFault) →
-    ((rows : List ChargeColumns) → f rows ≡ g rows) → Writes charges old new f r →
-    Writes charges old new g r
+    ((rows : List ChargeColumns) → f rows ≡ g rows) → WritesAll charges old new f r →
+    WritesAll charges old new g r
 writes_as charges old new f g (Ok x) same w = record {
   whole = λ rows are. subst (Appends old new) (same rows) (w.whole rows are);
   beginning = λ rows are. tt;
 }
 writes_as charges old new f g (Err e) same w = record {
   whole = λ rows are. tt;
-  beginning = λ rows are. subst (month.WritesBeginning old new) (same rows) (w.beginning rows are);
+  beginning = λ rows are. subst (WritesBeginning old new) (same rows) (w.beginning rows are);
 }
 
 pub some_as : {T : Type 0} (old new : Option (List ℕ)) (f g : List ChargeColumns → List ℕ)
@@ -85,23 +84,19 @@ some_as old new f g (Ok x) same w = record {
 some_as old new f g (Err e) same w = record {
   rows = w.rows;
   whole = tt;
-  beginning = subst (month.WritesBeginning old new) (same w.rows) w.beginning;
+  beginning = subst (WritesBeginning old new) (same w.rows) w.beginning;
 }
 
 -- ---- what is written
 
-begun : {old new : Option (List ℕ)} {text : List ℕ} → month.WritesBeginning old new text →
-    WritesBeginning old new text
-begun h = record { part = h.part; rest = h.rest; written = h.written; whole = h.whole }
-
 pub tells_ended : {T : Type 0} (charges : ℕ → Option ChargeColumns) (old new : Option (List ℕ))
     (text : List ChargeColumns → List ℕ) (r : Result T StatementFault) →
-    Writes charges old new text r → (rows : List ChargeColumns) → AreCharges charges rows →
-    Tells Done old new (text rows) (month_ended r)
+    WritesAll charges old new text r → (rows : List ChargeColumns) → AreCharges charges rows →
+    WritesAndEnds Done old new (text rows) (month_ended r)
 tells_ended charges old new text (Ok x) w rows are =
     record { whole = (refl, w.whole rows are); beginning = tt }
 tells_ended charges old new text (Err e) w rows are =
-    record { whole = tt; beginning = begun (w.beginning rows are) }
+    record { whole = tt; beginning = w.beginning rows are }
 
 done : {T : Type 0} (r : Result T StatementFault) (Refused : Type 0) →
     IfOk (month_ended r) (IsEnded Refused)
@@ -118,7 +113,7 @@ ended_done r result Refused is =
 module _ (b : Shelf) (q : MonthQuery) (t : ℕ) (buckets : List BucketRow)
     (old new : Option (List ℕ)) where
   abbrev Text : List ChargeColumns → List ℕ
-  Text rows = rows_text b q t rows buckets
+  Text rows = month_rows_text b q t rows buckets
 
   prints : {T : Type 0} (r : Result T StatementFault) → WritesSome old new Text r →
       IfOk (month_ended r) (PrintsMonth b q old new)
@@ -133,7 +128,7 @@ module _ (b : Shelf) (q : MonthQuery) (t : ℕ) (buckets : List BucketRow)
     moment = t;
     charges = w.rows;
     buckets = buckets;
-    written = begun w.beginning;
+    written = w.beginning;
   })
 
   -- rule: statement.month-told
@@ -153,14 +148,14 @@ module _ (b : Shelf) (q : MonthQuery) (t : ℕ) (buckets : List BucketRow)
 
 -- that there is no such account
 pub unknown_printed : (b : Shelf) (q : MonthQuery) (old new : Option (List ℕ))
-    (r : Result Status OfficeFault) → Tells Failed old new unknown_line r →
+    (r : Result Status OfficeFault) → WritesAndEnds Failed old new unknown_line r →
     IfOk r (PrintsMonth b q old new)
 unknown_printed b q old new (Ok status) h =
     subst (PrintsMonth b q old new) (sym h.whole.0) h.whole.1
 unknown_printed b q old new (Err f) h = tt
 
 pub unknown_begun : (b : Shelf) (q : MonthQuery) (old new : Option (List ℕ))
-    (r : Result Status OfficeFault) → Tells Failed old new unknown_line r →
+    (r : Result Status OfficeFault) → WritesAndEnds Failed old new unknown_line r →
     OnErr r (BeginsMonth b q old new)
 unknown_begun b q old new (Ok status) h = tt
 unknown_begun b q old new (Err f) h = inr h.beginning
@@ -184,7 +179,7 @@ pub reads_asked : {T : Type 0} (old mid new : Seen) (r : Result T StatementFault
     (mid.clean → mid.tables ≡ old.tables) →
     (mid.honest → (tables : Tables) → mid.left tables → old.left tables) →
     (mid.clean → old.clean) → (mid.honest → old.honest) → old.failed ≤ mid.failed →
-    Asks mid new r → OnlyReads old new (month_ended r)
+    AsksSource mid new r → OnlyReadsMonth old new (month_ended r)
 reads_asked old mid new r same left cleanness honesty kept asks = record {
   same = λ whole. asks.same whole ∙ same (asks.cleanness whole);
   left = λ honest tables found.
@@ -209,11 +204,11 @@ module _ (b : Shelf) (q : MonthQuery) (t : ℕ) (old : Tables) (before after : O
   -- of an account whose state was found
   text_is : (list : List Accepted) (s : AccountState) → (history b q.account list).opened ≡ true →
       IsStateAt b (moment_of list t) (history b q.account list).ledger s →
-      rows_text b q s.moment (charge_rows (history b q.account list).ledger) s.buckets.items
+      month_rows_text b q s.moment (charge_rows (history b q.account list).ledger) s.buckets.items
       ≡ month_text b q (moment_of list t) (history b q.account list)
   text_is list s opened is =
       let h : History = history b q.account list in
-      (λ i. rows_text b q (is.moment i) (charge_rows h.ledger) (is.buckets i))
+      (λ i. month_rows_text b q (is.moment i) (charge_rows h.ledger) (is.buckets i))
       ∙ sym (ap (λ v. if v then ledger_text b q (moment_of list t) h.ledger
       else unknown_line) opened)
 
@@ -222,7 +217,7 @@ module _ (b : Shelf) (q : MonthQuery) (t : ℕ) (old : Tables) (before after : O
       (r : Result Status OfficeFault) →
       TellsState b q.account t old found → found ≡ Some s → mid ≡ old →
       ((rows : List ChargeColumns) → AreCharges (mid.charges q.account) rows →
-      Tells Done before after (rows_text b q s.moment rows s.buckets.items) r) →
+      WritesAndEnds Done before after (month_rows_text b q s.moment rows s.buckets.items) r) →
       IsMonthTold b q t old before after r
   month_told found s mid r states is same told = λ list time tables.
       let h : History = history b q.account list in
@@ -230,18 +225,20 @@ module _ (b : Shelf) (q : MonthQuery) (t : ℕ) (old : Tables) (before after : O
       subst (λ (o : Option AccountState). IsState b (moment_of list t) h o) is
       (states list time tables) in
       let ends : Done ≡ month_status h = sym (ap (λ v. if v then Done else Failed) state.0) in
-      let written : Tells Done before after
-      (rows_text b q s.moment (charge_rows h.ledger) s.buckets.items) r =
+      let written : WritesAndEnds Done before after
+      (month_rows_text b q s.moment (charge_rows h.ledger) s.buckets.items) r =
       told (charge_rows h.ledger)
       (subst (λ (x : Tables). AreCharges (x.charges q.account) (charge_rows h.ledger)) (sym same)
       (are_charges b q.account list old tables)) in
-      subst (λ (e : Status). Tells e before after (month_text b q (moment_of list t) h) r) ends
-      (subst (λ l. Tells Done before after l r) (text_is list s state.0 state.1) written)
+      subst (λ (e : Status). WritesAndEnds e before after (month_text b q (moment_of list t) h) r)
+      ends
+      (subst (λ l. WritesAndEnds Done before after l r) (text_is list s state.0 state.1) written)
 
   -- of one that isn't there
   -- rule: statement.month-told
   pub unknown_told : (found : Option AccountState) (r : Result Status OfficeFault) →
-      TellsState b q.account t old found → found ≡ None → Tells Failed before after unknown_line r →
+      TellsState b q.account t old found → found ≡ None →
+      WritesAndEnds Failed before after unknown_line r →
       IsMonthTold b q t old before after r
   unknown_told found r states is told = λ list time tables.
       let h : History = history b q.account list in
@@ -252,8 +249,9 @@ module _ (b : Shelf) (q : MonthQuery) (t : ℕ) (old : Tables) (before after : O
       let text : unknown_line ≡ month_text b q (moment_of list t) h =
       sym (ap (λ v. if v then ledger_text b q (moment_of list t) h.ledger
       else unknown_line) closed) in
-      subst (λ (e : Status). Tells e before after (month_text b q (moment_of list t) h) r) ends
-      (subst (λ l. Tells Failed before after l r) text told)
+      subst (λ (e : Status). WritesAndEnds e before after (month_text b q (moment_of list t) h) r)
+      ends
+      (subst (λ l. WritesAndEnds Failed before after l r) text told)
 
 -- nothing is written
 pub nothing_told : (b : Shelf) (q : MonthQuery) (t : ℕ) (old : Tables) (before : Option (List ℕ))

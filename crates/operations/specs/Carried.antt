@@ -15,7 +15,7 @@ use Rattle.charging.specs.Accepted.{Accepted, IsInTime}
 use Rattle.charging.specs.Parts.{Leaves}
 use Rattle.charging.specs.Promise.{Carries}
 use Rattle.charging.specs.Served.{AreTables, IsServed, Writes, answer_to, moment_of}
-use Rattle.operations.specs.Faults.{keeper_fault}
+use Rattle.operations.specs.Faults.{office_store_fault}
 use Rattle.operations.specs.Printed.{PrintsAnswer, PrintsLine}
 use Rattle.operations.specs.Told.{answer_line, status_of}
 use Rattle.operations.specs.Written.{WritesBeginning}
@@ -56,7 +56,7 @@ pub record ServesOffice {W : Type 0} (contents : W → Option Bytes)
   pub prints : PrintsLine (λ status. PrintsAnswer status (contents before) (contents after))
       before after result
   pub left : Leaves old new (λ held. old.clean × Writes b c t old.tables held)
-  pub keeper : Carries old new (keeper_fault result)
+  pub keeper : Carries old new (office_store_fault result)
   -- each command asks the store, so one that is honest after it can be asked again, whatever it was
   -- before
-  pub stands : new.honest → IfNone (keeper_fault result) new.clean
+  pub stands : new.honest → IfNone (office_store_fault result) new.clean

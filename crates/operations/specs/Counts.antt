@@ -13,8 +13,8 @@ use Rattle.operations.specs.declared.counts.Counts.{Counts}
 abbrev pub no_counts : Counts
 no_counts = record { new = 0; present = 0; conflicting = 0 }
 
-abbrev pub total : Counts → ℕ
-total n = n.new + n.present + n.conflicting
+abbrev pub total_count : Counts → ℕ
+total_count n = n.new + n.present + n.conflicting
 
 -- with one voucher more
 abbrev pub counted_as : Addition → Counts → Counts

@@ -10,6 +10,6 @@ store_fault (Store fault) = Some fault
 store_fault (Write fault) = None
 
 -- the one that a call ended with, where it is one
-abbrev pub keeper_fault : {A : Type 0} → Result A OfficeFault → Option StoreFault
-keeper_fault (Ok done) = None
-keeper_fault (Err fault) = store_fault fault
+abbrev pub office_store_fault : {A : Type 0} → Result A OfficeFault → Option StoreFault
+office_store_fault (Ok done) = None
+office_store_fault (Err fault) = store_fault fault

@@ -22,8 +22,8 @@ use Rattle.charging.specs.Served.{AreTables, accepts, answer_to, moment_of}
 use Rattle.charging.specs.declared.running.DatedCommand.{DatedCommand}
 use Rattle.voucher_rules.specs.declared.adding.Addition.{Addition}
 use Rattle.operations.specs.Counts.{PrintsCounts}
-use Rattle.operations.specs.Counts.{counted, counted_as, counts_line, no_counts, total}
-use Rattle.operations.specs.Faults.{keeper_fault}
+use Rattle.operations.specs.Counts.{counted, counted_as, counts_line, no_counts, total_count}
+use Rattle.operations.specs.Faults.{office_store_fault}
 use Rattle.operations.specs.Printed.{PrintsLine}
 use Rattle.operations.specs.Written.{WritesBeginning}
 use Rattle.operations.specs.declared.counts.Counts.{Counts}
@@ -107,10 +107,10 @@ TellsImport b commands old new tells =
 -- ---- over a keeper
 
 -- all are counted, or a beginning of them was added before the store failed
-pub record ImportsOver (b : Shelf) (t : Moment) (rows : List VoucherAddition) (old new : Seen)
+pub record ImportsRows (b : Shelf) (t : Moment) (rows : List VoucherAddition) (old new : Seen)
     (result : Result Counts StoreFault) : Type 0 where
   pub imported : new.clean → Imports b (additions t rows) old.tables new.tables result
-  pub all : IfOk result (λ counts. total counts ≡ length rows)
+  pub all : IfOk result (λ counts. total_count counts ≡ length rows)
   pub cleanness : new.clean → old.clean
   pub honesty : new.honest → old.honest
   pub stands : new.honest → old.clean → OnOk result new.clean
@@ -131,19 +131,20 @@ pub record ServesImport {A W : Type 0} (contents : W → Option Bytes)
       BeginsImport b (additions t rows) old.tables new.tables
   pub prints : PrintsLine (λ _. PrintsCounts (contents before) (contents after)) before after result
   pub left : Leaves old new (HoldsBeginning b (additions t rows) old.tables)
-  pub keeper : Carries old new (keeper_fault result)
+  pub keeper : Carries old new (office_store_fault result)
 
 -- ---- one voucher
 
 -- it was added, or was there, or another is: it counts as it was decided
-pub record IsAdded (b : Shelf) (list : List Accepted) (d : DatedCommand) (old new : Tables)
+pub record IsVoucherAdded (b : Shelf) (list : List Accepted) (d : DatedCommand) (old new : Tables)
     (addition : Addition) : Type 0 where
   pub counts : (n : Counts) → counted_as addition n ≡ counted_after b list d n
   pub tables : AreTables b (after_command b list d) new
   pub time : IsInTime (after_command b list d)
   pub same : (n : Counts) → (counted_as addition n).new ≡ 0 → (n.new ≡ 0) × (new ≡ old)
 
-abbrev pub Adds : Shelf → DatedCommand → Tables → Tables → Result Addition StoreFault → Type 0
-Adds b d old new result =
+abbrev pub AddsVoucher : Shelf → DatedCommand → Tables → Tables → Result Addition StoreFault →
+    Type 0
+AddsVoucher b d old new result =
     (list : List Accepted) → IsInTime list → AreTables b list old →
-    MatchResult result (λ addition. IsAdded b list d old new addition) (λ fault. new ≡ old)
+    MatchResult result (λ addition. IsVoucherAdded b list d old new addition) (λ fault. new ≡ old)

@@ -41,15 +41,16 @@ use Rattle.operations.specs.declared.status.Status.TheVariants.{Done, Failed, Un
 
 -- the text of these charges and buckets, as of a moment; the month is civil in the zone of the
 -- first book, which all books of a shelf have
-abbrev pub rows_text : Shelf → MonthQuery → Moment → List ChargeColumns → List BucketRow → Bytes
-rows_text b q t charges buckets =
+abbrev pub month_rows_text : Shelf → MonthQuery → Moment → List ChargeColumns → List BucketRow →
+    Bytes
+month_rows_text b q t charges buckets =
     if q.csv then export_text b.first q.month charges
     else statement_text b.first q.account q.month t charges buckets
 
 -- of an account's ledger: all of its charges, and its buckets at the moment, by number
 abbrev pub ledger_text : Shelf → MonthQuery → Moment → Ledger → Bytes
 ledger_text b q t ledger =
-    rows_text b q t (charge_rows ledger) (by_number (buckets_at (validity_of b) t ledger))
+    month_rows_text b q t (charge_rows ledger) (by_number (buckets_at (validity_of b) t ledger))
 
 -- the line of an account that isn't there
 abbrev pub unknown_line : Bytes
@@ -68,7 +69,7 @@ month_status h = if h.opened then Done else Failed
 -- ---- what is written
 
 -- the text is written, and it ends so; at a fault a beginning of the text is
-pub record Tells (ends : Status) (old new : Option Bytes) (text : Bytes)
+pub record WritesAndEnds (ends : Status) (old new : Option Bytes) (text : Bytes)
     (result : Result Status OfficeFault) : Type 0 where
   pub whole : IfOk result (λ status. (status ≡ ends) × Appends old new text)
   pub beginning : OnErr result (WritesBeginning old new text)
@@ -80,7 +81,7 @@ abbrev pub IsMonthTold : Shelf → MonthQuery → Moment → Tables → Option B
     Result Status OfficeFault → Type 0
 IsMonthTold b q t tables old new result =
     (list : List Accepted) → IsInTime list → AreTables b list tables →
-    Tells (month_status (history b q.account list)) old new
+    WritesAndEnds (month_status (history b q.account list)) old new
     (month_text b q (moment_of list t) (history b q.account list)) result
 
 -- ---- what is written, whatever a keeper holds
@@ -90,7 +91,7 @@ pub record WritesMonth (b : Shelf) (q : MonthQuery) (Writes : Bytes → Type 0) 
   pub moment : Moment
   pub charges : List ChargeColumns
   pub buckets : List BucketRow
-  pub written : Writes (rows_text b q moment charges buckets)
+  pub written : Writes (month_rows_text b q moment charges buckets)
 
 -- it is written where all is done; where it is refused, that the account isn't there
 -- rule: statement.month-told
@@ -120,7 +121,7 @@ month_ended (Err fault) = Err (month_fault fault)
 
 -- the tables are as before, and so is what a stop leaves; store fault 2 comes only with a cause
 -- rule: statement.month-told
-pub record OnlyReads (old new : Seen) (result : Result Status OfficeFault) : Type 0 where
+pub record OnlyReadsMonth (old new : Seen) (result : Result Status OfficeFault) : Type 0 where
   pub same : new.clean → new.tables ≡ old.tables
   pub left : new.honest → (tables : Tables) → new.left tables → old.left tables
   pub cleanness : new.clean → old.clean
@@ -143,6 +144,6 @@ pub record ServesStatement {W : Type 0} (contents : W → Option Bytes)
   -- rule: statement.month-told
   pub begun : OnErr result (BeginsMonth b q (contents before) (contents after))
   -- rule: statement.month-told
-  pub reads : OnlyReads old new result
+  pub reads : OnlyReadsMonth old new result
   pub stands : new.honest → OnOk result new.clean
   pub fault : (fault : StreamFault) → result ≡ Err (Write fault) → fault ≢ stream.Read

@@ -4,7 +4,7 @@ ghost use Rattle.std.specs.Prelude.{◌≡◌, IfOk, string_bytes};
 ghost use Rattle.calendar.specs.Clock.{day};
 ghost use Rattle.calendar.specs.Months.{month};
 ghost use Rattle.operations.specs.CivilClock.{clock_line, clock_text, month_shown, period_shown};
-ghost use Rattle.operations.specs.Written.{WritesText};
+ghost use Rattle.operations.specs.Written.{PrintsText};
 
 use calendar::Cycle;
 use shelves::TariffShelf;
@@ -27,7 +27,7 @@ pub fn serve_clock<W: Write>(
     moments: &[Moment],
     writer: &mut W,
 ) -> Result<(), StreamFault>
-    ensures { WritesText (clock_text shelf.now moments.now) (W.contents writer.old)
+    ensures { PrintsText (clock_text shelf.now moments.now) (W.contents writer.old)
         (W.contents writer.new) result }
 {
     let text = clock_text(alloc, shelf, moments)?;

@@ -1,7 +1,7 @@
 //! What becomes of vouchers that are added, counted.
 
 ghost use Rattle.std.specs.Prelude.{◌≡◌, ◌<◌, string_bytes, IfOk};
-ghost use Rattle.operations.specs.Counts.{counted_as, counts_text, no_counts, total};
+ghost use Rattle.operations.specs.Counts.{counted_as, counts_text, no_counts, total_count};
 ghost use Rattle.units.specs.Words.{most_of_64_bits};
 
 use std::alloc::{AllocError, Global};
@@ -33,7 +33,7 @@ pub(crate) fn no_counts() -> Counts
 /// The counts with one voucher more, of which this became.
 // rule: import
 pub(crate) fn count_one(counts: Counts, addition: Addition) -> Counts
-    requires { total counts < most_of_64_bits }
+    requires { total_count counts < most_of_64_bits }
     ensures { result ≡ counted_as addition counts }
 {
     match addition {

@@ -6,9 +6,9 @@ ghost use Rattle.operations.specs.Counts.{counts_line};
 ghost use Rattle.charging.specs.Parts.{Leaves, PartKeeps};
 ghost use Rattle.charging.specs.Served.{Writes};
 ghost use Rattle.commands.specs.declared.command.Command.TheVariants.{AddVoucher};
-ghost use Rattle.operations.specs.Imports.{Adds, ImportsOver, ServesImport};
+ghost use Rattle.operations.specs.Imports.{AddsVoucher, ImportsRows, ServesImport};
 ghost use Rattle.operations.specs.Imports.{addition_at};
-ghost use Rattle.operations.specs.Written.{WritesText};
+ghost use Rattle.operations.specs.Written.{PrintsText};
 ghost use Rattle.operations.specs.declared.fault.OfficeFault.TheVariants.{Store, Write};
 
 use crate::counts::{Counts, count_one, counts_text, no_counts};
@@ -38,7 +38,7 @@ pub fn import<K: Keeper>(
     rows: Vec<VoucherAddition>,
     moment: Moment,
 ) -> Result<Counts, StoreFault>
-    ensures { ImportsOver shelf.now moment rows.items (K.seen keeper.old) (K.seen keeper.new)
+    ensures { ImportsRows shelf.now moment rows.items (K.seen keeper.old) (K.seen keeper.new)
         result }
 {
     // For the prover alone: looking at the value makes known here what its type keeps.
@@ -60,7 +60,7 @@ fn add_voucher<K: Keeper>(
     moment: Moment,
 ) -> Result<Addition, StoreFault>
     ensures added { (K.seen keeper.new).clean →
-        Adds shelf.now (addition_at moment row) (K.seen keeper.old).tables
+        AddsVoucher shelf.now (addition_at moment row) (K.seen keeper.old).tables
         (K.seen keeper.new).tables result }
     ensures kept { PartKeeps (K.seen keeper.old) (K.seen keeper.new) result }
     ensures left { Leaves (K.seen keeper.old) (K.seen keeper.new) (λ t. (K.seen keeper.old).clean
@@ -98,7 +98,7 @@ pub fn serve_import<K: Keeper, W: Write>(
 
 /// Writes counts as a line.
 fn write_counts<W: Write>(alloc: Global, writer: &mut W, counts: Counts) -> Result<(), StreamFault>
-    ensures { WritesText (counts_line counts) (W.contents writer.old) (W.contents writer.new)
+    ensures { PrintsText (counts_line counts) (W.contents writer.old) (W.contents writer.new)
         result }
 {
     let text = counts_text(alloc, counts)?;

@@ -5,11 +5,11 @@ ghost use Rattle.std.specs.Io.KnownBytes.{Appends};
 ghost use Rattle.texts.specs.declared.streams.StreamFault.{StreamFault};
 ghost use Rattle.texts.specs.declared.streams.StreamFault.TheVariants.{Read as ReadFailed};
 ghost use Rattle.keepers.specs.declared.fault.StoreFault.TheVariants.{Store as StoreFailed};
-ghost use Rattle.statements.specs.Charges.{Asks, Writes, WritesSome};
-ghost use Rattle.operations.specs.Months.{ServesStatement, Tells};
-ghost use Rattle.operations.specs.Months.{month_ended, month_fault, rows_text, unknown_line};
+ghost use Rattle.statements.specs.Charges.{AsksSource, WritesAll, WritesSome};
+ghost use Rattle.operations.specs.Months.{ServesStatement, WritesAndEnds};
+ghost use Rattle.operations.specs.Months.{month_ended, month_fault, month_rows_text, unknown_line};
 ghost use Rattle.operations.specs.Printed.{IsEnded};
-ghost use Rattle.operations.specs.Written.{WritesText};
+ghost use Rattle.operations.specs.Written.{PrintsText};
 ghost use Rattle.operations.specs.declared.fault.OfficeFault.TheVariants.{Store, Write};
 ghost use Rattle.operations.specs.declared.status.Status.TheVariants.{Failed};
 
@@ -77,14 +77,14 @@ fn write_month<K: ChargeSource, W: Write>(
     writer: &mut W,
 ) -> Result<(), StatementFault>
     ensures writes { (K.seen keeper.new).clean →
-        Writes ((K.seen keeper.old).tables.charges query.now.account)
+        WritesAll ((K.seen keeper.old).tables.charges query.now.account)
         (W.contents writer.old) (W.contents writer.new)
-        (λ rows. rows_text shelf.now query.now state.now.moment rows state.now.buckets.items)
+        (λ rows. month_rows_text shelf.now query.now state.now.moment rows state.now.buckets.items)
         result }
     ensures some { WritesSome (W.contents writer.old) (W.contents writer.new)
-        (λ rows. rows_text shelf.now query.now state.now.moment rows state.now.buckets.items)
+        (λ rows. month_rows_text shelf.now query.now state.now.moment rows state.now.buckets.items)
         result }
-    ensures asks { Asks (K.seen keeper.old) (K.seen keeper.new) result }
+    ensures asks { AsksSource (K.seen keeper.old) (K.seen keeper.new) result }
 {
     let MonthQuery {
         account,
@@ -125,7 +125,7 @@ fn month_fault(fault: StatementFault) -> OfficeFault
 
 /// Prints that the account isn't there.
 fn tell_unknown<W: Write>(alloc: Global, writer: &mut W) -> Result<Status, OfficeFault>
-    ensures told { Tells Failed (W.contents writer.old)
+    ensures told { WritesAndEnds Failed (W.contents writer.old)
         (W.contents writer.new) unknown_line result }
     ensures ended { IfOk result (IsEnded
         (Appends (W.contents writer.old) (W.contents writer.new) unknown_line)) }
@@ -138,7 +138,7 @@ fn tell_unknown<W: Write>(alloc: Global, writer: &mut W) -> Result<Status, Offic
 
 /// Writes that the account isn't there.
 fn write_unknown<W: Write>(alloc: Global, writer: &mut W) -> Result<(), StreamFault>
-    ensures { WritesText unknown_line (W.contents writer.old) (W.contents writer.new) result }
+    ensures { PrintsText unknown_line (W.contents writer.old) (W.contents writer.new) result }
 {
     let unknown = Answer::Refused(Refusal::AccountUnknown);
     let unknown = WrittenAnswer::new(alloc, unknown)?;

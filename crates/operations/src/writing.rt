@@ -2,7 +2,7 @@
 
 ghost use Rattle.std.specs.Prelude.{◌++◌, ◌∷◌, [], string_bytes};
 ghost use Rattle.operations.specs.Told.{answer_line};
-ghost use Rattle.operations.specs.Written.{WritesText};
+ghost use Rattle.operations.specs.Written.{PrintsText};
 
 use std::io::Write;
 use texts::{StreamFault, write_whole};
@@ -14,7 +14,7 @@ use wire::WrittenAnswer;
 /// `Memory` where memory was refused, `Write` where the writer failed: then a beginning of the line
 /// is written.
 pub fn write_line<W: Write>(writer: &mut W, text: String) -> Result<(), StreamFault>
-    ensures { WritesText (string_bytes text ++ 10 ∷ []) (W.contents writer.old)
+    ensures { PrintsText (string_bytes text ++ 10 ∷ []) (W.contents writer.old)
         (W.contents writer.new) result }
 {
     let mut line = text;
@@ -31,7 +31,7 @@ pub(crate) fn write_answer_line<W: Write>(
     writer: &mut W,
     answer: &WrittenAnswer,
 ) -> Result<(), StreamFault>
-    ensures { WritesText (answer_line answer.now) (W.contents writer.old) (W.contents writer.new)
+    ensures { PrintsText (answer_line answer.now) (W.contents writer.old) (W.contents writer.new)
         result }
 {
     write_whole(writer, answer.text().as_bytes())?;

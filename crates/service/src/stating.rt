@@ -2,7 +2,7 @@
 
 ghost use Rattle.std.specs.Prelude.{◌≡◌, IfErr, IfOk, OnErr, OnOk};
 ghost use Rattle.std.specs.Io.KnownBytes.{Appends};
-ghost use Rattle.operations.specs.Months.{IsMonthTold, OnlyReads, unknown_line};
+ghost use Rattle.operations.specs.Months.{IsMonthTold, OnlyReadsMonth, unknown_line};
 ghost use Rattle.operations.specs.Printed.{IsEnded};
 ghost use Rattle.service.specs.Opening.{IsOfficeFault, IsUnasked};
 ghost use Rattle.sqlite_wal.specs.Files.{image_at};
@@ -127,7 +127,7 @@ fn tell_month<K: ChargeSource, O: Write>(
         (PrintsMonthOf words (O.contents output.old) (O.contents output.new)) }
     ensures begun { OnErr result
         (BeginsMonthOf words (O.contents output.old) (O.contents output.new)) }
-    ensures reads { IsOfOffice (OnlyReads (K.seen keeper.old) (K.seen keeper.new)) result }
+    ensures reads { IsOfOffice (OnlyReadsMonth (K.seen keeper.old) (K.seen keeper.new)) result }
     ensures honesty { (K.seen keeper.new).honest → (K.seen keeper.old).honest }
     ensures stands { (K.seen keeper.new).honest → OnOk result (K.seen keeper.new).clean }
     ensures unwritten { IfErr result (λ fault. IsUnasked fault → output.new ≡ output.old) }

@@ -3,7 +3,7 @@ use Rattle.std.proofs.Common.{◌≡◌, ℕ, ◌+◌, ◌++◌, Bool, true, fal
 use Rattle.std.proofs.Common.{Some, None, refl, sym, ap, ◌∙◌, subst, append-nil, append_assoc}
 use Rattle.std.proofs.Common.{take-append-drop}
 use Rattle.std.specs.Prelude.{Option, is_some, Result, Ok, Err, IsErr}
-use Rattle.statements.specs.Charges.{SumsSome, Writes, WritesSome}
+use Rattle.statements.specs.Charges.{SumsSome, WritesAll, WritesSome}
 use Rattle.statements.specs.declared.fault.StatementFault.{StatementFault}
 use Rattle.std.specs.List.{filter, fold}
 use Rattle.std.specs.Io.KnownBytes.{Appends}
@@ -16,7 +16,7 @@ use Rattle.keepers.specs.Visits.{Visits, GoesOn, IsShown, SeesCharges, SeesBegin
 use Rattle.texts.specs.declared.streams.StreamFault.{StreamFault}
 use Rattle.statements.specs.Months.{is_of_cycle, cycle_of_month}
 use Rattle.statements.specs.Rows.{TakesRow, text_if, plus_if}
-use Rattle.statements.specs.Texts.{charges_text, plus_charge, sums_of, of_month, WritesBeginning}
+use Rattle.statements.specs.Texts.{charge_texts, plus_charge, sums_of, of_month, WritesBeginning}
 use Rattle.statements.specs.declared.rows.Form.{Form}
 use Rattle.statements.specs.declared.rows.Sums.{Sums}
 use Rattle.statements.specs.declared.rows.MonthRows.{MonthRows}
@@ -32,12 +32,12 @@ pub record Wrote {W : Type 0} (contents : W → Option (List ℕ)) (book : Book)
     (form : Form) (rows : List ChargeColumns) (old new : MonthRows W) : Type 0 where
   pub writer : new.writer.ghost_name ≡ old.writer.ghost_name
   pub text : new.fault ≡ None → Appends (contents old.writer.now) (contents new.writer.now)
-      (charges_text form (filter (is_of_cycle book cycle) rows))
+      (charge_texts form (filter (is_of_cycle book cycle) rows))
   pub sums : new.fault ≡ None →
       new.sums ≡ sums_from old.sums (filter (is_of_cycle book cycle) rows)
   pub begun : is_some new.fault ≡ true →
       WritesBeginning (contents old.writer.now) (contents new.writer.now)
-      (charges_text form (filter (is_of_cycle book cycle) rows))
+      (charge_texts form (filter (is_of_cycle book cycle) rows))
 
 -- a visitor that has met no fault, and writes these
 pub record Begins {W : Type 0} (b : Book) (n : ℕ) (f : Form) (old : MonthRows W) : Type 0 where
@@ -47,7 +47,7 @@ pub record Begins {W : Type 0} (b : Book) (n : ℕ) (f : Form) (old : MonthRows 
   pub form : old.form ≡ f
 
 text_split : (t : Bool) (form : Form) (c : ChargeColumns) (rest : List ChargeColumns) →
-    charges_text form (cond t (c ∷ rest) rest) ≡ text_if t form c ++ charges_text form rest
+    charge_texts form (cond t (c ∷ rest) rest) ≡ text_if t form c ++ charge_texts form rest
 text_split true form c rest = refl
 text_split false form c rest = refl
 
@@ -120,14 +120,14 @@ module _ {W : Type 0} (contents : W → Option (List ℕ)) (book : Book) (cycle 
         writer = w.writer ∙ t.writer;
         text = λ n. subst (Appends (contents old.writer.now) (contents new.writer.now)) (sym whole)
             (Appends-trans (contents old.writer.now) (contents next.writer.now)
-            (contents new.writer.now) (text_if p form c) (charges_text form others) first
+            (contents new.writer.now) (text_if p form c) (charge_texts form others) first
             (w.text n));
         sums = λ n. w.sums n
             ∙ ap (λ s. sums_from s others) (t.sums refl ∙ row_sums old c h)
             ∙ sym (sums_split p old.sums c others);
         begun = λ k. subst (WritesBeginning (contents old.writer.now) (contents new.writer.now))
             (sym whole) (begun_second (contents old.writer.now) (contents next.writer.now) (contents
-            new.writer.now) (text_if p form c) (charges_text form others) first (w.begun k));
+            new.writer.now) (text_if p form c) (charge_texts form others) first (w.begun k));
       }
 
   wrote_stopped : (old next new : MonthRows W) (c : ChargeColumns) (rest : List ChargeColumns) →
@@ -146,10 +146,10 @@ module _ {W : Type 0} (contents : W → Option (List ℕ)) (book : Book) (cycle 
         sums = λ n. absurd (no_fault new.fault n told);
         begun = λ k. subst
             (λ (v : MonthRows W). WritesBeginning (contents old.writer.now) (contents v.writer.now)
-            (charges_text form (filter (is_of_cycle book cycle) (c ∷ rest))))
+            (charge_texts form (filter (is_of_cycle book cycle) (c ∷ rest))))
             (sym e)
             (subst (WritesBeginning (contents old.writer.now) (contents next.writer.now))
-            (sym whole) (begun_first (charges_text form others) first));
+            (sym whole) (begun_first (charge_texts form others) first));
       }
 
   -- a visitor that is shown rows writes those of the month
@@ -171,26 +171,26 @@ module _ {W : Type 0} (contents : W → Option (List ℕ)) (book : Book) (cycle 
       at false next t e later = wrote_stopped old next new c rest h t e
 
   text_append : (xs ys : List ChargeColumns) →
-      charges_text form (filter (is_of_cycle book cycle) (xs ++ ys))
-      ≡ charges_text form (filter (is_of_cycle book cycle) xs)
-      ++ charges_text form (filter (is_of_cycle book cycle) ys)
+      charge_texts form (filter (is_of_cycle book cycle) (xs ++ ys))
+      ≡ charge_texts form (filter (is_of_cycle book cycle) xs)
+      ++ charge_texts form (filter (is_of_cycle book cycle) ys)
   text_append [] ys = refl
   text_append (c ∷ xs) ys =
       let p = is_of_cycle book cycle c in
       let all = filter (is_of_cycle book cycle) (xs ++ ys) in
       let left = filter (is_of_cycle book cycle) xs in
-      let right = charges_text form (filter (is_of_cycle book cycle) ys) in
+      let right = charge_texts form (filter (is_of_cycle book cycle) ys) in
       text_split p form c all
       ∙ ap (λ l. text_if p form c ++ l) (text_append xs ys)
-      ∙ sym (append_assoc (text_if p form c) (charges_text form left) right)
+      ∙ sym (append_assoc (text_if p form c) (charge_texts form left) right)
       ∙ ap (λ l. l ++ right) (sym (text_split p form c left))
 
   text_taken : (n : ℕ) (rows : List ChargeColumns) →
-      charges_text form (filter (is_of_cycle book cycle) rows)
-      ≡ charges_text form (filter (is_of_cycle book cycle) (take n rows))
-      ++ charges_text form (filter (is_of_cycle book cycle) (drop n rows))
+      charge_texts form (filter (is_of_cycle book cycle) rows)
+      ≡ charge_texts form (filter (is_of_cycle book cycle) (take n rows))
+      ++ charge_texts form (filter (is_of_cycle book cycle) (drop n rows))
   text_taken n rows =
-      ap (λ l. charges_text form (filter (is_of_cycle book cycle) l))
+      ap (λ l. charge_texts form (filter (is_of_cycle book cycle) l))
       (sym (take-append-drop n rows))
       ∙ text_append (take n rows) (drop n rows)
 
@@ -198,11 +198,11 @@ module _ {W : Type 0} (contents : W → Option (List ℕ)) (book : Book) (cycle 
   pub wrote_begun : (rows : List ChargeColumns) (old new : MonthRows W) →
       Wrote contents book cycle form rows old new →
       WritesBeginning (contents old.writer.now) (contents new.writer.now)
-      (charges_text form (filter (is_of_cycle book cycle) rows))
+      (charge_texts form (filter (is_of_cycle book cycle) rows))
   wrote_begun rows old new w = at new.fault refl
     where
       all : List ℕ
-      all = charges_text form (filter (is_of_cycle book cycle) rows)
+      all = charge_texts form (filter (is_of_cycle book cycle) rows)
 
       at : (o : Option StreamFault) → new.fault ≡ o →
           WritesBeginning (contents old.writer.now) (contents new.writer.now) all
@@ -218,9 +218,9 @@ module _ {W : Type 0} (contents : W → Option (List ℕ)) (book : Book) (cycle 
   pub wrote_part : (n : ℕ) (rows : List ChargeColumns) (old new : MonthRows W) →
       Wrote contents book cycle form (take n rows) old new →
       WritesBeginning (contents old.writer.now) (contents new.writer.now)
-      (charges_text form (filter (is_of_cycle book cycle) rows))
+      (charge_texts form (filter (is_of_cycle book cycle) rows))
   wrote_part n rows old new w =
-      let more = charges_text form (filter (is_of_cycle book cycle) (drop n rows)) in
+      let more = charge_texts form (filter (is_of_cycle book cycle) (drop n rows)) in
       subst (WritesBeginning (contents old.writer.now) (contents new.writer.now))
       (sym (text_taken n rows)) (begun_first more (wrote_begun (take n rows) old new w))
 
@@ -263,7 +263,7 @@ module _ {W : Type 0} (contents : W → Option (List ℕ)) (book : Book) (month 
   pub begun_text : SeesBeginning (TakesRow contents) from until charges old new →
       (rows : List ChargeColumns) → AreCharges charges rows →
       WritesBeginning (contents old.writer.now) (contents new.writer.now)
-      (charges_text form (of_month book month rows))
+      (charge_texts form (of_month book month rows))
   begun_text sees rows are =
       let w = wrote_first sees rows are in
       wrote_part contents book (cycle_of_month month) form w.0
@@ -284,7 +284,7 @@ module _ {W : Type 0} (contents : W → Option (List ℕ)) (book : Book) (month 
 
   pub begun_some : (s : IsShown (TakesRow contents) from until old new) →
       WritesBeginning (contents old.writer.now) (contents new.writer.now)
-      (charges_text form (of_month book month s.rows))
+      (charge_texts form (of_month book month s.rows))
   begun_some s =
       wrote_begun contents book (cycle_of_month month) form
       (filter (is_between 0 4102444800) s.rows) old new (wrote_some s)
@@ -298,7 +298,7 @@ err_some old new text (Err f) e rows h = record { rows = rows; whole = tt; begin
 
 pub err_summed : (old new : Option (List ℕ)) (form : Form)
     (month : List ChargeColumns → List ChargeColumns) (r : Result Sums StatementFault) → IsErr r →
-    (rows : List ChargeColumns) → WritesBeginning old new (charges_text form (month rows)) →
+    (rows : List ChargeColumns) → WritesBeginning old new (charge_texts form (month rows)) →
     SumsSome old new form month r
 err_summed old new form month (Ok x) e rows h = absurd (false≢true e)
 err_summed old new form month (Err f) e rows h =
@@ -307,7 +307,7 @@ err_summed old new form month (Err f) e rows h =
 pub err_writes : {T : Type 0} (charges : ℕ → Option ChargeColumns) (old new : Option (List ℕ))
     (text : List ChargeColumns → List ℕ) (r : Result T StatementFault) → IsErr r →
     ((rows : List ChargeColumns) → AreCharges charges rows →
-    WritesBeginning old new (text rows)) → Writes charges old new text r
+    WritesBeginning old new (text rows)) → WritesAll charges old new text r
 err_writes charges old new text (Ok x) e h = absurd (false≢true e)
 err_writes charges old new text (Err f) e h =
     record { whole = λ rows are. tt; beginning = h }

@@ -10,7 +10,7 @@ use Rattle.keepers.specs.Seen.{Seen}
 use Rattle.keepers.specs.Tables.{Tables}
 use Rattle.ledger.specs.ChargeColumns.{ChargeColumns}
 use Rattle.keepers.specs.Rows.{AreCharges}
-use Rattle.statements.specs.Texts.{charges_text, sums_of, WritesBeginning}
+use Rattle.statements.specs.Texts.{charge_texts, sums_of, WritesBeginning}
 use Rattle.statements.specs.declared.fault.StatementFault.{StatementFault}
 use Rattle.statements.specs.declared.fault.StatementFault.TheVariants.{Store}
 use Rattle.statements.specs.declared.rows.Form.{Form}
@@ -19,7 +19,8 @@ use Rattle.identifiers.specs.Words.{AccountName}
 
 -- asking a source changes nothing of it, nor what a stop leaves; it answers only where the source
 -- can still be asked, and it fails only with a cause
-pub record Asks {T : Type 0} (old new : Seen) (result : Result T StatementFault) : Type 0 where
+pub record AsksSource {T : Type 0} (old new : Seen)
+    (result : Result T StatementFault) : Type 0 where
   pub same : new.clean → new.tables ≡ old.tables
   pub cleanness : new.clean → old.clean
   pub honesty : new.honest → old.honest
@@ -30,7 +31,7 @@ pub record Asks {T : Type 0} (old new : Seen) (result : Result T StatementFault)
 
 -- the text of an account's charges is written, or a beginning of it at a fault
 -- rule: statement
-pub record Writes {T : Type 0} (charges : ChargeNumber → Option ChargeColumns)
+pub record WritesAll {T : Type 0} (charges : ChargeNumber → Option ChargeColumns)
     (old new : Option Bytes) (text : List ChargeColumns → Bytes) (result : Result T StatementFault)
     : Type 0 where
   pub whole : (rows : List ChargeColumns) → AreCharges charges rows →
@@ -54,8 +55,8 @@ pub record SumsSome (old new : Option Bytes) (form : Form)
     : Type 0 where
   pub rows : List ChargeColumns
   pub whole : IfOk result (λ sums. (sums ≡ sums_of (month rows))
-      × Appends old new (charges_text form (month rows)))
-  pub beginning : OnErr result (WritesBeginning old new (charges_text form (month rows)))
+      × Appends old new (charge_texts form (month rows)))
+  pub beginning : OnErr result (WritesBeginning old new (charge_texts form (month rows)))
 
 -- ---- over a source and a writer
 
@@ -64,6 +65,6 @@ pub record WritesCharges {T W : Type 0} (contents : W → Option Bytes)
     (account : AccountName) (text : List ChargeColumns → Bytes) (old new : Seen) (before after : W)
     (result : Result T StatementFault) : Type 0 where
   pub writes : new.clean →
-      Writes (old.tables.charges account) (contents before) (contents after) text result
+      WritesAll (old.tables.charges account) (contents before) (contents after) text result
   pub some : WritesSome (contents before) (contents after) text result
-  pub asks : Asks old new result
+  pub asks : AsksSource old new result

@@ -13,11 +13,11 @@ statement_fault_number Memory = 1
 statement_fault_number Store = 2
 statement_fault_number Write = 3
 
-abbrev pub of_store : StoreFault → StatementFault
-of_store store.Memory = Memory
-of_store store.Store = Store
+abbrev pub fault_of_store : StoreFault → StatementFault
+fault_of_store store.Memory = Memory
+fault_of_store store.Store = Store
 
-abbrev pub of_stream : StreamFault → StatementFault
-of_stream stream.Memory = Memory
-of_stream stream.Read = Write
-of_stream stream.Write = Write
+abbrev pub fault_of_stream : StreamFault → StatementFault
+fault_of_stream stream.Memory = Memory
+fault_of_stream stream.Read = Write
+fault_of_stream stream.Write = Write

@@ -36,9 +36,9 @@ charge_text Lines c = charge_line c
 charge_text Records c = charge_record c
 
 -- the texts of rows, one after another
-abbrev pub charges_text : Form → List ChargeColumns → Bytes
-charges_text form [] = []
-charges_text form (c ∷ rest) = charge_text form c ++ charges_text form rest
+abbrev pub charge_texts : Form → List ChargeColumns → Bytes
+charge_texts form [] = []
+charge_texts form (c ∷ rest) = charge_text form c ++ charge_texts form rest
 
 abbrev pub plus_charge : Sums → ChargeColumns → Sums
 plus_charge s c = record {
@@ -58,17 +58,17 @@ sums_of rows = record {
 
 -- ---- buckets
 
-abbrev pub line_of : BucketKind → BucketRow → Bytes
-line_of Money b = bucket_line b
-line_of Blocks b = allowance_line b
+abbrev pub line_by_kind : BucketKind → BucketRow → Bytes
+line_by_kind Money b = bucket_line b
+line_by_kind Blocks b = allowance_line b
 
 -- the lines of the buckets of a kind: another has none
 abbrev pub line_among : BucketKind → BucketRow → Bytes
-line_among kind b = if is_alike b.kind kind then line_of kind b else []
+line_among kind b = if is_alike b.kind kind then line_by_kind kind b else []
 
-abbrev pub buckets_text : BucketKind → List BucketRow → Bytes
-buckets_text kind [] = []
-buckets_text kind (b ∷ rest) = line_among kind b ++ buckets_text kind rest
+abbrev pub lines_among : BucketKind → List BucketRow → Bytes
+lines_among kind [] = []
+lines_among kind (b ∷ rest) = line_among kind b ++ lines_among kind rest
 
 abbrev pub has_allowance : List BucketRow → Bool
 has_allowance rows = list_any (λ b. is_alike b.kind Blocks) rows
@@ -77,11 +77,11 @@ has_allowance rows = list_any (λ b. is_alike b.kind Blocks) rows
 -- rule: statement-allowances
 abbrev pub allowances_text : List BucketRow → Bytes
 allowances_text rows =
-    if has_allowance rows then allowance_heading ++ buckets_text Blocks rows else []
+    if has_allowance rows then allowance_heading ++ lines_among Blocks rows else []
 
 -- rule: statement-allowances
-abbrev pub covered_text : List BucketRow → Bytes
-covered_text rows =
+abbrev pub covered_foot_text : List BucketRow → Bytes
+covered_foot_text rows =
     if has_allowance rows then covered_line (sum_in Blocks (λ b. b.charged) rows) else []
 
 -- ---- the texts
@@ -93,8 +93,8 @@ head_text account month moment = title_line account month moment ++ heading
 -- rule: statement-allowances: allowances in a statement, if there are any
 abbrev pub foot_text : Sums → List BucketRow → Bytes
 foot_text sums buckets =
-    total_line sums ++ bucket_heading ++ buckets_text Money buckets ++ allowances_text buckets
-    ++ date_line (sum_in Money (λ b. b.charged) buckets) ++ covered_text buckets
+    total_line sums ++ bucket_heading ++ lines_among Money buckets ++ allowances_text buckets
+    ++ date_line (sum_in Money (λ b. b.charged) buckets) ++ covered_foot_text buckets
 
 -- an account's statement of a month: its charges in the month, their sums, its buckets at the
 -- moment, those of money before its allowances, and what was collected and covered to date
@@ -103,14 +103,14 @@ abbrev pub statement_text : Book → AccountName → MonthNumber → Moment → 
     List BucketRow → Bytes
 statement_text book account month moment rows buckets =
     head_text account month moment
-    ++ charges_text Lines (of_month book month rows)
+    ++ charge_texts Lines (of_month book month rows)
     ++ foot_text (sums_of (of_month book month rows)) buckets
 
 -- its export: a record for each of these charges
 -- rule: export: an export of a month
 -- rule: statement
 abbrev pub export_text : Book → MonthNumber → List ChargeColumns → Bytes
-export_text book month rows = header_record ++ charges_text Records (of_month book month rows)
+export_text book month rows = header_record ++ charge_texts Records (of_month book month rows)
 
 -- a beginning of a text is written
 pub record WritesBeginning (old new : Option Bytes) (text : Bytes) : Type 0 where

@@ -1,7 +1,7 @@
 //! Why a statement wasn't written whole.
 
 ghost use Rattle.std.specs.Prelude.{◌≡◌};
-ghost use Rattle.statements.specs.Faults.{statement_fault_number, of_store, of_stream};
+ghost use Rattle.statements.specs.Faults.{statement_fault_number, fault_of_store, fault_of_stream};
 
 use keepers::StoreFault;
 use texts::StreamFault;
@@ -35,7 +35,7 @@ impl StatementFault {
 }
 
 impl From<StoreFault> for StatementFault {
-    ghost from_gives = { λ fault e. e ≡ of_store fault };
+    ghost from_gives = { λ fault e. e ≡ fault_of_store fault };
 
     fn from(fault: StoreFault) -> StatementFault {
         match fault {
@@ -46,7 +46,7 @@ impl From<StoreFault> for StatementFault {
 }
 
 impl From<StreamFault> for StatementFault {
-    ghost from_gives = { λ fault e. e ≡ of_stream fault };
+    ghost from_gives = { λ fault e. e ≡ fault_of_stream fault };
 
     fn from(fault: StreamFault) -> StatementFault {
         match fault {

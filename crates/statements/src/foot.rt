@@ -6,8 +6,8 @@ ghost use Rattle.buckets.specs.Kinds.{is_alike, most_in_bucket};
 ghost use Rattle.buckets.specs.Share.{sum_in};
 ghost use Rattle.buckets.specs.declared.kind.BucketKind.TheVariants.{Blocks};
 ghost use Rattle.statements.specs.Lines.{allowance_heading, amount_names};
-ghost use Rattle.statements.specs.Texts.{line_of, line_among, buckets_text, has_allowance};
-ghost use Rattle.statements.specs.Texts.{allowances_text, covered_text, foot_text};
+ghost use Rattle.statements.specs.Texts.{line_by_kind, line_among, lines_among, has_allowance};
+ghost use Rattle.statements.specs.Texts.{allowances_text, covered_foot_text, foot_text};
 
 use crate::lines::{allowance_line, bucket_line, covered_line, date_line, total_line};
 use crate::rows::Sums;
@@ -43,7 +43,7 @@ fn charged_to(kind: BucketKind, buckets: &[Bucket]) -> u128
 
 /// The line of a bucket of this kind.
 fn line_of(alloc: Global, kind: BucketKind, bucket: &Bucket) -> Result<String, AllocError>
-    ensures { IfOk result (λ text. string_bytes text ≡ line_of kind bucket.now) }
+    ensures { IfOk result (λ text. string_bytes text ≡ line_by_kind kind bucket.now) }
 {
     match kind {
         BucketKind::Money => bucket_line(alloc, bucket),
@@ -77,7 +77,7 @@ fn push_buckets(
     buckets: &[Bucket],
 ) -> Result<(), AllocError>
     ensures { OnOk result
-        (string_bytes text.new ≡ string_bytes text.old ++ buckets_text kind buckets.now) }
+        (string_bytes text.new ≡ string_bytes text.old ++ lines_among kind buckets.now) }
 {
     for bucket in buckets {
         push_line(alloc, text, kind, bucket)?;
@@ -107,7 +107,7 @@ fn push_names(text: &mut String, names: &str) -> Result<(), AllocError>
 /// Adds the lines of allowances, after their names.
 fn push_listed(alloc: Global, text: &mut String, buckets: &[Bucket]) -> Result<(), AllocError>
     ensures { OnOk result (string_bytes text.new ≡ string_bytes text.old
-        ++ (allowance_heading ++ buckets_text Blocks buckets.now)) }
+        ++ (allowance_heading ++ lines_among Blocks buckets.now)) }
 {
     push_names(text, " ALLOWANCE      GROUP")?;
     push_buckets(alloc, text, BucketKind::Blocks, buckets)?;
@@ -130,7 +130,7 @@ fn push_allowances(alloc: Global, text: &mut String, buckets: &[Bucket]) -> Resu
 // rule: statement-allowances
 fn push_covered(alloc: Global, text: &mut String, buckets: &[Bucket]) -> Result<(), AllocError>
     ensures { OnOk result
-        (string_bytes text.new ≡ string_bytes text.old ++ covered_text buckets.now) }
+        (string_bytes text.new ≡ string_bytes text.old ++ covered_foot_text buckets.now) }
 {
     if !has_allowance(buckets) {
         return Ok(());

@@ -4,10 +4,10 @@ ghost use Rattle.std.specs.Prelude.{◌≡◌, OnOk, OnErr, IfOk};
 ghost use Rattle.std.specs.Io.KnownBytes.{Appends};
 ghost use Rattle.ledger.specs.ChargeColumns.{ChargeColumns};
 ghost use Rattle.keepers.specs.Rows.{AreCharges};
-ghost use Rattle.statements.specs.Charges.{Asks, SumsSome, Writes, WritesCharges};
+ghost use Rattle.statements.specs.Charges.{AsksSource, SumsSome, WritesAll, WritesCharges};
 ghost use Rattle.statements.specs.Records.{header_record};
 ghost use Rattle.statements.specs.Months.{cycle_of_month};
-ghost use Rattle.statements.specs.Texts.{of_month, charges_text, sums_of, head_text, foot_text};
+ghost use Rattle.statements.specs.Texts.{of_month, charge_texts, sums_of, head_text, foot_text};
 ghost use Rattle.statements.specs.Texts.{statement_text, export_text, WritesBeginning};
 ghost use Rattle.std.specs.Prelude.{List};
 
@@ -64,15 +64,15 @@ fn write_charges<S: ChargeSource, W: Write>(
     form: Form,
 ) -> Result<Sums, StatementFault>
     ensures writes { (S.seen source.new).clean →
-        Writes ((S.seen source.old).tables.charges asked.now.account.now)
+        WritesAll ((S.seen source.old).tables.charges asked.now.account.now)
         (W.contents writer.old) (W.contents writer.new)
-        (λ rows. charges_text form (of_month asked.now.book.now asked.now.month rows)) result }
+        (λ rows. charge_texts form (of_month asked.now.book.now asked.now.month rows)) result }
     ensures sums { (S.seen source.new).clean → (rows : List ChargeColumns) →
         AreCharges ((S.seen source.old).tables.charges asked.now.account.now) rows →
         IfOk result (λ sums. sums ≡ sums_of (of_month asked.now.book.now asked.now.month rows)) }
     ensures some { SumsSome (W.contents writer.old) (W.contents writer.new) form
         (of_month asked.now.book.now asked.now.month) result }
-    ensures asks { Asks (S.seen source.old) (S.seen source.new) result }
+    ensures asks { AsksSource (S.seen source.old) (S.seen source.new) result }
 {
     let mut charges = MonthRows {
         alloc,

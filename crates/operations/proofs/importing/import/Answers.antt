@@ -3,7 +3,7 @@ use Rattle.std.proofs.Common.{◌∙◌, arith}
 use Rattle.std.proofs.lemmas.List.{append_assoc, length-append}
 use Rattle.commands.specs.declared.command.VoucherAddition.{VoucherAddition}
 use Rattle.charging.specs.Runs.{after_commands}
-use Rattle.operations.specs.Counts.{total}
+use Rattle.operations.specs.Counts.{total_count}
 use Rattle.operations.specs.Imports.{Imports, additions}
 use Rattle.operations.proofs.HeldImports.{left-all, left-more}
 use Rattle.operations.proofs.ImportLemmas.{all-imported, begun_at, one-counted, one-more, whole_of}
@@ -54,7 +54,7 @@ loop-row-preserved g c = record {
   all = append_assoc c.loop-row.yielded (c.in-Some.row ∷ []) c.next.new.self.rest.items
       ∙ ap (λ (more : List VoucherAddition). c.loop-row.yielded ++ more)
       (sym c.in-Some.ensures.steps.0) ∙ c.loop-row.invariant.all;
-  count = ap total c.count_one-counts.ensures
+  count = ap total_count c.count_one-counts.ensures
       ∙ one-counted c.in_ok-addition.addition c.loop-row.counts
       ∙ ap (λ n. n + 1) c.loop-row.invariant.count
       ∙ sym (length-append c.loop-row.yielded (c.in-Some.row ∷ []));

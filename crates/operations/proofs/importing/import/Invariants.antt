@@ -1,5 +1,5 @@
 use Rattle.std.proofs.Common.{◌≡◌, ◌≤◌, ◌++◌, length}
-use Rattle.operations.specs.Counts.{total}
+use Rattle.operations.specs.Counts.{total_count}
 use Rattle.charging.specs.Parts.{Leaves}
 use Rattle.operations.specs.Imports.{HoldsBeginning, additions}
 use Rattle.operations.proofs.ImportLemmas.{ImportsSoFar}
@@ -11,7 +11,7 @@ invariant-loop-row g l = record {
       ImportsSoFar l.shelf (additions l.moment l.yielded) (g.K.Keeper.seen l.fn.keeper).tables
       (g.K.Keeper.seen l.keeper).tables l.counts;
   all : l.yielded ++ l.row-iterator.rest.items ≡ l.fn.rows.items;
-  count : total l.counts ≡ length l.yielded;
+  count : total_count l.counts ≡ length l.yielded;
   cleanness : (g.K.Keeper.seen l.keeper).clean → (g.K.Keeper.seen l.fn.keeper).clean;
   honesty : (g.K.Keeper.seen l.keeper).honest → (g.K.Keeper.seen l.fn.keeper).honest;
   stands : (g.K.Keeper.seen l.keeper).honest → (g.K.Keeper.seen l.fn.keeper).clean →

@@ -2,7 +2,7 @@ use Rattle.std.proofs.Common.{rules, subst, sym, Result}
 use Rattle.std.specs.Prelude.{OnOk}
 use Rattle.std.proofs.lemmas.Result.{err_from_is_err_and}
 use Rattle.keepers.proofs.Placed.{on_ok}
-use Rattle.operations.specs.Months.{IsMonthTold, OnlyReads, month_ended}
+use Rattle.operations.specs.Months.{IsMonthTold, OnlyReadsMonth, month_ended}
 use Rattle.operations.specs.declared.fault.OfficeFault.{OfficeFault}
 use Rattle.operations.specs.declared.status.Status.{Status}
 use Rattle.operations.proofs.Beginnings.{nothing_written, on_err}
@@ -55,7 +55,7 @@ returns-in-Some g c = record {
       c.in-Some.state.buckets.items (g.W.Write.contents c.args.writer.now)
       (g.W.Write.contents c.write_month.new.writer) c.write_month.result c.month_ended.result
       c.month_ended.ensures c.write_month.ensures.some;
-  reads = subst (OnlyReads (g.K.Keeper.seen c.args.keeper.now)
+  reads = subst (OnlyReadsMonth (g.K.Keeper.seen c.args.keeper.now)
       (g.K.Keeper.seen c.write_month.new.keeper)) (sym c.month_ended.ensures)
       (reads_asked (g.K.Keeper.seen c.args.keeper.now) (g.K.Keeper.seen c.account_state.new.keeper)
       (g.K.Keeper.seen c.write_month.new.keeper) c.write_month.result c.in_ok-state.ensures.same

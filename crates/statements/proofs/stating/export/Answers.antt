@@ -1,7 +1,7 @@
 use Rattle.std.proofs.Common.{rules, []}
 use Rattle.std.proofs.KnownBytes.{Appends-trans}
 use Rattle.statements.specs.Records.{header_record}
-use Rattle.statements.specs.Texts.{charges_text, of_month}
+use Rattle.statements.specs.Texts.{charge_texts, of_month}
 use Rattle.statements.specs.declared.rows.Form.TheVariants.{Records}
 use Rattle.statements.proofs.Beginnings.{begun_first, begun_second}
 use Rattle.statements.proofs.MonthLemmas.{err_some, err_writes}
@@ -12,10 +12,10 @@ returns-in_err-write_header g c = record {
   writes = λ clean.
       err_writes _ _ _ _ c.from_residual.result c.from_residual.ensures.0 (λ rows are.
       begun_first
-      (charges_text Records (of_month c.args.asked.now.book.now c.args.asked.now.month rows))
+      (charge_texts Records (of_month c.args.asked.now.book.now c.args.asked.now.month rows))
       c.in_err-write_header.ensures.err);
   some = err_some _ _ _ c.from_residual.result c.from_residual.ensures.0 []
-      (begun_first (charges_text Records
+      (begun_first (charge_texts Records
       (of_month c.args.asked.now.book.now c.args.asked.now.month []))
       c.in_err-write_header.ensures.err);
   asks = search rules;
@@ -29,7 +29,7 @@ returns-in_err-write_charges g c = record {
       begun_second (g.W.Write.contents c.args.writer.now)
       (g.W.Write.contents c.write_header.new.writer)
       (g.W.Write.contents c.write_charges.new.writer) header_record
-      (charges_text Records (of_month c.args.asked.now.book.now c.args.asked.now.month rows))
+      (charge_texts Records (of_month c.args.asked.now.book.now c.args.asked.now.month rows))
       c.in_ok-write_header.ensures.written
       ((c.in_err-write_charges.ensures.writes clean).beginning rows are));
   some = let some = c.in_err-write_charges.ensures.some in
@@ -38,7 +38,7 @@ returns-in_err-write_charges g c = record {
       (begun_second (g.W.Write.contents c.args.writer.now)
       (g.W.Write.contents c.write_header.new.writer)
       (g.W.Write.contents c.write_charges.new.writer) header_record
-      (charges_text Records (of_month c.args.asked.now.book.now c.args.asked.now.month some.rows))
+      (charge_texts Records (of_month c.args.asked.now.book.now c.args.asked.now.month some.rows))
       c.in_ok-write_header.ensures.written some.beginning);
   asks = search rules;
 }
@@ -50,7 +50,7 @@ returns g c = record {
         Appends-trans (g.W.Write.contents c.args.writer.now)
         (g.W.Write.contents c.write_header.new.writer)
         (g.W.Write.contents c.write_charges.new.writer) header_record
-        (charges_text Records (of_month c.args.asked.now.book.now c.args.asked.now.month rows))
+        (charge_texts Records (of_month c.args.asked.now.book.now c.args.asked.now.month rows))
         c.in_ok-write_header.ensures.written
         ((c.in_ok-write_charges.ensures.writes clean).whole rows are);
     beginning = λ rows are. tt;
@@ -61,7 +61,7 @@ returns g c = record {
         whole = Appends-trans (g.W.Write.contents c.args.writer.now)
             (g.W.Write.contents c.write_header.new.writer)
             (g.W.Write.contents c.write_charges.new.writer) header_record
-            (charges_text Records
+            (charge_texts Records
             (of_month c.args.asked.now.book.now c.args.asked.now.month some.rows))
             c.in_ok-write_header.ensures.written some.whole.1;
         beginning = tt;

@@ -1,5 +1,5 @@
 use Rattle.std.proofs.Common.{rules, []}
-use Rattle.statements.specs.Texts.{charges_text, of_month, sums_of, head_text, foot_text}
+use Rattle.statements.specs.Texts.{charge_texts, of_month, sums_of, head_text, foot_text}
 use Rattle.statements.specs.declared.rows.Form.TheVariants.{Lines}
 use Rattle.statements.proofs.Beginnings.{begun_first, begun_second, three_begun, three_written}
 use Rattle.statements.proofs.MonthLemmas.{err_some, err_writes}
@@ -11,11 +11,11 @@ returns-in_err-write_head g c = record {
       err_writes _ _ _ _ c.from_residual.result c.from_residual.ensures.0 (λ rows are.
       let month = of_month c.args.asked.now.book.now c.args.asked.now.month rows in
       begun_first (foot_text (sums_of month) c.args.buckets.now)
-      (begun_first (charges_text Lines month) c.in_err-write_head.ensures.err));
+      (begun_first (charge_texts Lines month) c.in_err-write_head.ensures.err));
   some = let month = of_month c.args.asked.now.book.now c.args.asked.now.month [] in
       err_some _ _ _ c.from_residual.result c.from_residual.ensures.0 []
       (begun_first (foot_text (sums_of month) c.args.buckets.now)
-      (begun_first (charges_text Lines month) c.in_err-write_head.ensures.err));
+      (begun_first (charge_texts Lines month) c.in_err-write_head.ensures.err));
   asks = search rules;
 }
 
@@ -30,7 +30,7 @@ returns-in_err-sums g c = record {
       (g.W.Write.contents c.write_head.new.writer)
       (g.W.Write.contents c.write_charges.new.writer)
       (head_text c.args.asked.now.account.now c.args.asked.now.month c.args.moment)
-      (charges_text Lines month) c.in_ok-write_head.ensures.written
+      (charge_texts Lines month) c.in_ok-write_head.ensures.written
       ((c.in_err-sums.ensures.writes clean).beginning rows are)));
   some = let some = c.in_err-sums.ensures.some in
       let month = of_month c.args.asked.now.book.now c.args.asked.now.month some.rows in
@@ -41,7 +41,7 @@ returns-in_err-sums g c = record {
       (g.W.Write.contents c.write_head.new.writer)
       (g.W.Write.contents c.write_charges.new.writer)
       (head_text c.args.asked.now.account.now c.args.asked.now.month c.args.moment)
-      (charges_text Lines month) c.in_ok-write_head.ensures.written some.beginning));
+      (charge_texts Lines month) c.in_ok-write_head.ensures.written some.beginning));
   asks = search rules;
 }
 
@@ -55,7 +55,7 @@ returns-in_err-write_foot g c = record {
       (g.W.Write.contents c.write_head.new.writer)
       (g.W.Write.contents c.write_charges.new.writer) (g.W.Write.contents c.write_foot.new.writer)
       (head_text c.args.asked.now.account.now c.args.asked.now.month c.args.moment)
-      (charges_text Lines month) (λ s. foot_text s c.args.buckets.now) _ (sums_of month)
+      (charge_texts Lines month) (λ s. foot_text s c.args.buckets.now) _ (sums_of month)
       (c.in_ok-sums.ensures.sums clean rows are) c.in_ok-write_head.ensures.written
       ((c.in_ok-sums.ensures.writes clean).whole rows are) c.in_err-write_foot.ensures.err);
   some = let some = c.in_ok-sums.ensures.some in
@@ -66,7 +66,7 @@ returns-in_err-write_foot g c = record {
       (g.W.Write.contents c.write_head.new.writer)
       (g.W.Write.contents c.write_charges.new.writer) (g.W.Write.contents c.write_foot.new.writer)
       (head_text c.args.asked.now.account.now c.args.asked.now.month c.args.moment)
-      (charges_text Lines month) (λ s. foot_text s c.args.buckets.now) _ (sums_of month)
+      (charge_texts Lines month) (λ s. foot_text s c.args.buckets.now) _ (sums_of month)
       some.whole.0 c.in_ok-write_head.ensures.written some.whole.1 c.in_err-write_foot.ensures.err);
   asks = search rules;
 }
@@ -80,7 +80,7 @@ returns g c = record {
         (g.W.Write.contents c.write_head.new.writer)
         (g.W.Write.contents c.write_charges.new.writer) (g.W.Write.contents c.write_foot.new.writer)
         (head_text c.args.asked.now.account.now c.args.asked.now.month c.args.moment)
-        (charges_text Lines month) (λ s. foot_text s c.args.buckets.now) _ (sums_of month)
+        (charge_texts Lines month) (λ s. foot_text s c.args.buckets.now) _ (sums_of month)
         (c.in_ok-sums.ensures.sums clean rows are) c.in_ok-write_head.ensures.written
         ((c.in_ok-sums.ensures.writes clean).whole rows are) c.in_ok-write_foot.ensures.written;
     beginning = λ rows are. tt;
@@ -94,7 +94,7 @@ returns g c = record {
             (g.W.Write.contents c.write_charges.new.writer)
             (g.W.Write.contents c.write_foot.new.writer)
             (head_text c.args.asked.now.account.now c.args.asked.now.month c.args.moment)
-            (charges_text Lines month) (λ s. foot_text s c.args.buckets.now) _ (sums_of month)
+            (charge_texts Lines month) (λ s. foot_text s c.args.buckets.now) _ (sums_of month)
             some.whole.0 c.in_ok-write_head.ensures.written some.whole.1
             c.in_ok-write_foot.ensures.written;
         beginning = tt;

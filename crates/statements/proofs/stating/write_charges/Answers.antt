@@ -2,7 +2,7 @@ use Rattle.std.proofs.Common.{refl, sym, ap, subst, ◌∙◌, rules}
 use Rattle.std.specs.Prelude.{is_some}
 use Rattle.std.specs.Io.KnownBytes.{Appends}
 use Rattle.statements.specs.Months.{cycle_of_month}
-use Rattle.statements.specs.Texts.{charges_text, of_month, WritesBeginning}
+use Rattle.statements.specs.Texts.{charge_texts, of_month, WritesBeginning}
 use Rattle.statements.proofs.MonthLemmas.{Begins, wrote_all, begun_name, begun_text, err_writes}
 use Rattle.statements.proofs.MonthLemmas.{begun_some, err_summed, sums_from, sums_are, wrote_some}
 use Rattle.statements.proofs.stating.write_charges.Goals as goal
@@ -23,7 +23,7 @@ returns-in_err-each-clause-writes g c = λ clean.
     c.first.result c.no_end.result c.first.ensures c.no_end.ensures _ c.each.new.visitor
     h shown rows are in
     subst (λ x. WritesBeginning (g.W.Write.contents c.args.writer.now) (g.W.Write.contents x)
-    (charges_text c.args.form (of_month c.args.asked.now.book.now c.args.asked.now.month rows)))
+    (charge_texts c.args.form (of_month c.args.asked.now.book.now c.args.asked.now.month rows)))
     (let same = sym name in search (rules, same)) text)
 
 pub returns-in-None-clause-writes : goal.returns-in-None-clause-writes
@@ -35,7 +35,7 @@ returns-in-None-clause-writes g c = λ clean. record {
       (record { fault = refl; book = refl; cycle = c.cycle_of_month.ensures; form = refl })
       (c.in_ok-each.ensures.reads.found clean) rows are in
       subst (λ x. Appends (g.W.Write.contents c.args.writer.now) (g.W.Write.contents x)
-      (charges_text c.args.form (of_month c.args.asked.now.book.now c.args.asked.now.month rows)))
+      (charge_texts c.args.form (of_month c.args.asked.now.book.now c.args.asked.now.month rows)))
       (let name = sym w.writer in search (rules, name)) (w.text c.in-None.is);
   beginning = λ rows are. tt;
 }
@@ -62,7 +62,7 @@ returns-in-Some-clause-writes g c = λ clean. record {
       (record { fault = refl; book = refl; cycle = c.cycle_of_month.ensures; form = refl })
       (c.in_ok-each.ensures.reads.found clean) rows are in
       subst (λ x. WritesBeginning (g.W.Write.contents c.args.writer.now) (g.W.Write.contents x)
-      (charges_text c.args.form (of_month c.args.asked.now.book.now c.args.asked.now.month rows)))
+      (charge_texts c.args.form (of_month c.args.asked.now.book.now c.args.asked.now.month rows)))
       (let name = sym w.writer in search (rules, name)) (w.begun (ap is_some c.in-Some.is));
 }
 
@@ -80,7 +80,7 @@ returns-in_err-each-clause-some g c =
     err_summed _ _ c.args.form (of_month c.args.asked.now.book.now c.args.asked.now.month)
     c.from_residual.result c.from_residual.ensures.0 shown.rows
     (subst (λ x. WritesBeginning (g.W.Write.contents c.args.writer.now) (g.W.Write.contents x)
-    (charges_text c.args.form
+    (charge_texts c.args.form
     (of_month c.args.asked.now.book.now c.args.asked.now.month shown.rows)))
     (let same = sym w.writer in search (rules, same)) text)
 
@@ -98,7 +98,7 @@ returns-in-None-clause-some g c =
             (of_month c.args.asked.now.book.now c.args.asked.now.month shown.rows)) c.none.ensures
             ∙ sums_are (of_month c.args.asked.now.book.now c.args.asked.now.month shown.rows),
         subst (λ x. Appends (g.W.Write.contents c.args.writer.now) (g.W.Write.contents x)
-            (charges_text c.args.form
+            (charge_texts c.args.form
             (of_month c.args.asked.now.book.now c.args.asked.now.month shown.rows)))
             (let name = sym w.writer in search (rules, name)) (w.text c.in-None.is),
       );
@@ -115,7 +115,7 @@ returns-in-Some-clause-some g c =
       rows = shown.rows;
       whole = tt;
       beginning = subst (λ x. WritesBeginning (g.W.Write.contents c.args.writer.now)
-          (g.W.Write.contents x) (charges_text c.args.form
+          (g.W.Write.contents x) (charge_texts c.args.form
           (of_month c.args.asked.now.book.now c.args.asked.now.month shown.rows)))
           (let name = sym w.writer in search (rules, name)) (w.begun (ap is_some c.in-Some.is));
     }
