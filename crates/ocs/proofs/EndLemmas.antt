@@ -30,15 +30,15 @@ use Rattle.operator.specs.declared.parsed.ProgramWords.{ProgramWords}
 use Rattle.operator.specs.declared.parsed.ProgramWords.TheVariants as words
 use Rattle.operator.proofs.ProgramLemmas.{one_invalid}
 use Rattle.service.specs.declared.fault.DatabaseFault.{DatabaseFault}
-use Rattle.ocs.specs.Ends.{HasPrinted, IfOnce, IsEnd, IsEndBy, IsEndOf, IsMemory, IsRefused}
+use Rattle.ocs.specs.Ends.{HasPrinted, IfOnce, IsEnd, IsEndBy, IsEndOf, IsMemory, PrintsRefusal}
 use Rattle.ocs.specs.Ends.{HasBegun}
 use Rattle.ocs.specs.Faults.{IsFaultIn, IsFaultOf, IsMemoryFault}
 use Rattle.ocs.specs.Faults.{IsWriteFault, OnlyDone}
 use Rattle.tariffs.specs.OnceBook.{once_book}
 use Rattle.ocs.specs.Runs.{PrintsSaid}
 use Rattle.ocs.specs.Told.{IsTextTold, IsTold}
-use Rattle.ocs.specs.Told.{IsToldAtEnd, IsToldBy, IsToldOf, LeavesOutput, ServesConnections}
-use Rattle.ocs.specs.Told.{TellsFault, fault_line, line_of}
+use Rattle.ocs.specs.Told.{IsToldAtEnd, IsToldBy, IsToldOf, LeavesOutput, ReportsConnections}
+use Rattle.ocs.specs.Told.{ReportsFault, fault_line, done_line}
 use Rattle.request_lines.specs.Once.{BeginsOnce, once_text}
 use Rattle.ocs.specs.declared.fault.ProgramFault.{ProgramFault}
 use Rattle.ocs.specs.declared.fault.ProgramFault.TheVariants as program
@@ -47,7 +47,7 @@ use Rattle.ocs.specs.declared.fault.ProgramFault.TheVariants as program
 
 pub tells_from : (O P S T : ProgramFault → Type 0) (old new : Option (List ℕ)) →
     ((f : ProgramFault) → O f → P f) → ((f : ProgramFault) → S f → T f) →
-    TellsFault O S old new → TellsFault P T old new
+    ReportsFault O S old new → ReportsFault P T old new
 tells_from O P S T old new h k t = record {
   fault = t.fault;
   reached = h t.fault t.reached;
@@ -94,7 +94,7 @@ keeps_of old new e = subst (Keeps old) (sym e) (Keeps-refl old)
 
 -- nothing is printed of what is done, but the faults of connections
 done_said : (texts : List Text) (said : ProgramWords) (old new : Option (List ℕ)) →
-    IsSaid texts said → IsToldAtEnd said old new → Keeps old new ⊎ ServesConnections texts old new
+    IsSaid texts said → IsToldAtEnd said old new → Keeps old new ⊎ ReportsConnections texts old new
 done_said texts (words.Serve serve) old new h told =
     inr (record { serve = serve; says = h; told = told })
 done_said texts _ old new h told = inl (keeps_of old new told)
@@ -131,14 +131,14 @@ ends_read status end e = subst IsEndBy e end
 -- ---- what is done
 
 refused_told : (said : ProgramWords) (before after old new : Option (List ℕ)) →
-    IsRefused said before after → IsToldAtEnd said old new → Keeps old new
+    PrintsRefusal said before after → IsToldAtEnd said old new → Keeps old new
 refused_told (words.Office office) before after old new refused told = keeps_of old new told
 refused_told (words.Statement statement) before after old new refused told = keeps_of old new told
 refused_told _ before after old new refused told = absurd refused
 
 -- what ends by itself
 pub ended_told : (said : ProgramWords) (before after : Option (List ℕ)) (status : Status)
-    (old new : Option (List ℕ)) → IsEnded (IsRefused said before after) status →
+    (old new : Option (List ℕ)) → IsEnded (PrintsRefusal said before after) status →
     IsToldAtEnd said old new → IsToldBy said before after status old new
 ended_told said before after Done old new ended told = told
 ended_told said before after Failed old new ended told =
@@ -157,7 +157,7 @@ printed_done bytes said before after status printed done =
 -- rule: exit-status
 pub refused_begun : {F : Type 0} (bytes : F → Option (List ℕ)) (said : ProgramWords)
     (before after : Option (List ℕ)) (status : Status) →
-    IsEnded (IsRefused said before after) status → status ≡ Failed →
+    IsEnded (PrintsRefusal said before after) status → status ≡ Failed →
     HasBegun bytes said before after
 refused_begun bytes (words.Statement statement) before after status ended failed =
     inr (all_written before after unknown_line
@@ -224,7 +224,7 @@ ended_end Refused Unread ended = absurd ended
 
 -- the lines of `once` are never refused
 pub once_ends : (said : ProgramWords) (before after : Option (List ℕ))
-    (status : Status) (P : OnceWords → Type 0) → IsEnded (IsRefused said before after) status →
+    (status : Status) (P : OnceWords → Type 0) → IsEnded (PrintsRefusal said before after) status →
     status ≡ Failed → IfOnce said P
 once_ends (words.Once once) before after status P ended failed =
     absurd (subst (IsEnded ⊥) failed ended)
@@ -232,8 +232,8 @@ once_ends _ before after status P ended failed = tt
 
 -- words that print one line are never refused
 pub line_ends : (said : ProgramWords) (before after : Option (List ℕ)) (status : Status)
-    (P : List ℕ → Type 0) → IsEnded (IsRefused said before after) status → status ≡ Failed →
-    IfSome (line_of said) P
+    (P : List ℕ → Type 0) → IsEnded (PrintsRefusal said before after) status → status ≡ Failed →
+    IfSome (done_line said) P
 line_ends (words.Init init) before after status P ended failed =
     absurd (subst (IsEnded ⊥) failed ended)
 line_ends (words.Migrate migrate) before after status P ended failed =
@@ -283,7 +283,7 @@ end_unread texts fault.Memory Unread unread end = absurd end
 none_tells : (texts : List Text) (before after : Option (List ℕ)) (old new : Option (List ℕ))
     (Reached : ProgramFault → Type 0) → ((f : ProgramFault) → Reached f → IsFaultIn texts f) →
     ((said : ProgramWords) → IsSaid texts said → after ≡ before) →
-    TellsFault Reached (λ _. Unit {0}) old new → IsTold texts before after Failed old new
+    ReportsFault Reached (λ _. Unit {0}) old new → IsTold texts before after Failed old new
 none_tells texts before after old new Reached into same t =
     inl (tells_from Reached (IsFaultIn texts) (λ _. Unit {0})
     (λ f. (said : ProgramWords) → IsSaid texts said → LeavesOutput said before after f) old new
@@ -379,7 +379,7 @@ pub nothing_prints : {F : Type 0} (bytes : F → Option (List ℕ)) (said : Prog
     PrintsSaid bytes said stream old new status
 nothing_prints bytes said stream old new status same undone = record {
   printed = λ done. absurd (undone done);
-  begun = λ failed. unwritten_line (line_of said) old new same;
+  begun = λ failed. unwritten_line (done_line said) old new same;
   answered = λ done. absurd (undone done);
   started = λ failed. nothing_started bytes said old new same;
   done = λ done. absurd (undone done);

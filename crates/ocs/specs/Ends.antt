@@ -34,10 +34,10 @@ IfOnce _ says = Unit {0}
 -- a refusal of it is printed: of an operator's command, or that the account of a statement isn't
 -- there; no other is refused
 -- rule: exit-status
-abbrev pub IsRefused : ProgramWords → Option Bytes → Option Bytes → Type 0
-IsRefused (words.Office office) old new = PrintsAnswer Failed old new
-IsRefused (words.Statement statement) old new = Appends old new unknown_line
-IsRefused _ old new = ⊥
+abbrev pub PrintsRefusal : ProgramWords → Option Bytes → Option Bytes → Type 0
+PrintsRefusal (words.Office office) old new = PrintsAnswer Failed old new
+PrintsRefusal (words.Statement statement) old new = Appends old new unknown_line
+PrintsRefusal _ old new = ⊥
 
 -- the lines of some file are answered, where it shows its bytes
 -- rule: exit-status
@@ -82,7 +82,7 @@ HasBegun bytes (words.Replay replay) old new = BeginsLinesOf bytes old new
 HasBegun bytes _ old new = Unit {0}
 
 -- the words say something that is so
-pub record Says (texts : List Text) (Is : ProgramWords → Type 0) : Type 0 where
+pub record SaysSo (texts : List Text) (Is : ProgramWords → Type 0) : Type 0 where
   pub said : ProgramWords
   pub says : IsSaid texts said
   pub is : Is said

@@ -16,7 +16,7 @@ use Rattle.service.specs.declared.fault.DatabaseFault.{DatabaseFault}
 use Rattle.service.specs.declared.importing.ImportFault.{ImportFault}
 use Rattle.service.specs.declared.importing.ImportFault.TheVariants as importing
 use Rattle.service.specs.ServingTold.{IsServeFault}
-use Rattle.ocs.specs.Ends.{Says}
+use Rattle.ocs.specs.Ends.{SaysSo}
 use Rattle.ocs.specs.declared.fault.ProgramFault.{ProgramFault}
 use Rattle.ocs.specs.declared.fault.ProgramFault.TheVariants as program
 
@@ -84,5 +84,5 @@ IsWriteFault fault = fault ≡ program.Stream stream.Write
 -- the text that they ask for wasn't written
 -- rule: exit-status
 abbrev pub IsFaultIn : List Text → ProgramFault → Type 0
-IsFaultIn texts fault = Says texts (λ said. IsFaultOf said fault)
+IsFaultIn texts fault = SaysSo texts (λ said. IsFaultOf said fault)
     ⊎ (IsMemoryFault fault ⊎ (((said : ProgramWords) → ¬ IsSaid texts said) × IsWriteFault fault))

@@ -14,14 +14,14 @@ use Rattle.operations.specs.declared.status.Status.{Status}
 use Rattle.operations.specs.declared.status.Status.TheVariants.{Done, Failed, Unread}
 use Rattle.ocs.specs.Ends.{HasBegun, HasPrinted, IfOnce, IsEnd}
 use Rattle.request_lines.specs.Once.{BeginsOnce, WritesOnce}
-use Rattle.ocs.specs.Told.{IsTold, line_of}
+use Rattle.ocs.specs.Told.{IsTold, done_line}
 
 -- what words that are read print: all that they ask for where it is done, and where it fails a
 -- beginning of that; `once` by the lines of this stream
 pub record PrintsSaid {File : Type 0} (bytes : File → Option Bytes) (said : ProgramWords)
     (stream old new : Option Bytes) (status : Status) : Type 0 where
-  pub printed : status ≡ Done → IfSome (line_of said) (Appends old new)
-  pub begun : status ≡ Failed → IfSome (line_of said) (WritesBeginning old new)
+  pub printed : status ≡ Done → IfSome (done_line said) (Appends old new)
+  pub begun : status ≡ Failed → IfSome (done_line said) (WritesBeginning old new)
   pub answered : status ≡ Done → HasPrinted bytes said old new Done
   pub started : status ≡ Failed → HasBegun bytes said old new
   pub done : status ≡ Done → IfOnce said (λ once.
@@ -31,7 +31,7 @@ pub record PrintsSaid {File : Type 0} (bytes : File → Option Bytes) (said : Pr
 
 -- it ends as the words say, what they ask for is printed or a beginning of it, and a fault is
 -- reported
-pub record Runs {F I O E : Type 0} (bytes : F → Option Bytes) (remaining : I → Option Bytes)
+pub record RunsProgram {F I O E : Type 0} (bytes : F → Option Bytes) (remaining : I → Option Bytes)
     (contents : O → Option Bytes) (faults : E → Option Bytes) (texts : List Text) (input rest : I)
     (old new : O) (before after : E) (status : Status) : Type 0 where
   pub end : IsEnd texts status

@@ -26,7 +26,7 @@ use Rattle.service.specs.ServingTold.{IsUnlistened, TellsFaults, listening_line}
 use Rattle.request_lines.specs.Faults.{AreUnread}
 use Rattle.request_lines.specs.Told.{about_lines}
 use Rattle.vouchers.specs.Faults.{voucher_fault_number}
-use Rattle.ocs.specs.Ends.{IsRefused, Says}
+use Rattle.ocs.specs.Ends.{PrintsRefusal, SaysSo}
 use Rattle.ocs.specs.Faults.{IsFaultIn, IsFaultOf, IsMemoryFault, IsWriteFault}
 use Rattle.request_lines.specs.declared.fault.LinesFault.{LinesFault}
 use Rattle.ocs.specs.declared.fault.ProgramFault.{ProgramFault}
@@ -57,12 +57,12 @@ abbrev pub version_line : Bytes
 version_line = codes "version " ++ (decimal latest ++ codes "\n")
 
 -- the line of words that print one alone
-abbrev pub line_of : ProgramWords → Option Bytes
-line_of (words.Init init) = Some (codes "ok\n")
-line_of (words.Migrate migrate) = Some version_line
-line_of (words.Book book) = Some (codes "ok\n")
-line_of (words.Serve serve) = Some (listening_line serve.port)
-line_of _ = None
+abbrev pub done_line : ProgramWords → Option Bytes
+done_line (words.Init init) = Some (codes "ok\n")
+done_line (words.Migrate migrate) = Some version_line
+done_line (words.Book book) = Some (codes "ok\n")
+done_line (words.Serve serve) = Some (listening_line serve.port)
+done_line _ = None
 
 -- ---- what isn't printed
 
@@ -102,7 +102,7 @@ LeavesOutput said before after fault = IsSilent said fault → after ≡ before
 -- ---- what is reported
 
 -- a fault of which this is so is reported by its line, as far as it can be written
-pub record TellsFault (Reached Silent : ProgramFault → Type 0) (old new : Option Bytes)
+pub record ReportsFault (Reached Silent : ProgramFault → Type 0) (old new : Option Bytes)
     : Type 0 where
   pub fault : ProgramFault
   pub reached : Reached fault
@@ -116,7 +116,7 @@ pub record ConnectionsTold (connections : ℕ) (old new : Option Bytes) : Type 0
   pub told : TellsFaults failed old new
 
 -- so it is where the words say `serve`
-pub record ServesConnections (texts : List Text) (old new : Option Bytes) : Type 0 where
+pub record ReportsConnections (texts : List Text) (old new : Option Bytes) : Type 0 where
   pub serve : ServeWords
   pub says : IsSaid texts (words.Serve serve)
   pub told : ConnectionsTold serve.connections old new
@@ -129,11 +129,11 @@ pub record ServesConnections (texts : List Text) (old new : Option Bytes) : Type
 -- rule: exit-status
 abbrev pub IsTold : List Text → Option Bytes → Option Bytes → Status → Option Bytes → Option Bytes →
     Type 0
-IsTold texts before after Done old new = Keeps old new ⊎ ServesConnections texts old new
+IsTold texts before after Done old new = Keeps old new ⊎ ReportsConnections texts old new
 IsTold texts before after Failed old new =
-    TellsFault (IsFaultIn texts)
+    ReportsFault (IsFaultIn texts)
     (λ fault. (said : ProgramWords) → IsSaid texts said → LeavesOutput said before after fault)
-    old new ⊎ (Says texts (λ said. IsRefused said before after) × Keeps old new)
+    old new ⊎ (SaysSo texts (λ said. PrintsRefusal said before after) × Keeps old new)
 IsTold texts before after Unread old new = (argument : Argument) → IsInvalid texts argument →
     WritesBeginning old new (argument_line argument ++ 10 ∷ [])
 
@@ -142,14 +142,14 @@ IsTold texts before after Unread old new = (argument : Argument) → IsInvalid t
 abbrev pub IsTextTold : Status → Option Bytes → Option Bytes → Type 0
 IsTextTold Done old new = Keeps old new
 IsTextTold Failed old new =
-    TellsFault (λ fault. IsMemoryFault fault ⊎ IsWriteFault fault) (λ _. Unit {0}) old new
+    ReportsFault (λ fault. IsMemoryFault fault ⊎ IsWriteFault fault) (λ _. Unit {0}) old new
 IsTextTold Unread old new = Unit {0}
 
 abbrev pub IsToldOf : WordsFault → Status → Option Bytes → Option Bytes → Type 0
 IsToldOf (fault.Unread error) status old new = IsTextTold status old new
 IsToldOf (fault.Invalid argument) status old new =
     WritesBeginning old new (argument_line argument ++ 10 ∷ [])
-IsToldOf fault.Memory status old new = TellsFault IsMemoryFault (λ _. Unit {0}) old new
+IsToldOf fault.Memory status old new = ReportsFault IsMemoryFault (λ _. Unit {0}) old new
 
 -- ---- the same by what the words say
 
@@ -162,6 +162,6 @@ abbrev pub IsToldBy : ProgramWords → Option Bytes → Option Bytes → Status 
     Option Bytes → Type 0
 IsToldBy said before after Done old new = IsToldAtEnd said old new
 IsToldBy said before after Failed old new =
-    TellsFault (IsFaultOf said) (LeavesOutput said before after) old new
-    ⊎ (IsRefused said before after × Keeps old new)
+    ReportsFault (IsFaultOf said) (LeavesOutput said before after) old new
+    ⊎ (PrintsRefusal said before after × Keeps old new)
 IsToldBy said before after Unread old new = ⊥

@@ -6,9 +6,9 @@ ghost use Rattle.operations.specs.Printed.{IsEnded};
 ghost use Rattle.operations.specs.Written.{WritesBeginning};
 ghost use Rattle.tariffs.specs.OnceBook.{once_book};
 ghost use Rattle.operator.specs.Read.{IsInRange, IsOnceInRange};
-ghost use Rattle.ocs.specs.Ends.{HasBegun, HasPrinted, IfOnce, IsRefused};
+ghost use Rattle.ocs.specs.Ends.{HasBegun, HasPrinted, IfOnce, PrintsRefusal};
 ghost use Rattle.ocs.specs.Faults.{IsFaultOf, IsOnceFault};
-ghost use Rattle.ocs.specs.Told.{IfLines, IsSilent, IsToldAtEnd, line_of};
+ghost use Rattle.ocs.specs.Told.{IfLines, IsSilent, IsToldAtEnd, done_line};
 ghost use Rattle.request_lines.specs.Faults.{AreUnread};
 ghost use Rattle.request_lines.specs.Once.{BeginsOnce, WritesOnce};
 
@@ -46,7 +46,7 @@ pub(crate) fn do_said<F: Files, I: Read, O: Write, E: Write>(
 ) -> Result<Status, ProgramFault>
     requires { IsInRange said }
     ensures ended { IfOk result (IsEnded
-        (IsRefused said (O.contents output.old) (O.contents output.new))) }
+        (PrintsRefusal said (O.contents output.old) (O.contents output.new))) }
     ensures answered { IfOk result
         (HasPrinted F.File.remaining said (O.contents output.old) (O.contents output.new)) }
     ensures started { OnErr result
@@ -55,9 +55,9 @@ pub(crate) fn do_said<F: Files, I: Read, O: Write, E: Write>(
     ensures told { OnOk result (IsToldAtEnd said (E.contents errors.old) (E.contents errors.new)) }
     ensures untold { OnErr result (errors.new ≡ errors.old) }
     ensures silent { IfErr result (λ fault. IsSilent said fault → output.new ≡ output.old) }
-    ensures printed { IfSome (line_of said) (λ line. OnOk result
+    ensures printed { IfSome (done_line said) (λ line. OnOk result
         (Appends (O.contents output.old) (O.contents output.new) line)) }
-    ensures begun { IfSome (line_of said) (λ line. OnErr result
+    ensures begun { IfSome (done_line said) (λ line. OnErr result
         (WritesBeginning (O.contents output.old) (O.contents output.new) line)) }
     ensures unread { IfOnce said (λ _. ⊥) → input.new ≡ input.old }
     ensures done { IfOnce said (λ once. OnOk result (WritesOnce (once_book once.price once.block)

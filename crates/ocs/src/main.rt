@@ -14,7 +14,7 @@ ghost use Rattle.std.specs.Prelude.{◌≡◌};
 ghost use Rattle.operator.specs.Read.{IsInRange, texts_of};
 ghost use Rattle.ocs.specs.Ends.{IfOnce, IsEndBy};
 ghost use Rattle.ocs.specs.Told.{IsToldBy};
-ghost use Rattle.ocs.specs.Runs.{PrintsSaid, Runs};
+ghost use Rattle.ocs.specs.Runs.{PrintsSaid, RunsProgram};
 
 use crate::doing::do_said;
 use crate::telling::{tell_fault, tell_start, tell_unread};
@@ -78,8 +78,8 @@ pub fn run_words<'a, F: Files, I: Read, O: Write, E: Write>(
     output: &mut O,
     errors: &mut E,
 ) -> Status
-    ensures { Runs F.File.remaining I.remaining O.contents E.contents (texts_of words.entry.now)
-        input.old input.new output.old output.new errors.old errors.new result }
+    ensures { RunsProgram F.File.remaining I.remaining O.contents E.contents
+        (texts_of words.entry.now) input.old input.new output.old output.new errors.old errors.new result }
 {
     match program_words(rt.alloc(), words) {
         Ok(said) => run_said(rt, files, said, input, output, errors),

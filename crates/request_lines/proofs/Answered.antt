@@ -21,9 +21,9 @@ use Rattle.charging.proofs.runs.RunLemmas.{commands_after}
 use Rattle.request_lines.specs.declared.input.Input.{Input}
 use Rattle.request_lines.specs.Lines.{line_request}
 use Rattle.request_lines.specs.Served.{requests_in, opening_for, opening_in, commands_of, faults_in}
-use Rattle.request_lines.specs.Served.{answer_texts, text_of, text_to, IsAnswered}
-use Rattle.request_lines.specs.Served.{IsShort, AreLinesBegun, IsRunOpened, IsUntold}
-use Rattle.request_lines.specs.Input.{told_fault, IsInput}
+use Rattle.request_lines.specs.Served.{answer_texts, lines_text, lines_text_to, AreLinesAnswered}
+use Rattle.request_lines.specs.Served.{AreLinesStopped, AreLinesBegun, IsRunOpened, AreLinesUntold}
+use Rattle.request_lines.specs.Input.{kept_fault, IsInput}
 use Rattle.operations.specs.Written.{WritesBeginning}
 use Rattle.operations.proofs.Beginnings.{nothing_written, beginning_before}
 use Rattle.request_lines.proofs.Texts.{texts_taken}
@@ -178,7 +178,7 @@ module _ (b : Shelf) (amount : Option ℕ) (w0 w1 : Option (List ℕ)) where
   begun-none (Some stream) tables = λ list time h. record {
     count = 0;
     tables = h;
-    written = nothing_written w0 (text_to 0 b list amount stream);
+    written = nothing_written w0 (lines_text_to 0 b list amount stream);
   }
 
   module _ {F : Type 0} (input : Input) (opening : List DatedCommand) (given : List Answer)
@@ -198,8 +198,8 @@ module _ (b : Shelf) (amount : Option ℕ) (w0 w1 : Option (List ℕ)) where
     text_is : (stream : List ℕ) (list : List Accepted) →
         IsInput (map line_request (lines_of stream)) input →
         (run : IsRunOpened b (opening_in amount stream) (requests_in stream) new given fault list) →
-        answer_texts (map told_fault input.lines.items) given ≡ text_to run.count b list amount
-        stream
+        answer_texts (map kept_fault input.lines.items) given ≡
+        lines_text_to run.count b list amount stream
     text_is stream list h run = λ i. answer_texts (h.lines i) (run.answers i)
 
     -- what is answered isn't written whole
@@ -207,7 +207,7 @@ module _ (b : Shelf) (amount : Option ℕ) (w0 w1 : Option (List ℕ)) where
         IfSome r (λ stream. IsInput (map line_request (lines_of stream)) input) →
         opening ≡ opening_for amount input.requests.items →
         ForEachList b old (IsRunOpened b opening input.requests.items new given fault) →
-        WritesBeginning w0 w1 (answer_texts (map told_fault input.lines.items) given) →
+        WritesBeginning w0 w1 (answer_texts (map kept_fault input.lines.items) given) →
         IfSome r (λ stream. ForEachList b old (AreLinesBegun b amount stream w0 w1 new))
     begun-run None h opened runs written = tt
     begun-run (Some stream) h opened runs written = λ list time tables.
@@ -226,8 +226,8 @@ module _ (b : Shelf) (amount : Option ℕ) (w0 w1 : Option (List ℕ)) where
       IfSome r (λ stream. IsInput (map line_request (lines_of stream)) input) →
       opening ≡ opening_for amount input.requests.items →
       ForEachList b old (IsRunOpened b opening input.requests.items new given (Some f)) →
-      Writes (answer_texts (map told_fault input.lines.items) given) →
-      IfSome r (λ stream. ForEachList b old (IsShort b amount stream Writes new))
+      Writes (answer_texts (map kept_fault input.lines.items) given) →
+      IfSome r (λ stream. ForEachList b old (AreLinesStopped b amount stream Writes new))
   short-run Writes input opening given old new f None h opened runs written = tt
   short-run {F = F} Writes input opening given old new f (Some stream) h opened runs written =
       λ list time tables.
@@ -249,8 +249,8 @@ module _ (b : Shelf) (amount : Option ℕ) (w0 w1 : Option (List ℕ)) where
       IfSome r (λ stream. IsInput (map line_request (lines_of stream)) input) →
       opening ≡ opening_for amount input.requests.items →
       ForEachList b old (IsRunOpened b opening input.requests.items new given fault) →
-      WritesBeginning w0 w1 (answer_texts (map told_fault input.lines.items) given) →
-      IfSome r (λ stream. ForEachList b old (IsUntold b amount stream w0 w1 new))
+      WritesBeginning w0 w1 (answer_texts (map kept_fault input.lines.items) given) →
+      IfSome r (λ stream. ForEachList b old (AreLinesUntold b amount stream w0 w1 new))
   untold-run input opening given (Some f) old new r none h opened runs written =
       absurd (none-some f (sym none))
   untold-run input opening given None old new None none h opened runs written = tt
@@ -274,8 +274,8 @@ module _ (b : Shelf) (amount : Option ℕ) (w0 w1 : Option (List ℕ)) where
       IfSome r (λ stream. IsInput (map line_request (lines_of stream)) input) →
       opening ≡ opening_for amount input.requests.items →
       ForEachList b old (IsRunOpened b opening input.requests.items new given fault) →
-      Appends w0 w1 (answer_texts (map told_fault input.lines.items) given) →
-      IfSome r (λ stream. ForEachList b old (IsAnswered b amount stream w0 w1 new))
+      Appends w0 w1 (answer_texts (map kept_fault input.lines.items) given) →
+      IfSome r (λ stream. ForEachList b old (AreLinesAnswered b amount stream w0 w1 new))
   answered-run input opening given (Some f) old new r none h opened runs written =
       absurd (none-some f (sym none))
   answered-run input opening given None old new None none h opened runs written = tt
@@ -294,8 +294,8 @@ module _ (b : Shelf) (amount : Option ℕ) (w0 w1 : Option (List ℕ)) where
 
 -- a beginning of what is answered is a beginning of the stream's text
 pub begins : (b : Shelf) (list : List Accepted) (amount : Option ℕ) (stream : List ℕ) (count : ℕ)
-    (w0 w1 : Option (List ℕ)) → WritesBeginning w0 w1 (text_to count b list amount stream) →
-    WritesBeginning w0 w1 (text_of b list amount stream)
+    (w0 w1 : Option (List ℕ)) → WritesBeginning w0 w1 (lines_text_to count b list amount stream) →
+    WritesBeginning w0 w1 (lines_text b list amount stream)
 begins b list amount stream count w0 w1 h =
     let all : List Answer = answers_to b list (commands_of amount stream) in
     let k = length (opening_in amount stream) in

@@ -19,12 +19,12 @@ use Rattle.request_lines.specs.declared.fault.LinesFault.{LinesFault}
 use Rattle.request_lines.specs.declared.fault.LinesFault.TheVariants.{Read, Store, Both, Write}
 use Rattle.request_lines.specs.declared.input.Input.{Input}
 use Rattle.request_lines.specs.Faults.{ended_as}
-use Rattle.request_lines.specs.Input.{told_fault, IsInput}
+use Rattle.request_lines.specs.Input.{kept_fault, IsInput}
 use Rattle.request_lines.specs.Lines.{line_request}
 use Rattle.request_lines.specs.Served.{opening_for, answer_texts, faults_in, AnswersLines}
-use Rattle.request_lines.specs.Served.{IsAnswered}
-use Rattle.request_lines.specs.Served.{BeginsLines, AreLinesBegun, IsShort, TellsLines}
-use Rattle.request_lines.specs.Served.{IsRunOpened, IsUntold}
+use Rattle.request_lines.specs.Served.{AreLinesAnswered}
+use Rattle.request_lines.specs.Served.{BeginsLines, AreLinesBegun, AreLinesStopped, TellsLines}
+use Rattle.request_lines.specs.Served.{IsRunOpened, AreLinesUntold}
 use Rattle.request_lines.proofs.Answered.{answered-run, begun-none, begun-run, continued-same}
 use Rattle.request_lines.proofs.Answered.{short-run}
 use Rattle.request_lines.proofs.Answered.{untold-run}
@@ -85,15 +85,15 @@ pub record IsWritten {A : Type 0} (b : Shelf) (amount : Option ℕ) (w0 w1 r : O
   pub read : IfSome r (λ stream. IsInput (map line_request (lines_of stream)) input)
   pub opened : opening ≡ opening_for amount input.requests.items
   pub runs : ForEachList b old (IsRunOpened b opening input.requests.items new given fault)
-  pub whole : OnOk written (Appends w0 w1 (answer_texts (map told_fault input.lines.items) given))
+  pub whole : OnOk written (Appends w0 w1 (answer_texts (map kept_fault input.lines.items) given))
   pub part : OnErr written
-      (WritesBeginning w0 w1 (answer_texts (map told_fault input.lines.items) given))
+      (WritesBeginning w0 w1 (answer_texts (map kept_fault input.lines.items) given))
 
 module _ {A : Type 0} (b : Shelf) (amount : Option ℕ) (w0 w1 r : Option (List ℕ))
     (old new : Tables) where
   answered : (fault : Option StoreFault) (written : Result A StreamFault) →
       IsWritten b amount w0 w1 r old new fault written → OnOk (ended_as fault written)
-      (IfSome r (λ stream. ForEachList b old (IsAnswered b amount stream w0 w1 new)))
+      (IfSome r (λ stream. ForEachList b old (AreLinesAnswered b amount stream w0 w1 new)))
   answered None (Ok x) h =
       answered-run b amount w0 w1 h.input h.opening h.given None old new r refl h.read h.opened
       h.runs h.whole
@@ -104,10 +104,10 @@ module _ {A : Type 0} (b : Shelf) (amount : Option ℕ) (w0 w1 r : Option (List 
   pub ended-answered : (fault : Option StoreFault) (written : Result A StreamFault)
       (result : Result A LinesFault) → result ≡ ended_as fault written →
       IsWritten b amount w0 w1 r old new fault written → OnOk result
-      (IfSome r (λ stream. ForEachList b old (IsAnswered b amount stream w0 w1 new)))
+      (IfSome r (λ stream. ForEachList b old (AreLinesAnswered b amount stream w0 w1 new)))
   ended-answered fault written result e h =
       subst (λ (res : Result A LinesFault). OnOk res
-      (IfSome r (λ stream. ForEachList b old (IsAnswered b amount stream w0 w1 new))))
+      (IfSome r (λ stream. ForEachList b old (AreLinesAnswered b amount stream w0 w1 new))))
       (sym e) (answered fault written h)
 
   pub ended-begun : (fault : Option StoreFault) (written : Result A StreamFault) →
@@ -115,13 +115,13 @@ module _ {A : Type 0} (b : Shelf) (amount : Option ℕ) (w0 w1 r : Option (List 
       IfSome r (λ stream. ForEachList b old (AreLinesBegun b amount stream w0 w1 new))
   ended-begun fault written h =
       begun-run b amount w0 w1 h.input h.opening h.given fault old new r h.read h.opened h.runs
-      (whole_or_begun written w0 w1 (answer_texts (map told_fault h.input.lines.items) h.given)
+      (whole_or_begun written w0 w1 (answer_texts (map kept_fault h.input.lines.items) h.given)
       h.whole h.part)
 
   stopped : (fault : Option StoreFault) (written : Result A StreamFault) (f : StoreFault) →
       store_in (ended_as fault written) ≡ Some f →
       IsWritten b amount w0 w1 r old new fault written →
-      IfSome r (λ stream. ForEachList b old (IsShort b amount stream (Appends w0 w1) new))
+      IfSome r (λ stream. ForEachList b old (AreLinesStopped b amount stream (Appends w0 w1) new))
   unfolding store_in
   stopped None (Ok x) f k h = absurd (none-some f k)
   stopped None (Err g) f k h = absurd (none-some f k)
@@ -133,7 +133,7 @@ module _ {A : Type 0} (b : Shelf) (amount : Option ℕ) (w0 w1 r : Option (List 
   pub ended-stopped : (fault : Option StoreFault) (written : Result A StreamFault)
       (result : Result A LinesFault) (f : StoreFault) → result ≡ ended_as fault written →
       result ≡ Err (Store f) → IsWritten b amount w0 w1 r old new fault written →
-      IfSome r (λ stream. ForEachList b old (IsShort b amount stream (Appends w0 w1) new))
+      IfSome r (λ stream. ForEachList b old (AreLinesStopped b amount stream (Appends w0 w1) new))
   unfolding store_in
   ended-stopped fault written result f e k h =
       stopped fault written f (ap store_in (sym e ∙ k)) h
@@ -141,7 +141,8 @@ module _ {A : Type 0} (b : Shelf) (amount : Option ℕ) (w0 w1 r : Option (List 
   cut : (fault : Option StoreFault) (written : Result A StreamFault) (f : StoreFault) →
       both_in (ended_as fault written) ≡ Some f →
       IsWritten b amount w0 w1 r old new fault written →
-      IfSome r (λ stream. ForEachList b old (IsShort b amount stream (WritesBeginning w0 w1) new))
+      IfSome r (λ stream. ForEachList b old
+      (AreLinesStopped b amount stream (WritesBeginning w0 w1) new))
   unfolding both_in
   cut None (Ok x) f k h = absurd (none-some f k)
   cut None (Err g) f k h = absurd (none-some f k)
@@ -153,13 +154,14 @@ module _ {A : Type 0} (b : Shelf) (amount : Option ℕ) (w0 w1 r : Option (List 
   pub ended-cut : (fault : Option StoreFault) (written : Result A StreamFault)
       (result : Result A LinesFault) (f : StoreFault) → result ≡ ended_as fault written →
       result ≡ Err (Both f) → IsWritten b amount w0 w1 r old new fault written →
-      IfSome r (λ stream. ForEachList b old (IsShort b amount stream (WritesBeginning w0 w1) new))
+      IfSome r (λ stream. ForEachList b old
+      (AreLinesStopped b amount stream (WritesBeginning w0 w1) new))
   unfolding both_in
   ended-cut fault written result f e k h = cut fault written f (ap both_in (sym e ∙ k)) h
 
   untold : (fault : Option StoreFault) (written : Result A StreamFault) →
       IsWrite (ended_as fault written) → IsWritten b amount w0 w1 r old new fault written →
-      IfSome r (λ stream. ForEachList b old (IsUntold b amount stream w0 w1 new))
+      IfSome r (λ stream. ForEachList b old (AreLinesUntold b amount stream w0 w1 new))
   untold None (Ok x) k h = absurd k
   untold None (Err g) k h =
       untold-run b amount w0 w1 h.input h.opening h.given None old new r refl h.read h.opened
@@ -170,7 +172,7 @@ module _ {A : Type 0} (b : Shelf) (amount : Option ℕ) (w0 w1 r : Option (List 
   pub ended-untold : (fault : Option StoreFault) (written : Result A StreamFault)
       (result : Result A LinesFault) (f : StreamFault) → result ≡ ended_as fault written →
       result ≡ Err (Write f) → IsWritten b amount w0 w1 r old new fault written →
-      IfSome r (λ stream. ForEachList b old (IsUntold b amount stream w0 w1 new))
+      IfSome r (λ stream. ForEachList b old (AreLinesUntold b amount stream w0 w1 new))
   ended-untold fault written result f e k h =
       untold fault written (subst IsWrite (sym k ∙ e) tt) h
 
@@ -196,7 +198,7 @@ module _ (w0 w1 : Option (List ℕ)) (input : Input) (given : List Answer) where
   told_in : (r : Option (List ℕ)) →
       IfSome r (λ stream. IsInput (map line_request (lines_of stream)) input) →
       length given ≡ length input.requests.items →
-      Appends w0 w1 (answer_texts (map told_fault input.lines.items) given) →
+      Appends w0 w1 (answer_texts (map kept_fault input.lines.items) given) →
       IfSome r (TellsLines w0 w1)
   told_in None read all written = tt
   told_in (Some stream) read all written = record {
@@ -207,7 +209,7 @@ module _ (w0 w1 : Option (List ℕ)) (input : Input) (given : List Answer) where
 
   pub begun_in : (r : Option (List ℕ)) →
       IfSome r (λ stream. IsInput (map line_request (lines_of stream)) input) →
-      WritesBeginning w0 w1 (answer_texts (map told_fault input.lines.items) given) →
+      WritesBeginning w0 w1 (answer_texts (map kept_fault input.lines.items) given) →
       IfSome r (BeginsLines w0 w1)
   begun_in None read written = tt
   begun_in (Some stream) read written = record {
@@ -220,7 +222,7 @@ module _ (w0 w1 : Option (List ℕ)) (input : Input) (given : List Answer) where
       (r : Option (List ℕ)) →
       IfSome r (λ stream. IsInput (map line_request (lines_of stream)) input) →
       IfNone fault (length given ≡ length input.requests.items) →
-      OnOk written (Appends w0 w1 (answer_texts (map told_fault input.lines.items) given)) →
+      OnOk written (Appends w0 w1 (answer_texts (map kept_fault input.lines.items) given)) →
       OnOk (ended_as fault written) (IfSome r (TellsLines w0 w1))
   told None (Ok x) r read all whole = told_in r read all whole
   told None (Err g) r read all whole = tt
@@ -231,7 +233,7 @@ module _ (w0 w1 : Option (List ℕ)) (input : Input) (given : List Answer) where
       (result : Result A LinesFault) (r : Option (List ℕ)) → result ≡ ended_as fault written →
       IfSome r (λ stream. IsInput (map line_request (lines_of stream)) input) →
       IfNone fault (length given ≡ length input.requests.items) →
-      OnOk written (Appends w0 w1 (answer_texts (map told_fault input.lines.items) given)) →
+      OnOk written (Appends w0 w1 (answer_texts (map kept_fault input.lines.items) given)) →
       OnOk result (IfSome r (TellsLines w0 w1))
   ended-told {A = A} fault written result r e read all whole =
       subst (λ (res : Result A LinesFault). OnOk res (IfSome r (TellsLines w0 w1))) (sym e)
@@ -257,7 +259,7 @@ pub none_answered : {A : Type 0} (b : Shelf) (amount : Option ℕ) (r w : Option
 none_answered {A = A} b amount r w keeper result f is = record {
   answered = λ whole. subst (λ (res : Result A LinesFault).
       OnOk res (IfSome r (λ stream. ForEachList b keeper.tables
-      (IsAnswered b amount stream w w keeper.tables)))) (sym is) tt;
+      (AreLinesAnswered b amount stream w w keeper.tables)))) (sym is) tt;
   begun = λ whole. on_err result (begun-none b amount w w r keeper.tables);
   stopped = λ fault no whole. absurd (subst IsRead (sym is ∙ no) tt);
   both = λ fault no whole. absurd (subst IsRead (sym is ∙ no) tt);

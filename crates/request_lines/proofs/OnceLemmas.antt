@@ -11,7 +11,7 @@ use Rattle.charging.specs.Outcomes.{book_days, outcome}
 use Rattle.charging.specs.Continued.{ForEachList}
 use Rattle.charging.specs.Served.{AreTables}
 use Rattle.operations.specs.Written.{WritesBeginning}
-use Rattle.request_lines.specs.Served.{IsAnswered, AreLinesBegun, text_of}
+use Rattle.request_lines.specs.Served.{AreLinesAnswered, AreLinesBegun, lines_text}
 use Rattle.request_lines.proofs.Answered.{begins}
 use Rattle.request_lines.specs.Once.{once_text}
 
@@ -19,12 +19,12 @@ use Rattle.request_lines.specs.Once.{once_text}
 pub once-answered : {A E : Type 0} (result : Result A E) (b : Shelf) (c : Book) (credit : ℕ)
     (r w0 w1 : Option (List ℕ)) (old new : Tables) → b ≡ one_book c → old ≡ no_tables →
     OnOk result
-    (IfSome r (λ stream. ForEachList b old (IsAnswered b (Some credit) stream w0 w1 new))) →
+    (IfSome r (λ stream. ForEachList b old (AreLinesAnswered b (Some credit) stream w0 w1 new))) →
     OnOk result (IfSome r (λ stream. Appends w0 w1 (once_text c credit stream)))
 once-answered (Err e) b c credit r w0 w1 old new same none h = tt
 once-answered (Ok x) b c credit None w0 w1 old new same none h = tt
 once-answered (Ok x) b c credit (Some stream) w0 w1 old new same none h =
-    subst (λ (shelf : Shelf). Appends w0 w1 (text_of shelf [] (Some credit) stream)) same
+    subst (λ (shelf : Shelf). Appends w0 w1 (lines_text shelf [] (Some credit) stream)) same
     (h [] tt (subst (AreTables b []) (sym none) (tables_none (book_days b) (outcome b) b))).written
 
 -- rule: once
@@ -38,5 +38,5 @@ once-begun (Err e) b c credit None w0 w1 old new same none h = tt
 once-begun (Err e) b c credit (Some stream) w0 w1 old new same none h =
     let begun : AreLinesBegun b (Some credit) stream w0 w1 new [] =
     h [] tt (subst (AreTables b []) (sym none) (tables_none (book_days b) (outcome b) b)) in
-    subst (λ (shelf : Shelf). WritesBeginning w0 w1 (text_of shelf [] (Some credit) stream)) same
+    subst (λ (shelf : Shelf). WritesBeginning w0 w1 (lines_text shelf [] (Some credit) stream)) same
     (begins b [] (Some credit) stream begun.count w0 w1 begun.written)

@@ -14,7 +14,7 @@ use Rattle.request_lines.specs.declared.input.Input.{Input}
 use Rattle.request_lines.specs.declared.input.Line.{Line}
 use Rattle.request_lines.specs.Lines.{line_request}
 use Rattle.request_lines.specs.Served.{requests_of, fault_of}
-use Rattle.request_lines.specs.Input.{told_fault, IsInput}
+use Rattle.request_lines.specs.Input.{kept_fault, IsInput}
 
 -- ---- a line more
 
@@ -34,7 +34,7 @@ requests_same (Err f ∷ read) e = requests_same read e
 
 input_request : (read : Read) (d : DatedCommand) (old new : Input) → IsInput read old →
     new.requests.items ≡ old.requests.items ++ d ∷ [] →
-    map told_fault new.lines.items ≡ map told_fault old.lines.items ++ None ∷ [] →
+    map kept_fault new.lines.items ≡ map kept_fault old.lines.items ++ None ∷ [] →
     IsInput (read ++ Ok d ∷ []) new
 input_request read d old new h requests lines = record {
   requests = requests ∙ ap (λ l. l ++ d ∷ []) h.requests ∙ sym (requests_more read d);
@@ -43,7 +43,7 @@ input_request read d old new h requests lines = record {
 
 input_fault : (read : Read) (e : WireFault) (old new : Input) → IsInput read old →
     new.requests ≡ old.requests →
-    map told_fault new.lines.items ≡ map told_fault old.lines.items ++ Some e ∷ [] →
+    map kept_fault new.lines.items ≡ map kept_fault old.lines.items ++ Some e ∷ [] →
     IsInput (read ++ Err e ∷ []) new
 input_fault read e old new h requests lines = record {
   requests = ap (λ (v : Vec DatedCommand Global). v.items) requests
@@ -61,7 +61,7 @@ fails_with e line h other = h other
 pub request_added : {A E : Type 0} (result : Result A E) (line : Result DatedCommand WireFault)
     (d : DatedCommand) (old new : Input) → line ≡ Ok d →
     OnOk result (new.requests.items ≡ old.requests.items ++ d ∷ []) →
-    OnOk result (map told_fault new.lines.items ≡ map told_fault old.lines.items ++ None ∷ []) →
+    OnOk result (map kept_fault new.lines.items ≡ map kept_fault old.lines.items ++ None ∷ []) →
     OnOk result ((read : Read) → IsInput read old → IsInput (read ++ line ∷ []) new)
 request_added (Err x) line d old new is requests lines = tt
 request_added (Ok x) line d old new is requests lines = λ read h.
@@ -72,7 +72,7 @@ request_added (Ok x) line d old new is requests lines = λ read h.
 pub fault_added : {A E : Type 0} (result : Result A E) (line : Result DatedCommand WireFault)
     (e : WireFault) (old new : Input) → Fails e line → OnOk result (e ≡ Memory → ⊥) →
     OnOk result (new.requests ≡ old.requests) →
-    OnOk result (map told_fault new.lines.items ≡ map told_fault old.lines.items ++ Some e ∷ []) →
+    OnOk result (map kept_fault new.lines.items ≡ map kept_fault old.lines.items ++ Some e ∷ []) →
     OnOk result ((read : Read) → IsInput read old → IsInput (read ++ line ∷ []) new)
 fault_added (Err x) line e old new fails own requests lines = tt
 fault_added (Ok x) line e old new fails own requests lines = λ read h.
@@ -81,15 +81,15 @@ fault_added (Ok x) line e old new fails own requests lines = λ read h.
 
 -- one line more is told
 pub line_counted : {A E : Type 0} (result : Result A E) (told : Option WireFault)
-    (old new : List Line) → OnOk result (map told_fault new ≡ map told_fault old ++ told ∷ []) →
+    (old new : List Line) → OnOk result (map kept_fault new ≡ map kept_fault old ++ told ∷ []) →
     OnOk result (length new ≡ length old + 1)
 line_counted (Err x) told old new lines = tt
 line_counted (Ok x) told old new lines = omega (
   arith,
   ap length lines,
-  length-map new told_fault,
-  length-map old told_fault,
-  length-append (map told_fault old) (told ∷ []),
+  length-map new kept_fault,
+  length-map old kept_fault,
+  length-append (map kept_fault old) (told ∷ []),
 )
 
 -- a vector of lines has fewer than all that are counted

@@ -12,15 +12,15 @@ use Rattle.json_fields.specs.declared.fault.WireFault.{WireFault}
 use Rattle.wire.specs.Spelled.{answer_text, fault_text}
 use Rattle.request_lines.specs.Served.{answer_texts}
 use Rattle.request_lines.specs.declared.input.Line.{Line}
-use Rattle.request_lines.specs.Input.{told_fault}
-use Rattle.request_lines.specs.Output.{line_text}
+use Rattle.request_lines.specs.Input.{kept_fault}
+use Rattle.request_lines.specs.Output.{answered_line}
 
 abbrev IsThere : Option (List ℕ) → Type 0
 IsThere None = ⊥
 IsThere (Some t) = Unit {0}
 
 next_answer : (answers : List Answer) (n : ℕ) (faults : List (Option WireFault)) (text : List ℕ) →
-    Some text ≡ line_text None (slice_get answers n) →
+    Some text ≡ answered_line None (slice_get answers n) →
     answer_texts (None ∷ faults) (drop n answers) ≡ text ++ 10 ∷ answer_texts faults
     (drop (suc n) answers)
 next_answer [] zero faults text h = absurd (subst IsThere h tt)
@@ -35,7 +35,7 @@ plus_one n = omega arith
 -- a fault's text, where there is one, or the next answer's
 pub next_text : (fault : Option WireFault)
     (faults : List (Option WireFault)) (answers : List Answer) (n : ℕ) (text : List ℕ) →
-    Some text ≡ line_text fault (slice_get answers n) →
+    Some text ≡ answered_line fault (slice_get answers n) →
     answer_texts (fault ∷ faults) (drop n answers)
     ≡ (text ++ 10 ∷ []) ++ answer_texts faults (drop (if is_some fault then n else n + 1) answers)
 next_text (Some fault) faults answers n text h =
@@ -97,30 +97,30 @@ texts_taken faults k n all =
 -- a line of all, with the next answer
 pub texts_first : (lines : List Line) (answers : List Answer) (d : Line) (i n : ℕ)
     (o : Option (Bor Answer)) (text : List ℕ) → i < length lines → IsItemAt answers n o →
-    Some text ≡ line_text (told_fault (get_or lines i d)) (option_map (λ a. a.now) o) →
-    answer_texts (map told_fault (drop i lines)) (drop n answers)
-    ≡ (text ++ 10 ∷ []) ++ answer_texts (map told_fault (drop (i + 1) lines))
-    (drop (if is_some (told_fault (get_or lines i d)) then n else n + 1) answers)
+    Some text ≡ answered_line (kept_fault (get_or lines i d)) (option_map (λ a. a.now) o) →
+    answer_texts (map kept_fault (drop i lines)) (drop n answers)
+    ≡ (text ++ 10 ∷ []) ++ answer_texts (map kept_fault (drop (i + 1) lines))
+    (drop (if is_some (kept_fault (get_or lines i d)) then n else n + 1) answers)
 texts_first lines answers d i n o text lt item told =
-    let fault = told_fault (get_or lines i d) in
+    let fault = kept_fault (get_or lines i d) in
     let here : drop i lines ≡ get_or lines i d ∷ drop (i + 1) lines =
     rw (add-one, drop-cons lines i d lt) refl in
-    ap (λ l. answer_texts (map told_fault l) (drop n answers)) here
-    ∙ next_text fault (map told_fault (drop (i + 1) lines)) answers n text
-    (told ∙ ap (line_text fault) (answer_at answers n o item))
+    ap (λ l. answer_texts (map kept_fault l) (drop n answers)) here
+    ∙ next_text fault (map kept_fault (drop (i + 1) lines)) answers n text
+    (told ∙ ap (answered_line fault) (answer_at answers n o item))
 
 -- and the place of the answer after it
 -- rule: request-lines
 pub texts_next : (lines : List Line) (answers : List Answer) (d : Line) (i n next : ℕ)
     (o : Option (Bor Answer)) (request : Bool) (text : List ℕ) → i < length lines →
     IsItemAt answers n o →
-    Some text ≡ line_text (told_fault (get_or lines i d)) (option_map (λ a. a.now) o) →
-    is_some (told_fault (get_or lines i d)) ≡ not request → next ≡ (if request then n + 1 else n) →
-    answer_texts (map told_fault (drop i lines)) (drop n answers)
-    ≡ (text ++ 10 ∷ []) ++ answer_texts (map told_fault (drop (i + 1) lines)) (drop next answers)
+    Some text ≡ answered_line (kept_fault (get_or lines i d)) (option_map (λ a. a.now) o) →
+    is_some (kept_fault (get_or lines i d)) ≡ not request → next ≡ (if request then n + 1 else n) →
+    answer_texts (map kept_fault (drop i lines)) (drop n answers)
+    ≡ (text ++ 10 ∷ []) ++ answer_texts (map kept_fault (drop (i + 1) lines)) (drop next answers)
 texts_next lines answers d i n next o request text lt item told is moved =
     texts_first lines answers d i n o text lt item told
-    ∙ ap (λ m. (text ++ 10 ∷ []) ++ answer_texts (map told_fault (drop (i + 1) lines))
+    ∙ ap (λ m. (text ++ 10 ∷ []) ++ answer_texts (map kept_fault (drop (i + 1) lines))
     (drop m answers))
     (ap (λ t. if t then n else n + 1) is ∙ turned request ∙ sym moved)
   where

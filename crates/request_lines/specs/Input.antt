@@ -18,11 +18,11 @@ wire_fault (Missing avp) = wire.Missing avp
 wire_fault (Invalid avp) = wire.Invalid avp
 
 -- the fault that a line is answered
-abbrev pub told_fault : Line → Option WireFault
-told_fault Request = None
-told_fault (Fault fault) = Some (wire_fault fault)
+abbrev pub kept_fault : Line → Option WireFault
+kept_fault Request = None
+kept_fault (Fault fault) = Some (wire_fault fault)
 
 -- the input is that of lines that were read so
 pub record IsInput (read : List (Result DatedCommand WireFault)) (input : Input) : Type 0 where
   pub requests : input.requests.items ≡ requests_of read
-  pub lines : map told_fault input.lines.items ≡ map fault_of read
+  pub lines : map kept_fault input.lines.items ≡ map fault_of read

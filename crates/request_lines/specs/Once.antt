@@ -7,13 +7,13 @@ use Rattle.texts.specs.StreamWords.{Bytes}
 use Rattle.tariffs.specs.Books.{Book}
 use Rattle.shelves.specs.Shelves.{one_book}
 use Rattle.operations.specs.Written.{WritesBeginning}
-use Rattle.request_lines.specs.Served.{text_of}
+use Rattle.request_lines.specs.Served.{lines_text}
 
 -- the text of a stream, before any command, by a book alone on its shelf: the first request's
 -- account is opened with this amount
 -- rule: once: what `once` writes
 abbrev pub once_text : Book → Micros → Bytes → Bytes
-once_text b credit stream = text_of (one_book b) [] (Some credit) stream
+once_text b credit stream = lines_text (one_book b) [] (Some credit) stream
 
 -- where the reader shows its bytes, that text of them is written
 abbrev pub WritesOnce : Book → Micros → Option Bytes → Option Bytes → Option Bytes → Type 0

@@ -7,7 +7,7 @@ use Rattle.json_fields.specs.declared.fault.WireFault.{WireFault}
 use Rattle.wire.specs.Spelled.{answer_text, fault_text}
 
 -- its fault, or else the answer, where there is one
-abbrev pub line_text : Option WireFault → Option Answer → Option Bytes
-line_text (Some fault) answer = Some (fault_text fault)
-line_text None (Some answer) = Some (answer_text answer)
-line_text None None = None
+abbrev pub answered_line : Option WireFault → Option Answer → Option Bytes
+answered_line (Some fault) answer = Some (fault_text fault)
+answered_line None (Some answer) = Some (answer_text answer)
+answered_line None None = None

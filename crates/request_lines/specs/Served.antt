@@ -102,38 +102,38 @@ told_text amount stream answers =
 
 -- the text of a stream, after a list of accepted commands
 -- rule: request-lines: what the program writes of lines
-abbrev pub text_of : Shelf → List Accepted → Option Micros → Bytes → Bytes
-text_of b list amount stream =
+abbrev pub lines_text : Shelf → List Accepted → Option Micros → Bytes → Bytes
+lines_text b list amount stream =
     told_text amount stream (answers_to b list (commands_of amount stream))
 
 -- as far as so many commands are answered
-abbrev pub text_to : ℕ → Shelf → List Accepted → Option Micros → Bytes → Bytes
-text_to count b list amount stream =
+abbrev pub lines_text_to : ℕ → Shelf → List Accepted → Option Micros → Bytes → Bytes
+lines_text_to count b list amount stream =
     told_text amount stream (answers_to b list (take count (commands_of amount stream)))
 
 -- ---- a run
 
 -- all is written, and the tables are those of all commands
 -- rule: request-lines
-pub record IsAnswered (b : Shelf) (opening : Option Micros) (stream : Bytes)
+pub record AreLinesAnswered (b : Shelf) (opening : Option Micros) (stream : Bytes)
     (old new : Option Bytes) (content : Tables) (list : List Accepted) : Type 0 where
-  pub written : Appends old new (text_of b list opening stream)
+  pub written : Appends old new (lines_text b list opening stream)
   pub tables : AreTables b (after_commands b list (commands_of opening stream)) content
 
 -- the tables are those of all commands, and a beginning of the text is written
-pub record IsUntold (b : Shelf) (opening : Option Micros) (stream : Bytes) (old new : Option Bytes)
-    (content : Tables) (list : List Accepted) : Type 0 where
+pub record AreLinesUntold (b : Shelf) (opening : Option Micros) (stream : Bytes)
+    (old new : Option Bytes) (content : Tables) (list : List Accepted) : Type 0 where
   pub tables : AreTables b (after_commands b list (commands_of opening stream)) content
-  pub written : WritesBeginning old new (text_of b list opening stream)
+  pub written : WritesBeginning old new (lines_text b list opening stream)
 
 -- the tables are those of fewer commands than there are, and what is written is of the text as far
 -- as these are answered
-pub record IsShort (b : Shelf) (opening : Option Micros) (stream : Bytes) (Writes : Bytes → Type 0)
-    (content : Tables) (list : List Accepted) : Type 0 where
+pub record AreLinesStopped (b : Shelf) (opening : Option Micros) (stream : Bytes)
+    (Writes : Bytes → Type 0) (content : Tables) (list : List Accepted) : Type 0 where
   pub count : ℕ
   pub few : count < length (commands_of opening stream)
   pub tables : AreTables b (after_commands b list (take count (commands_of opening stream))) content
-  pub written : Writes (text_to count b list opening stream)
+  pub written : Writes (lines_text_to count b list opening stream)
 
 -- the same, where all commands may have been run
 -- rule: request-lines
@@ -142,7 +142,7 @@ pub record AreLinesBegun (b : Shelf) (opening : Option Micros) (stream : Bytes)
     (content : Tables) (list : List Accepted) : Type 0 where
   pub count : ℕ
   pub tables : AreTables b (after_commands b list (take count (commands_of opening stream))) content
-  pub written : WritesBeginning old new (text_to count b list opening stream)
+  pub written : WritesBeginning old new (lines_text_to count b list opening stream)
 
 -- ---- what opens an account, and then requests
 
@@ -161,12 +161,12 @@ pub record IsRunOpened {F : Type 0} (b : Shelf) (opening requests : List DatedCo
 -- ---- over a keeper, a reader and a writer
 
 -- the keeper's fault that answering lines ended with, where it is one
-abbrev pub keeper_fault : {A : Type 0} → Result A LinesFault → Option StoreFault
-keeper_fault (Ok answered) = None
-keeper_fault (Err (Read fault)) = None
-keeper_fault (Err (Store fault)) = Some fault
-keeper_fault (Err (Both fault)) = Some fault
-keeper_fault (Err (Write fault)) = None
+abbrev pub lines_store_fault : {A : Type 0} → Result A LinesFault → Option StoreFault
+lines_store_fault (Ok answered) = None
+lines_store_fault (Err (Read fault)) = None
+lines_store_fault (Err (Store fault)) = Some fault
+lines_store_fault (Err (Both fault)) = Some fault
+lines_store_fault (Err (Write fault)) = None
 
 -- what answering lines leaves of a keeper that stays clean, where the reader shows its bytes: all
 -- are answered, or a beginning of them, and the faults of the keeper and of the writer say which
@@ -175,24 +175,24 @@ pub record AnswersLines {A : Type 0} (b : Shelf) (opening : Option Micros)
     (bytes empty full : Option Bytes) (old new : Seen) (result : Result A LinesFault) : Type 0 where
   -- rule: request-lines
   pub answered : new.clean → OnOk result (IfSome bytes (λ stream. ForEachList b old.tables
-      (IsAnswered b opening stream empty full new.tables)))
+      (AreLinesAnswered b opening stream empty full new.tables)))
   -- rule: request-lines
   pub begun : new.clean → OnErr result (IfSome bytes (λ stream. ForEachList b old.tables
       (AreLinesBegun b opening stream empty full new.tables)))
   -- rule: request-lines
   pub stopped : (fault : StoreFault) → result ≡ Err (Store fault) → new.clean →
       IfSome bytes (λ stream. ForEachList b old.tables
-      (IsShort b opening stream (Appends empty full) new.tables))
+      (AreLinesStopped b opening stream (Appends empty full) new.tables))
   pub both : (fault : StoreFault) → result ≡ Err (Both fault) → new.clean →
       IfSome bytes (λ stream. ForEachList b old.tables
-      (IsShort b opening stream (WritesBeginning empty full) new.tables))
+      (AreLinesStopped b opening stream (WritesBeginning empty full) new.tables))
   pub untold : (fault : StreamFault) → result ≡ Err (Write fault) → new.clean →
       IfSome bytes (λ stream. ForEachList b old.tables
-      (IsUntold b opening stream empty full new.tables))
+      (AreLinesUntold b opening stream empty full new.tables))
   -- rule: request-lines
   pub continued : new.clean → Continues b old.tables new.tables
   -- rule: request-lines
-  pub keeper : Carries old new (keeper_fault result)
+  pub keeper : Carries old new (lines_store_fault result)
 
 -- ---- whatever a keeper holds
 

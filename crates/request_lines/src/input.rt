@@ -7,7 +7,7 @@ ghost use Rattle.charging.specs.declared.running.DatedCommand.{DatedCommand};
 ghost use Rattle.json_fields.specs.declared.fault.WireFault.{WireFault};
 ghost use Rattle.json_fields.specs.declared.fault.WireFault.TheVariants.{Memory};
 ghost use Rattle.request_lines.specs.Lines.{line_request};
-ghost use Rattle.request_lines.specs.Input.{IsInput, told_fault, wire_fault};
+ghost use Rattle.request_lines.specs.Input.{IsInput, kept_fault, wire_fault};
 
 use crate::reading::read_line;
 use charging::DatedCommand;
@@ -39,11 +39,11 @@ pub(crate) enum Line {
 
 impl Line {
     ghost use Rattle.std.specs.Prelude.{◌≡◌, is_some, not};
-    ghost use Rattle.request_lines.specs.Input.{told_fault};
+    ghost use Rattle.request_lines.specs.Input.{kept_fault};
 
     /// Whether it is an answer that it gets.
     pub(crate) fn is_request(self) -> bool
-        ensures { is_some (told_fault self) ≡ not result }
+        ensures { is_some (kept_fault self) ≡ not result }
     {
         matches!(self, Line::Request)
     }
@@ -100,8 +100,8 @@ impl Input {
     fn add_request(&mut self, request: DatedCommand) -> Result<(), AllocError>
         ensures requests { OnOk result
             (self.new.requests.items ≡ self.old.requests.items ++ request ∷ []) }
-        ensures lines { OnOk result (map told_fault self.new.lines.items
-            ≡ map told_fault self.old.lines.items ++ None ∷ []) }
+        ensures lines { OnOk result (map kept_fault self.new.lines.items
+            ≡ map kept_fault self.old.lines.items ++ None ∷ []) }
     {
         self.requests.push(request)?;
         self.lines.push(Line::Request)?;
@@ -110,8 +110,8 @@ impl Input {
 
     fn add_fault(&mut self, fault: WireFault) -> Result<(), AllocError>
         ensures requests { OnOk result (self.new.requests ≡ self.old.requests) }
-        ensures lines { OnOk result (map told_fault self.new.lines.items
-            ≡ map told_fault self.old.lines.items ++ Some fault ∷ []) }
+        ensures lines { OnOk result (map kept_fault self.new.lines.items
+            ≡ map kept_fault self.old.lines.items ++ Some fault ∷ []) }
         ensures own { OnOk result (fault ≢ Memory) }
     {
         let fault = line_fault(fault)?;

@@ -5,8 +5,8 @@ ghost use Rattle.std.specs.Prelude.{OnOk};
 ghost use Rattle.std.specs.Io.KnownBytes.{Appends};
 ghost use Rattle.texts.specs.declared.streams.StreamFault.TheVariants.{Read as ReadFailed};
 ghost use Rattle.request_lines.specs.Served.{answer_texts};
-ghost use Rattle.request_lines.specs.Input.{told_fault};
-ghost use Rattle.request_lines.specs.Output.{line_text};
+ghost use Rattle.request_lines.specs.Input.{kept_fault};
+ghost use Rattle.request_lines.specs.Output.{answered_line};
 ghost use Rattle.operations.specs.Written.{WritesBeginning};
 
 use crate::input::Line;
@@ -25,9 +25,9 @@ pub(crate) fn write_output<W: Write>(
     answers: &[WrittenAnswer],
 ) -> Result<(), StreamFault>
     ensures written { OnOk result (Appends (W.contents writer.old) (W.contents writer.new)
-        (answer_texts (map told_fault lines.now) answers.now)) }
+        (answer_texts (map kept_fault lines.now) answers.now)) }
     ensures err { OnErr result (WritesBeginning (W.contents writer.old) (W.contents writer.new)
-        (answer_texts (map told_fault lines.now) answers.now)) }
+        (answer_texts (map kept_fault lines.now) answers.now)) }
     ensures fault { IfErr result (λ fault. fault ≢ ReadFailed) }
 {
     let mut next = 0;
@@ -50,7 +50,7 @@ fn line_text(
     answer: Option<&WrittenAnswer>,
 ) -> Result<Option<String>, AllocError>
     ensures { IfOk result (λ text. option_map string_bytes text
-        ≡ line_text (told_fault line) (option_map (λ a. a.now) answer.entry)) }
+        ≡ answered_line (kept_fault line) (option_map (λ a. a.now) answer.entry)) }
 {
     match (line, answer) {
         (Line::Fault(fault), _) => Ok(Some(write_fault(alloc, fault.into())?)),

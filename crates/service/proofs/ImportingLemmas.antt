@@ -20,7 +20,7 @@ use Rattle.operations.proofs.KeeperFaults.{carried}
 use Rattle.vouchers.specs.Faults.{is_in_file}
 use Rattle.vouchers.specs.Files.{MayStopAt, vouchers_in}
 use Rattle.vouchers.specs.declared.fault.VoucherFault.{VoucherFault}
-use Rattle.service.specs.Importing.{IsFileImported, IsImportFault, keeper_fault}
+use Rattle.service.specs.Importing.{IsFileImported, IsFileImportFault, import_store_fault}
 use Rattle.service.specs.declared.fault.DatabaseFault.TheVariants.{Office}
 use Rattle.service.specs.declared.importing.ImportFault.{ImportFault}
 use Rattle.service.specs.declared.importing.ImportFault.TheVariants.{Vouchers, Database}
@@ -46,7 +46,7 @@ module _ (b : Shelf) (t : ℕ) (old new : Tables) (before after : Option (List �
       (λ counts. WritesBeginning before after (counts_line counts))) →
       ((fault : StoreFault) → given ≡ Err (Store fault) →
       BeginsImport b (additions t rows) old new) →
-      IfSome r (λ text. IsImportFault b text t old new before after (Database (Office f)))
+      IfSome r (λ text. IsFileImportFault b text t old new before after (Database (Office f)))
   not_told rows None given f is says untold unserved = tt
   not_told rows (Some text) given (Store fault) is says untold unserved =
       record { rows = rows; says = says; begun = unserved fault is }
@@ -57,7 +57,7 @@ module _ (b : Shelf) (t : ℕ) (old new : Tables) (before after : Option (List �
   pub not_read : (r : Option (List ℕ)) (f : VoucherFault) →
       (IsTrue (is_in_file f.kind) → IfSome r (λ text. vouchers_in text ≡ Err f)) →
       (is_in_file f.kind ≡ false → IfSome r (MayStopAt f.record_number)) → new ≡ old →
-      IfSome r (λ text. IsImportFault b text t old new before after (Vouchers f))
+      IfSome r (λ text. IsFileImportFault b text t old new before after (Vouchers f))
   not_read None f told stopped same = tt
   not_read (Some text) f told stopped same = (told, stopped, same)
 
@@ -66,9 +66,9 @@ module _ (b : Shelf) (t : ℕ) (old new : Tables) (before after : Option (List �
 -- it was asked nothing
 pub carried_unread : {A : Type 0} (keeper : Seen) (result : Result A ImportFault)
     (given : ImportFault) (fault : VoucherFault) → result ≡ Err given → given ≡ Vouchers fault →
-    Carries keeper keeper (keeper_fault result)
+    Carries keeper keeper (import_store_fault result)
 carried_unread {A = A} keeper result given fault is told =
-    subst (λ (r : Result A ImportFault). Carries keeper keeper (keeper_fault r))
+    subst (λ (r : Result A ImportFault). Carries keeper keeper (import_store_fault r))
     (sym (is ∙ ap (λ (f : ImportFault). Err f) told))
     (carried keeper keeper (λ clean. clean) (λ honest. honest) (λ honest clean. clean)
     (le_refl keeper.failed))
@@ -77,13 +77,13 @@ carried_unread {A = A} keeper result given fault is told =
 pub carried_on : {A : Type 0} (old new : Seen) (result : Result A ImportFault)
     (given : ImportFault) (fault : OfficeFault) → result ≡ Err given →
     given ≡ Database (Office fault) → Carries old new (store_fault fault) →
-    Carries old new (keeper_fault result)
+    Carries old new (import_store_fault result)
 carried_on {A = A} old new result given fault is told h =
-    subst (λ (r : Result A ImportFault). Carries old new (keeper_fault r))
+    subst (λ (r : Result A ImportFault). Carries old new (import_store_fault r))
     (sym (is ∙ ap (λ (f : ImportFault). Err f) told)) h
 
 -- what ends well leaves a keeper that can be asked
 pub carried_stands : {A : Type 0} (new : Seen) (result : Result A ImportFault) →
-    IfNone (keeper_fault result) new.clean → OnOk result new.clean
+    IfNone (import_store_fault result) new.clean → OnOk result new.clean
 carried_stands new (Ok x) there = there
 carried_stands new (Err fault) there = tt

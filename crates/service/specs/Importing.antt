@@ -49,12 +49,12 @@ IsOverKeeper b text t old new before after _ = ⊥
 
 -- one of the text is its first, or reading it stopped, which it may do at that record: then no
 -- table has changed
-abbrev pub IsImportFault : Shelf → Bytes → Moment → Tables → Tables → Option Bytes → Option Bytes →
-    ImportFault → Type 0
-IsImportFault b text t old new before after (Vouchers fault) =
+abbrev pub IsFileImportFault : Shelf → Bytes → Moment → Tables → Tables → Option Bytes →
+    Option Bytes → ImportFault → Type 0
+IsFileImportFault b text t old new before after (Vouchers fault) =
     (IsTrue (is_in_file fault.kind) → vouchers_in text ≡ Err fault)
     × (is_in_file fault.kind ≡ false → MayStopAt fault.record_number text) × (new ≡ old)
-IsImportFault b text t old new before after (Database fault) =
+IsFileImportFault b text t old new before after (Database fault) =
     IsOverKeeper b text t old new before after fault
 
 -- one of the file, or of the office's
@@ -75,11 +75,11 @@ IsUntold (Database fault) = IsUnanswered fault
 -- ---- what the calls answer
 
 -- the keeper's fault that a call ended with, where it is one
-abbrev pub keeper_fault : {A : Type 0} → Result A ImportFault → Option StoreFault
-keeper_fault (Ok done) = None
-keeper_fault (Err (Vouchers fault)) = None
-keeper_fault (Err (Database (Office fault))) = store_fault fault
-keeper_fault (Err (Database _)) = None
+abbrev pub import_store_fault : {A : Type 0} → Result A ImportFault → Option StoreFault
+import_store_fault (Ok done) = None
+import_store_fault (Err (Vouchers fault)) = None
+import_store_fault (Err (Database (Office fault))) = store_fault fault
+import_store_fault (Err (Database _)) = None
 
 -- the counts are printed, or nothing is where the vouchers weren't added
 pub record ImportsOffice {A O : Type 0} (contents : O → Option Bytes) (at : Option Moment)
@@ -97,7 +97,7 @@ pub record ImportsFile {A O : Type 0} (contents : O → Option Bytes) (b : Shelf
       (λ counts. Appends (contents before) (contents after) (counts_line counts))))
   pub printed : OnOk result (PrintsCounts (contents before) (contents after))
   pub fault : new.clean → IfErr result (λ fault. IfSome bytes (λ text.
-      IsImportFault b text t old.tables new.tables (contents before) (contents after) fault))
+      IsFileImportFault b text t old.tables new.tables (contents before) (contents after) fault))
   pub unwritten : IfErr result (λ fault. IsUntold fault → after ≡ before)
   pub told : IfErr result IsFileFault
-  pub keeper : Carries old new (keeper_fault result)
+  pub keeper : Carries old new (import_store_fault result)

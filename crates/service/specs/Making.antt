@@ -10,9 +10,9 @@ use Rattle.service.specs.declared.fault.DatabaseFault.TheVariants.{File, Book, O
 
 -- the fault is the book's: memory was refused, or it is the first of the text
 -- rule: database-words
-abbrev pub IsTextFault : BookText → DatabaseFault → Type 0
-IsTextFault text (Book fault) = IsBookFault text fault
-IsTextFault text _ = ⊥
+abbrev pub IsBookTextFault : BookText → DatabaseFault → Type 0
+IsBookTextFault text (Book fault) = IsBookFault text fault
+IsBookTextFault text _ = ⊥
 
 -- one of a file, of a book, of the tables of a database, or of memory
 abbrev pub IsInitFault : DatabaseFault → Type 0

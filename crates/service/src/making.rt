@@ -6,7 +6,7 @@ ghost use Rattle.sql_keeper.specs.Opened.{IsCreated, IsFresh, IsNotCreated};
 ghost use Rattle.sqlite.specs.Files.{file_state};
 ghost use Rattle.sqlite.specs.State.{HasCleanDisk};
 ghost use Rattle.sqlite_wal.specs.Files.{image_at};
-ghost use Rattle.service.specs.Making.{IsInitFault, IsNotMade, IsTextFault};
+ghost use Rattle.service.specs.Making.{IsInitFault, IsNotMade, IsBookTextFault};
 ghost use Rattle.service.specs.Over.{IsMadeIn};
 
 use crate::database_files::DatabaseFiles;
@@ -67,7 +67,7 @@ pub fn make_over<S: Start>(
 pub fn book_text(alloc: Global, bytes: &[u8]) -> Result<&str, DatabaseFault>
     ensures same { IfOk result (λ text. text.now ≡ bytes.now) }
     ensures tables { OnOk result (IsBookText bytes.now) }
-    ensures told { IfErr result (IsTextFault bytes.now) }
+    ensures told { IfErr result (IsBookTextFault bytes.now) }
 {
     let Ok(text) = str::from_utf8(bytes) else {
         return Err(DatabaseFault::Book(BookFault::NotToml));

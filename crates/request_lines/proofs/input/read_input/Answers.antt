@@ -3,7 +3,7 @@ use Rattle.std.proofs.Common.{arith}
 use Rattle.texts.specs.Lines.{IsLineOf}
 use Rattle.json_fields.specs.declared.fault.WireFault.{WireFault}
 use Rattle.charging.specs.declared.running.DatedCommand.{DatedCommand}
-use Rattle.request_lines.specs.Input.{told_fault, IsInput}
+use Rattle.request_lines.specs.Input.{kept_fault, IsInput}
 use Rattle.request_lines.specs.Lines.{line_request}
 use Rattle.request_lines.proofs.Streams.{few_lines, read-none, read-line}
 use Rattle.request_lines.proofs.input.read_input.Goals as goal
@@ -13,7 +13,7 @@ loop-line-init g c = record {
   count = ap length c.new.ensures.items;
   read = read-none (g.R.Read.remaining c.args.reader.now) _ (record {
     requests = c.new-2.ensures.items;
-    lines = ap (map told_fault) c.new.ensures.items;
+    lines = ap (map kept_fault) c.new.ensures.items;
   });
 }
 

@@ -6,7 +6,7 @@ use Rattle.texts.specs.declared.streams.StreamFault.{StreamFault}
 use Rattle.texts.specs.declared.streams.StreamFault.TheVariants.{Read as ReadFailed}
 use Rattle.charging.specs.declared.running.DatedCommand.{DatedCommand}
 use Rattle.operations.specs.Written.{WritesBeginning}
-use Rattle.request_lines.specs.Input.{told_fault}
+use Rattle.request_lines.specs.Input.{kept_fault}
 use Rattle.request_lines.specs.Served.{opening_for, answer_texts}
 use Rattle.operations.proofs.Beginnings.{on_err, whole_or_begun}
 use Rattle.request_lines.proofs.Answered.{continued-run}
@@ -68,14 +68,14 @@ returns g c =
     let is = c.ended_as.ensures in
     let given = c.run_opened-answers.result.answers.items in
     let whole : OnOk written
-    (Appends w0 w1 (answer_texts (map told_fault c.in_ok-input.input.lines.items) given)) =
+    (Appends w0 w1 (answer_texts (map kept_fault c.in_ok-input.input.lines.items) given)) =
     subst (λ (t : List ℕ). OnOk written (Appends w0 w1 t))
-    (λ i. answer_texts (map told_fault (c.deref-2.ensures.value i)) (c.deref-3.ensures.value i))
+    (λ i. answer_texts (map kept_fault (c.deref-2.ensures.value i)) (c.deref-3.ensures.value i))
     c.write_output-written.ensures.written in
     let part : OnErr written
-    (WritesBeginning w0 w1 (answer_texts (map told_fault c.in_ok-input.input.lines.items) given)) =
+    (WritesBeginning w0 w1 (answer_texts (map kept_fault c.in_ok-input.input.lines.items) given)) =
     subst (λ (t : List ℕ). OnErr written (WritesBeginning w0 w1 t))
-    (λ i. answer_texts (map told_fault (c.deref-2.ensures.value i)) (c.deref-3.ensures.value i))
+    (λ i. answer_texts (map kept_fault (c.deref-2.ensures.value i)) (c.deref-3.ensures.value i))
     c.write_output-written.ensures.err in
     let opened : c.in_ok-opening.opening.items
     ≡ opening_for opening c.in_ok-input.input.requests.items =
@@ -122,7 +122,7 @@ returns g c =
           c.in_ok-input.ensures c.run_opened-answers.ensures.whole whole;
       begun = on_err result (begun_in w0 w1 c.in_ok-input.input given r c.in_ok-input.ensures
           (whole_or_begun written w0 w1
-          (answer_texts (map told_fault c.in_ok-input.input.lines.items) given) whole part));
+          (answer_texts (map kept_fault c.in_ok-input.input.lines.items) given) whole part));
       unread = λ f k. absurd (ended-read fault written result f is k);
       unwritten = λ f k. absurd (ended-read fault written result f is k);
       fault = λ f k. ended-write (λ (e : StreamFault). e ≢ ReadFailed) fault written result f is k

@@ -1,6 +1,6 @@
 use Rattle.std.proofs.Common.{◌≡◌, ◌+◌, ◌++◌, ◌∷◌, [], map, sym, ap, ◌∙◌, drop, string_bytes}
 use Rattle.std.specs.Prelude.{if◌then◌else◌, option_map}
-use Rattle.request_lines.specs.Input.{told_fault}
+use Rattle.request_lines.specs.Input.{kept_fault}
 use Rattle.request_lines.specs.Served.{answer_texts}
 use Rattle.operations.proofs.Beginnings.{on_err}
 use Rattle.request_lines.proofs.SoFar.{so_far-more, so_far-failed}
@@ -10,8 +10,8 @@ use Rattle.request_lines.proofs.output.write_output.Goals as goal
 pub returns-in_err-write_line-clause-err : goal.returns-in_err-write_line-clause-err
 returns-in_err-write_line-clause-err g c =
     on_err c.from_residual-in_err-write_line.result
-    (so_far-failed (answer_texts (map told_fault c.args.lines.now) c.args.answers.now)
-    (answer_texts (map told_fault (drop c.loop-line.line-index c.args.lines.now))
+    (so_far-failed (answer_texts (map kept_fault c.args.lines.now) c.args.answers.now)
+    (answer_texts (map kept_fault (drop c.loop-line.line-index c.args.lines.now))
     (drop c.loop-line.next c.args.answers.now)) (string_bytes c.in-Some.text ++ 10 ∷ []) _
     (g.W.Write.contents c.args.writer.now) (g.W.Write.contents c.loop-line.writer)
     (g.W.Write.contents c.write_line.new.writer) c.loop-line.invariant
@@ -30,8 +30,8 @@ loop-line-preserved g c =
       | goal.else-is_request w ↦ w.next-is
           ∙ sym (ap (λ b. if b then n + 1 else n) w.if-is_request.false)
     ] in
-    so_far-more (answer_texts (map told_fault c.args.lines.now) c.args.answers.now)
-    (answer_texts (map told_fault (drop c.loop-line.line-index c.args.lines.now))
+    so_far-more (answer_texts (map kept_fault c.args.lines.now) c.args.answers.now)
+    (answer_texts (map kept_fault (drop c.loop-line.line-index c.args.lines.now))
     (drop n c.args.answers.now)) (string_bytes c.in-Some.text ++ 10 ∷ []) _
     (g.W.Write.contents c.args.writer.now) (g.W.Write.contents c.loop-line.writer)
     (g.W.Write.contents c.write_line.new.writer) c.loop-line.invariant

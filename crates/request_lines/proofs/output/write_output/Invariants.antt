@@ -1,5 +1,5 @@
 use Rattle.std.proofs.Common.{map, drop}
-use Rattle.request_lines.specs.Input.{told_fault}
+use Rattle.request_lines.specs.Input.{kept_fault}
 use Rattle.request_lines.specs.Served.{answer_texts}
 use Rattle.request_lines.proofs.SoFar.{IsWrittenSoFar}
 use Rattle.request_lines.proofs.output.write_output.Given as goal
@@ -7,6 +7,6 @@ use Rattle.request_lines.proofs.output.write_output.Given as goal
 -- what is written so far, with the texts of the lines that are left, is the whole text
 abbrev pub invariant-loop-line : goal.invariant-loop-line
 invariant-loop-line g l =
-    IsWrittenSoFar (answer_texts (map told_fault l.lines) l.answers)
-    (answer_texts (map told_fault (drop l.line-index l.lines)) (drop l.next l.answers))
+    IsWrittenSoFar (answer_texts (map kept_fault l.lines) l.answers)
+    (answer_texts (map kept_fault (drop l.line-index l.lines)) (drop l.next l.answers))
     (g.W.Write.contents l.fn.writer) (g.W.Write.contents l.writer)
