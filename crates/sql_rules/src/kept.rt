@@ -13,7 +13,7 @@ use commands::{Content, KeyRef};
 use identifiers::AccountNumber;
 use json_fields::WireFault;
 use std::alloc::{AllocError, Global};
-use wire::{read_answer, read_content};
+use wire::{Scratch, read_answer_with, read_content_with};
 
 /// The account of a number that bytes are.
 fn account_of(alloc: Global, bytes: &[u8]) -> Result<Option<AccountNumber>, AllocError>
@@ -52,10 +52,15 @@ fn is_under(content: &Content, kind: u64, name: &[u8], number: u64) -> bool
 
 /// Whether a text is that of an answer to this command.
 #[tactic(auto, using(crate::proofs::UnderKey::read_answered, crate::proofs::UnderKey::none_answered))]
-fn is_answer(alloc: Global, command: &Content, text: &[u8]) -> Result<bool, AllocError>
+fn is_answer(
+    alloc: Global,
+    command: &Content,
+    text: &[u8],
+    scratch: &mut Scratch,
+) -> Result<bool, AllocError>
     ensures { IfOk result (λ b. b ≡ is_kept_answer command.now text.now (answer_of text.now)) }
 {
-    match read_answer(alloc, text) {
+    match read_answer_with(alloc, text, scratch) {
         Ok(answer) => Ok(is_answer_to(command, &answer)),
         Err(fault) => is_none(fault),
     }
@@ -69,6 +74,7 @@ fn is_kept(
     name: &[u8],
     number: u64,
     answer: &[u8],
+    scratch: &mut Scratch,
 ) -> Result<bool, AllocError>
     ensures { IfOk result (λ b. b ≡ (is_under (key_of command.now) kind name.now number
         && is_kept_answer command.now answer.now (answer_of answer.now))) }
@@ -76,7 +82,7 @@ fn is_kept(
     if !is_under(command, kind, name, number) {
         return Ok(false);
     }
-    is_answer(alloc, command, answer)
+    is_answer(alloc, command, answer, scratch)
 }
 
 /// Whether a text is that of a command of this account, these columns are its key, and the other
@@ -90,12 +96,13 @@ fn are_texts(
     number: u64,
     content: &[u8],
     answer: &[u8],
+    scratch: &mut Scratch,
 ) -> Result<bool, AllocError>
     ensures { IfOk result (λ b. b ≡ are_texts_of kind name.now number content.now answer.now
         (content_of account content.now)) }
 {
-    match read_content(alloc, account, content) {
-        Ok(command) => is_kept(alloc, &command, kind, name, number, answer),
+    match read_content_with(alloc, account, content, scratch) {
+        Ok(command) => is_kept(alloc, &command, kind, name, number, answer, scratch),
         Err(fault) => is_none(fault),
     }
 }
@@ -110,6 +117,7 @@ pub(crate) fn are_kept_texts(
     account: &[u8],
     content: &[u8],
     answer: &[u8],
+    scratch: &mut Scratch,
 ) -> Result<bool, AllocError>
     ensures { IfOk result (λ b. b ≡
         are_kept_texts kind name.now number account.now content.now answer.now) }
@@ -117,5 +125,5 @@ pub(crate) fn are_kept_texts(
     let Some(account) = account_of(alloc, account)? else {
         return Ok(false);
     };
-    are_texts(alloc, account, kind, name, number, content, answer)
+    are_texts(alloc, account, kind, name, number, content, answer, scratch)
 }

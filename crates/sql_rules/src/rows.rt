@@ -23,6 +23,7 @@ use units::{
     END_OF_NUMBERS, GREATEST_NUMBER, LATEST_COMMAND, MOST_BLOCKS, MOST_COUNTED, MOST_DAYS,
     MOST_MONEY, MOST_USED, Moment, NO_END,
 };
+use wire::Scratch;
 
 /// How many tables there are, those of all versions.
 pub(crate) const TABLES: usize = 14;
@@ -147,7 +148,7 @@ fn is_answer_key(kind: u64, name: &[u8], number: u64) -> bool
     }
 }
 
-fn is_ruled_answer(alloc: Global, row: &Row) -> Result<bool, AllocError>
+fn is_ruled_answer(alloc: Global, row: &Row, scratch: &mut Scratch) -> Result<bool, AllocError>
     ensures { IfOk result (λ b. b ≡ is_ruled_answer row.now) }
 {
     let kind = number_at(row, 2);
@@ -157,7 +158,7 @@ fn is_ruled_answer(alloc: Global, row: &Row) -> Result<bool, AllocError>
         return Ok(false);
     }
     let (account, content, answer) = (text_at(row, 1), text_at(row, 5), text_at(row, 6));
-    are_kept_texts(alloc, kind, name, number, account, content, answer)
+    are_kept_texts(alloc, kind, name, number, account, content, answer, scratch)
 }
 
 fn is_ruled_voucher(row: &Row) -> bool
@@ -203,7 +204,13 @@ fn is_ruled_covered(row: &Row) -> bool
 /// # Errors
 /// Lack of memory, for the texts that are kept of a command alone.
 // rule: rows-ruled
-fn is_ruled(alloc: Global, shelf: &TariffShelf, at: usize, row: &Row) -> Result<bool, AllocError>
+fn is_ruled(
+    alloc: Global,
+    shelf: &TariffShelf,
+    at: usize,
+    row: &Row,
+    scratch: &mut Scratch,
+) -> Result<bool, AllocError>
     requires { at < length our_schema.tables }
     ensures { IfOk result (λ b. b ≡ rule_at shelf.now at row.now) }
 {
@@ -215,7 +222,7 @@ fn is_ruled(alloc: Global, shelf: &TariffShelf, at: usize, row: &Row) -> Result<
         4 => Ok(is_ruled_session(row)),
         5 => Ok(is_ruled_group(shelf, row)),
         6 => Ok(is_ruled_hold(row)),
-        7 => is_ruled_answer(alloc, row),
+        7 => is_ruled_answer(alloc, row, scratch),
         8 => Ok(is_ruled_voucher(row)),
         9 => Ok(is_ruled_charge(row)),
         10 => Ok(is_ruled_book(row)),
@@ -261,10 +268,11 @@ pub(crate) fn passes(
     last: Moment,
     at: usize,
     row: &Row,
+    scratch: &mut Scratch,
 ) -> Result<bool, AllocError>
     requires { at < length our_schema.tables }
     ensures { IfOk result (λ b. b ≡ passes_at shelf.now last at row.now) }
 {
-    let is_ruled = is_ruled(alloc, shelf, at, row)?;
+    let is_ruled = is_ruled(alloc, shelf, at, row, scratch)?;
     Ok(is_ruled && is_timely(last, at, row))
 }

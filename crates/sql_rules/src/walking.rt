@@ -24,6 +24,7 @@ use sqlite::types::ValueRef;
 use sqlite::{Alter, Connection, Error, ErrorCode, Row};
 use std::alloc::Global;
 use units::Moment;
+use wire::Scratch;
 
 /// The first value of the row, if it is an integer above the last.
 fn next_id(row: &Row, last: Option<i64>) -> Option<i64>
@@ -79,13 +80,14 @@ fn with_row(
     at: usize,
     walk: Walk,
     row: &Row,
+    scratch: &mut Scratch,
 ) -> Result<Walk, Error>
     requires { at < length our_schema.tables }
     ensures { IfOk result (λ w. (given : List Values)
         → Walks (passes_at shelf.now last at) walk.passes walk.last given
         → Walks (passes_at shelf.now last at) w.passes w.last (given ++ row.now ∷ [])) }
 {
-    match passes(alloc, shelf, last, at, row) {
+    match passes(alloc, shelf, last, at, row, scratch) {
         Ok(passes) => Ok(walk.with(row, passes)),
         Err(_) => Err(Error::SqliteFailure(ErrorCode::OutOfMemory)),
     }
@@ -121,12 +123,14 @@ fn do_pass<S: Alter>(
         passes: true,
         last: None,
     };
+    // One for all rows: each text is read with the memory of the one before.
+    let mut scratch = Scratch::new(alloc);
     let mut rows = conn.query(sql, &[])?;
     'rows: for _ in 0..u64::MAX {
         let Some(row) = rows.next()? else {
             return Ok(walk.passes);
         };
-        walk = with_row(alloc, shelf, last, at, walk, &row)?;
+        walk = with_row(alloc, shelf, last, at, walk, &row, &mut scratch)?;
     }
     Err(Error::SqliteFailure(ErrorCode::TooBig))
 }

@@ -187,11 +187,15 @@ fn content_in(
 }
 
 #[tactic(auto, unfolding(crate::specs::Contents::content_of))]
-fn content(alloc: Global, account: AccountNumber, bytes: &[u8]) -> Result<Content, WireFault>
+fn content(
+    alloc: Global,
+    account: AccountNumber,
+    bytes: &[u8],
+    scratch: &mut Scratch,
+) -> Result<Content, WireFault>
     ensures { Gives (λ c. c) result (content_of account bytes.now) }
 {
-    let mut scratch = Scratch::new(alloc);
-    let parent = document(bytes, &mut scratch)?;
+    let parent = document(bytes, scratch)?;
     content_in(alloc, account, &parent)
 }
 
@@ -210,7 +214,25 @@ pub fn read_content(
 ) -> Result<Content, WireFault>
     ensures { ReadsContent account bytes.now result }
 {
-    let content = content(alloc, account, bytes)?;
+    let mut scratch = Scratch::new(alloc);
+    read_content_with(alloc, account, bytes, &mut scratch)
+}
+
+/// What `read_content` gives, read with memory that is lent, for many texts one after another: new
+/// memory is cleared before it is used. Whatever was read with it before, the text alone decides.
+///
+/// # Errors
+/// Those of `read_content`.
+// rule: kept-content.reads-content
+pub fn read_content_with(
+    alloc: Global,
+    account: AccountNumber,
+    bytes: &[u8],
+    scratch: &mut Scratch,
+) -> Result<Content, WireFault>
+    ensures { ReadsContent account bytes.now result }
+{
+    let content = content(alloc, account, bytes, scratch)?;
     let text = write_content(alloc, &content)?;
     if is_text(&text, bytes) {
         Ok(content)

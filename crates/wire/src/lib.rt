@@ -19,12 +19,12 @@ mod written;
 
 pub use crate::allowances::read_allow;
 pub use crate::contents::{
-    allowance_in_order, content_again, credit_in_order, read_content, redemption_in_order,
-    write_content,
+    allowance_in_order, content_again, credit_in_order, read_content, read_content_with,
+    redemption_in_order, write_content,
 };
 pub use crate::credits::read_credit;
 pub use crate::laws::{allowance_is_read, credit_is_read, redemption_is_read};
-pub use crate::reading::{answer_again, answer_in_order, read_answer};
+pub use crate::reading::{answer_again, answer_in_order, read_answer, read_answer_with};
 pub use crate::redeeming::read_redeem;
 pub use crate::requests::read_request;
 pub use crate::writing::{write_answer, write_fault};

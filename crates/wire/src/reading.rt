@@ -185,11 +185,10 @@ fn answered(alloc: Global, parent: &Tree<'_>) -> Result<Answer, WireFault>
 }
 
 #[tactic(auto, unfolding(crate::specs::ReadingAnswers::answer_of))]
-fn answer(alloc: Global, bytes: &[u8]) -> Result<Answer, WireFault>
+fn answer(alloc: Global, bytes: &[u8], scratch: &mut Scratch) -> Result<Answer, WireFault>
     ensures { Gives (λ a. a) result (answer_of bytes.now) }
 {
-    let mut scratch = Scratch::new(alloc);
-    let parent = document(bytes, &mut scratch)?;
+    let parent = document(bytes, scratch)?;
     answered(alloc, &parent)
 }
 
@@ -217,7 +216,28 @@ pub fn read_answer(alloc: Global, bytes: &[u8]) -> Result<Answer, WireFault>
     ensures written { ReadsWritten bytes.now result }
     ensures texts { ReadsTexts bytes.now result }
 {
-    let answer = match answer(alloc, bytes) {
+    let mut scratch = Scratch::new(alloc);
+    read_answer_with(alloc, bytes, &mut scratch)
+}
+
+/// What `read_answer` gives, read with memory that is lent, as `read_content_with` does.
+///
+/// # Errors
+/// Those of `read_answer`.
+// rule: answers.reads-written
+pub fn read_answer_with(
+    alloc: Global,
+    bytes: &[u8],
+    scratch: &mut Scratch,
+) -> Result<Answer, WireFault>
+    // rule: answers.reads-written
+    ensures text { IfOk result (λ a. answer_text a ≡ bytes.now) }
+    ensures said { IfOk result (λ a. answer_of bytes.now ≡ Ok a) }
+    // rule: answers.reads-written
+    ensures written { ReadsWritten bytes.now result }
+    ensures texts { ReadsTexts bytes.now result }
+{
+    let answer = match answer(alloc, bytes, scratch) {
         Ok(answer) => answer,
         Err(fault) => return Err(told(fault)),
     };

@@ -6,7 +6,7 @@ use Rattle.json_fields.specs.declared.fault.WireFault.TheVariants.{NotRequest}
 use Rattle.wire.specs.ReadingAnswers.{answer_of, is_answer_text}
 use Rattle.wire.proofs.AnswersAgain.{reads_written, never_said, never_written}
 use Rattle.wire.proofs.AnswersAgain.{text_of_other, text_read, text_refused}
-use Rattle.wire.proofs.reading.read_answer.Goals as goal
+use Rattle.wire.proofs.reading.read_answer_with.Goals as goal
 
 pub returns-in-Err-clause-written : goal.returns-in-Err-clause-written
 returns-in-Err-clause-written c =

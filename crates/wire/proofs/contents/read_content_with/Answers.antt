@@ -3,7 +3,7 @@ use Rattle.std.proofs.lemmas.Result.{err_from_is_err_and}
 use Rattle.json_fields.specs.declared.fault.WireFault.TheVariants.{NotRequest}
 use Rattle.wire.proofs.ContentsAgain.{reads_written, never_written, of_account}
 use Rattle.wire.proofs.ContentsAgain.{text_of_other, text_read, text_refused}
-use Rattle.wire.proofs.contents.read_content.Goals as goal
+use Rattle.wire.proofs.contents.read_content_with.Goals as goal
 
 pub returns-in_err-content : goal.returns-in_err-content
 returns-in_err-content c =
