@@ -2,9 +2,8 @@
 -- session.
 use Rattle.std.proofs.Common.{◌≡◌, ℕ, ◌+◌, Bool, true, false, List, [], ◌∷◌, refl, ap, ◌∙◌, arith}
 use Rattle.std.proofs.Common.{Option, Some, None}
-use Rattle.std.specs.Prelude.{if◌then◌else◌, ◌==◌, ◌&&◌, nat_lt, unwrap_or}
+use Rattle.std.specs.Prelude.{if◌then◌else◌, ◌==◌, ◌&&◌, unwrap_or}
 use Rattle.std.proofs.Math.Bool.{and-false}
-use Rattle.std.proofs.lemmas.Bool.Decides.{nat_tests}
 use Rattle.units.specs.declared.blocks.UsedPart.{UsedPart}
 use Rattle.tariffs.specs.Tariffs.{GroupTariff}
 use Rattle.shelves.specs.Shelves.{Shelf, tariff_in}
@@ -24,7 +23,7 @@ use Rattle.ledger.proofs.Fronts.{total-front, each_charge}
 use Rattle.reserving.proofs.SettledRows.{other_settled, counter-settled, parts_paid, if_none}
 
 -- another group of the same session
-other_key : (s : List ℕ) (h g : ℕ) → (h == g) ≡ false → is_key s h s g ≡ false
+pub other_key : (s : List ℕ) (h g : ℕ) → (h == g) ≡ false → is_key s h s g ≡ false
 other_key s h g e = ap (λ t. is_same s s && t) e ∙ and-false (is_same s s)
 
 none_counted : (t u : Bool) (n : ℕ) → u ≡ false → (if t then (if u then n else 0) else 0) ≡ 0
@@ -119,15 +118,3 @@ passes_after-none b t s g (p ∷ ps) ledger =
     λ i. passes (used s g ledger) (reported (p ∷ ps))
     (counter (cycle_at b g) g (cycle_at b g t) ledger)
     (report_price b t s g (p ∷ ps) ledger).blocks (next i)
-
--- ---- the numbers of charges alone
-
-pub passes_later : (before units count blocks next charges : ℕ) →
-    passes before units count blocks next ≡ true →
-    passes before units count blocks (next + charges) ≡ true
-passes_later before units count blocks next charges h = grind (arith, nat_tests)
-
-pub passes_numbered : (before units count blocks next charges : ℕ) →
-    passes before units count blocks next ≡ false →
-    passes before units count blocks (next + charges) ≡ nat_lt 4294967295 (next + charges)
-passes_numbered before units count blocks next charges h = grind (arith, nat_tests)

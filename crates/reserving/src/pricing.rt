@@ -1,6 +1,6 @@
 //! What tariff books say of a grant's validity and of a report's parts.
 
-ghost use Rattle.std.specs.Prelude.{◌≡◌, ◌+◌, ◌≤◌, ◌<◌, ◌^◌, Some, None, IfSome, IfNone};
+ghost use Rattle.std.specs.Prelude.{◌≡◌, ◌+◌, ◌≤◌, ◌<◌, ◌^◌, ℕ, List, Some, None, IfSome, IfNone};
 ghost use Rattle.std.specs.Prelude.{option_map, if◌then◌else◌};
 ghost use Rattle.units.specs.Words.{latest_moment};
 ghost use Rattle.units.specs.declared.blocks.TariffChangeUsage.TheVariants.{UnitBeforeTariffChange};
@@ -13,13 +13,14 @@ ghost use Rattle.ledger.specs.Pricing.{units_of, four_parts, wanted_units};
 ghost use Rattle.reserving.specs.Placed.{AreOfBook, AreOfShelf};
 ghost use Rattle.shelves.specs.Shelves.{tariff_in};
 ghost use Rattle.ledger.specs.Pricing.{prices_by, terms_now};
-ghost use Rattle.ledger.specs.Settlement.{reported};
+ghost use Rattle.ledger.specs.Settlement.{reported, price_by};
+ghost use Rattle.units.specs.declared.blocks.UsedPart.{UsedPart};
 
 use ledger::Terms;
 use rating::{Part, Periods, Rated, rate_report};
 use shelves::TariffShelf;
 use tariffs::{Prices, Side, Tariff, TariffBook};
-use units::{Blocks, LATEST_MOMENT, Moment, TariffChangeUsage, Units, UsedPart};
+use units::{Blocks, LATEST_MOMENT, Moment, TariffChangeUsage, Units, UsedPart, blocks_started};
 
 /// For how long, and by which periods, a grant of a moment is valid.
 #[derive(Clone, Copy)]
@@ -96,6 +97,26 @@ pub(crate) fn prices_by(shelf: &TariffShelf, group: u32, terms: Terms) -> Option
         ≡ option_map (λ x. prices_by x terms.periods) (tariff_in shelf.now terms.book group) }
 {
     shelf.prices(terms.book, group, terms.periods.before, terms.periods.after)
+}
+
+/// The blocks that units start after a use so far, by the terms of a grant, whatever is covered of
+/// them. A group that their book doesn't have has no blocks.
+// rule: report-order
+pub(crate) fn blocks_by(
+    shelf: &TariffShelf,
+    group: u32,
+    terms: Terms,
+    used: u64,
+    units: Units,
+) -> Blocks
+    requires { AreOfShelf shelf.now terms }
+    ensures { (parts : List UsedPart) (place covered : ℕ) → reported parts ≡ units.0 →
+        result.0 ≡ (price_by shelf.now group terms used place covered parts).blocks }
+{
+    let Some(prices) = prices_by(shelf, group, terms) else {
+        return Blocks(0);
+    };
+    blocks_started(Units(used), units, prices.block())
 }
 
 /// The terms of what has no grant: the book at a moment and its period.

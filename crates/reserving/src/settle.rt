@@ -6,7 +6,7 @@ use crate::account::Account;
 use crate::fault::AccountFault;
 use crate::grouping;
 use crate::live::cycle_of;
-use crate::pricing::{Tally, price, prices_by, reported_units, tally_of, terms_now};
+use crate::pricing::{Tally, blocks_by, price, prices_by, reported_units, tally_of, terms_now};
 use buckets::{BucketKind, Charged};
 use identifiers::SessionId;
 use ledger::Terms;
@@ -46,16 +46,32 @@ pub(crate) struct RatedUse {
     pub(crate) amount: Amount,
 }
 
+/// The use that a report tells, before anything of it is priced: what it goes on after, and the
+/// blocks that it starts.
+#[derive(Clone, Copy)]
+pub struct CountedUse {
+    /// The units, all parts together.
+    pub(crate) units: Units,
+    /// The session's use of the group before it.
+    pub(crate) used: u64,
+    /// The cycle of the group's counter.
+    pub(crate) cycle: u32,
+    /// The blocks that the counter counted in it so far.
+    pub(crate) place: u64,
+    /// What prices it.
+    pub(crate) terms: Terms,
+    /// The blocks that it starts.
+    pub(crate) blocks: Blocks,
+}
+
 impl<'b> Account<'b> {
     ghost use Rattle.std.specs.Prelude.{◌≡◌, ◌+◌, ◌≤◌, ◌<◌, ◌^◌, true, false, None};
     ghost use Rattle.std.specs.Prelude.{OnOk, OnErr, IfSome, List, Some, unwrap_or};
-    ghost use Rattle.ledger.specs.Ledger.{Ledger};
-    ghost use Rattle.ledger.specs.Settlement.{reported, price_of, passes};
-    ghost use Rattle.ledger.specs.Settlement.{passes_after};
+    ghost use Rattle.ledger.specs.Settlement.{reported, price_by, passes};
     ghost use Rattle.reserving.specs.Rows.{IsAccount};
     ghost use Rattle.reserving.specs.Placed.{AreOfShelf};
-    ghost use Rattle.reserving.specs.Left.{LeftRows, IsWith};
     ghost use Rattle.reserving.specs.Calls.{IsLive, Settles};
+    ghost use Rattle.reserving.specs.Uses.{CountsUse, IsCountedUse, IsUseOf, IsUse, IsRated};
     ghost use Rattle.buckets.specs.Kinds.{due, most_blocks_in_all};
     ghost use Rattle.buckets.specs.Holding.{uncollected, held_sum};
     ghost use Rattle.reserving.specs.Changes.{coverable_in};
@@ -82,7 +98,7 @@ impl<'b> Account<'b> {
     /// `Limit` only where the session's use, the group's counter or the number of the charge would
     /// pass its limit, else `Memory`: a growth was refused. Then the account is unchanged. A report
     /// without parts has no error.
-    // rule: settle-order, use-counts, grant-units.passes-in, database-loads
+    // rule: grant-units.passes-in, database-loads
     pub fn settle(
         &mut self,
         session: &SessionId,
@@ -94,7 +110,57 @@ impl<'b> Account<'b> {
         requires live { IsLive self.old moment session.now }
         ensures { Settles session.now group parts.now moment self.old self.new result }
     {
+        let counted = self.count_use(session, group, parts, 0, moment)?;
+        self.settle_counted(session, group, parts, counted, moment)
+    }
+
+    /// Counts the use of a report, after so many other settlements with a charge, of other groups
+    /// of the session. None: it has no parts. It takes no memory and changes nothing.
+    ///
+    /// # Errors
+    /// `Limit` exactly where the session's use, the group's counter or the number of the charge
+    /// would pass its limit.
+    // rule: stored-limits
+    pub fn count_use(
+        &self,
+        session: &SessionId,
+        group: u32,
+        parts: &[UsedPart],
+        charges: u64,
+        moment: Moment,
+    ) -> Result<Option<CountedUse>, AccountFault>
+        ensures { CountsUse session.now group parts.now charges moment self.now result }
+    {
         if parts.is_empty() {
+            return Ok(None);
+        }
+        let Some(counted) = self.count_within(session, group, parts, charges, moment) else {
+            return Err(AccountFault::Limit);
+        };
+        Ok(Some(counted))
+    }
+
+    /// Settles a report whose use was counted, as `settle` does. Settlements of other groups of the
+    /// session may have come between: what was counted of a use is still so, but for the charges
+    /// before it.
+    ///
+    /// # Errors
+    /// `Memory`: a growth was refused. Then the account is unchanged.
+    // rule: settle-order, use-counts
+    pub fn settle_counted(
+        &mut self,
+        session: &SessionId,
+        group: u32,
+        parts: &[UsedPart],
+        counted: Option<CountedUse>,
+        moment: Moment,
+    ) -> Result<Settled, AccountFault>
+        requires moment { self.old.as_of ≤ moment }
+        requires live { IsLive self.old moment session.now }
+        requires counted { IsUseOf session.now group parts.now 0 moment self.old counted }
+        ensures { Settles session.now group parts.now moment self.old self.new result }
+    {
+        let Some(counted) = counted else {
             self.advance(moment);
             self.end_reservation(session, group);
             return Ok(Settled {
@@ -104,11 +170,9 @@ impl<'b> Account<'b> {
                 collected: Amount(0),
                 uncollected: Amount(0),
             });
-        }
-        let Some(rated) = self.rate(session, group, parts, moment) else {
-            return Err(AccountFault::Limit);
         };
-        let cycle = self.cycle_at(group, moment);
+        let rated = self.rate(session, group, parts, counted, moment);
+        let cycle = counted.cycle;
         self.make_rows(session, group, cycle)?;
         self.advance(moment);
         let charged = self.settle_use(session, group, cycle, rated);
@@ -119,31 +183,6 @@ impl<'b> Account<'b> {
             collected: charged.collected,
             uncollected: charged.uncollected,
         })
-    }
-
-    /// Whether `settle` would answer `Limit` to a report, after so many other settlements with a
-    /// charge, of other groups of the session. It takes no memory and changes nothing.
-    // rule: stored-limits
-    pub fn would_pass(
-        &self,
-        session: &SessionId,
-        group: u32,
-        parts: &[UsedPart],
-        charges: u64,
-        moment: Moment,
-    ) -> bool
-        requires later { self.now.as_of ≤ moment }
-        requires live { IsLive self.now moment session.now }
-        ensures { (ledger : Ledger) (left : LeftRows) → IsWith ledger left moment self.now →
-            result ≡ passes_after charges self.now.shelf moment session.now group parts.now ledger }
-    {
-        if parts.is_empty() {
-            return false;
-        }
-        let Some(_) = self.rate(session, group, parts, moment) else {
-            return true;
-        };
-        (GREATEST_NUMBER as u128) < self.next_charge() as u128 + charges as u128
     }
 
     /// Makes the rows that a settlement writes to. At a fault, which is lack of memory, nothing has
@@ -181,43 +220,73 @@ impl<'b> Account<'b> {
         grouping::count_of(&self.rows.counters, group, cycle)
     }
 
-    /// Rates a report; None where a stored number would pass its limit.
-    fn rate(
+    /// Counts the use of a report with parts; None where a stored number would pass its limit.
+    // rule: stored-limits
+    fn count_within(
         &self,
         session: &SessionId,
         group: u32,
         parts: &[UsedPart],
+        charges: u64,
         moment: Moment,
-    ) -> Option<RatedUse>
-        requires { self.now.as_of ≤ moment }
-        ensures account { IsAccount self.now }
+    ) -> Option<CountedUse>
         ensures none { result ≡ None →
             passes (used_in session.now group self.now.groups) (reported parts.now)
             (count_in group (cycle_at self.now.shelf group moment) self.now.counters)
-            (price_in session.now group moment parts.now self.now).blocks self.now.next_charge
-            ≡ true }
-        ensures some { IfSome result
-            (λ r. passes (used_in session.now group self.now.groups) r.units.0
-            (count_in group (cycle_at self.now.shelf group moment) self.now.counters) r.blocks.0
-            self.now.next_charge ≡ false) }
-        ensures units { IfSome result (λ r. r.units.0 ≡ reported parts.now) }
-        ensures blocks { IfSome result
-            (λ r. r.blocks.0 ≡ (price_in session.now group moment parts.now self.now).blocks) }
-        ensures covered { IfSome result
-            (λ r. r.covered.0 ≡ (price_in session.now group moment parts.now self.now).covered.0) }
-        ensures amount { IfSome result
-            (λ r. r.amount.0 ≡ (price_in session.now group moment parts.now self.now).amount.0) }
+            (price_in session.now group moment parts.now self.now).blocks
+            (self.now.next_charge + charges) ≡ true }
+        ensures some { IfSome result (λ u.
+            passes (used_in session.now group self.now.groups) (reported parts.now)
+            (count_in group (cycle_at self.now.shelf group moment) self.now.counters)
+            (price_in session.now group moment parts.now self.now).blocks
+            (self.now.next_charge + charges) ≡ false) }
+        ensures counted { IfSome result (IsUse session.now group parts.now moment self.now) }
     {
         let used = grouping::used_of(&self.rows.groups, session, group);
         let units = reported_units(parts);
         if MOST_USED < used as u128 + units {
             return None;
         }
-        let tally = tally_of(parts);
-        let place = self.place_at(group, moment);
+        let units = Units(units as u64);
+        let terms = self.terms(session, group, moment);
+        let blocks = blocks_by(self.shelf, group, terms, used, units);
+        let cycle = self.cycle_at(group, moment);
+        let place = grouping::count_of(&self.rows.counters, group, cycle);
+        let charge = self.rows.next_charge as u128 + charges as u128;
+        if MOST_COUNTED < place as u128 + blocks.0 as u128 || (GREATEST_NUMBER as u128) < charge {
+            return None;
+        }
+        Some(CountedUse {
+            units,
+            used,
+            cycle,
+            place,
+            terms,
+            blocks,
+        })
+    }
+
+    /// Rates a use that is counted: how many of its blocks are covered, and what the others cost.
+    fn rate(
+        &self,
+        session: &SessionId,
+        group: u32,
+        parts: &[UsedPart],
+        counted: CountedUse,
+        moment: Moment,
+    ) -> RatedUse
+        requires later { self.now.as_of ≤ moment }
+        requires counted { IsCountedUse session.now group parts.now 0 moment self.now counted }
+        ensures { IsRated session.now group parts.now moment self.now result }
+    {
         let covered = self.coverable(session, group, moment);
-        let rated = self.price(session, group, used, place, covered, &tally, moment);
-        self.within_limits(session, group, Units(units as u64), rated, moment)
+        let rated = self.price(group, counted, covered, &tally_of(parts));
+        RatedUse {
+            units: counted.units,
+            blocks: counted.blocks,
+            covered: rated.covered,
+            amount: rated.amount,
+        }
     }
 
     /// A use that is rated; None where a stored number would pass its limit.
@@ -278,38 +347,29 @@ impl<'b> Account<'b> {
         grouping::held_blocks_of(&self.rows.groups, &self.rows.purse, session, group)
     }
 
-    /// What a report costs: by the terms of its grant, without one by the book and the period at
-    /// the moment. A group that this book doesn't have costs nothing.
+    /// What a counted use costs by its terms, where the first of its blocks are covered. A group
+    /// that their book doesn't have costs nothing.
     // rule: report-period
-    fn price(
-        &self,
-        session: &SessionId,
-        group: u32,
-        used: u64,
-        place: u64,
-        covered: Blocks,
-        tally: &Tally,
-        moment: Moment,
-    ) -> Rated
-        requires { tally.now.untagged + tally.now.before + tally.now.indeterminate + tally.now.after
-            < 2 ^ 64 }
+    fn price(&self, group: u32, counted: CountedUse, covered: Blocks, tally: &Tally) -> Rated
+        requires total { tally.now.untagged + tally.now.before + tally.now.indeterminate
+            + tally.now.after < 2 ^ 64 }
+        requires terms { AreOfShelf self.now.shelf counted.terms }
         ensures { (parts : List UsedPart) →
             tally.now.untagged ≡ units_of None parts →
             tally.now.before ≡ units_of (Some UnitBeforeTariffChange) parts →
             tally.now.indeterminate ≡ units_of (Some UnitIndeterminate) parts →
             tally.now.after ≡ units_of (Some UnitAfterTariffChange) parts →
-            result ≡ price_of self.now.shelf moment group
-            (terms_in session.now group self.now.groups) used place covered.0 parts }
+            result ≡ price_by self.now.shelf group counted.terms counted.used counted.place covered.0
+            parts }
     {
-        let terms = self.terms(session, group, moment);
-        let Some(prices) = prices_by(self.shelf, group, terms) else {
+        let Some(prices) = prices_by(self.shelf, group, counted.terms) else {
             return Rated {
                 amount: Amount(0),
                 blocks: 0,
                 covered: Blocks(0),
             };
         };
-        price(&prices, used, place, covered, tally)
+        price(&prices, counted.used, counted.place, covered, tally)
     }
 
     /// The terms that price a report: those of its grant, or what prices one without a grant.

@@ -268,7 +268,7 @@ pub(crate) fn limit(
     let id = session_id(rt, alloc, session);
     let parts = report(rt, alloc, words.rest());
     must_be_live(rt, account, &id, at);
-    let passes = account.would_pass(&id, group, &parts, charges, at);
+    let passes = account.count_use(&id, group, &parts, charges, at).is_err();
     format!(in alloc; "{passes}").expect(rt, "memory")
 }
 
