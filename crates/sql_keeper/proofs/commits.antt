@@ -7,5 +7,6 @@ pub mod GrantsWritten
 pub mod OwnTexts
 pub mod Tested
 pub mod Transacted
+pub mod Typed
 pub mod Whole
 pub mod Writable

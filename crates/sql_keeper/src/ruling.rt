@@ -1,38 +1,29 @@
 //! Whether the rows of a change are in the rules of their tables, so that an open finds them there.
+//! What a type keeps isn't tested: it is in its rule.
 
-ghost use Rattle.std.specs.Prelude.{◌≡◌, length, nat_le};
+ghost use Rattle.std.specs.Prelude.{◌≡◌, length, nat_le, true};
 ghost use Rattle.std.specs.List.{list_all};
-ghost use Rattle.identifiers.specs.Texts.{is_account_number, is_reference, is_session_id};
 ghost use Rattle.sql_keeper.specs.Content.{shelf_names};
-ghost use Rattle.voucher_rules.specs.Standing.{unspent};
 ghost use Rattle.sql_keeper.specs.RuledRows.{are_ruled_rows, is_ruled_addition, is_ruled_change};
 ghost use Rattle.sql_keeper.specs.RuledRows.{are_timely_charges, are_timely_rows};
 ghost use Rattle.sql_keeper.specs.RuledRows.{are_timely_sessions, is_timely_change};
 ghost use Rattle.sql_keeper.specs.RuledRows.{is_ruled_charge, is_ruled_group, is_ruled_swept};
-ghost use Rattle.commands.specs.Keys.{key_of};
-ghost use Rattle.sql_keeper.specs.RuledRows.{is_ruled_hold, is_ruled_kept, is_ruled_key};
+ghost use Rattle.sql_keeper.specs.RuledRows.{is_ruled_hold, is_ruled_kept};
 ghost use Rattle.sql_keeper.specs.RuledRows.{is_ruled_redeemed, is_ruled_reservation};
-ghost use Rattle.sql_keeper.specs.Writes.{head_columns_of, voucher_row};
-ghost use Rattle.sql_rules.specs.Columns.{is_end, is_moment, is_small, is_in_bounds};
-ghost use Rattle.sql_rules.specs.Columns.{is_optional_within};
+ghost use Rattle.sql_keeper.specs.Writes.{head_columns_of};
+ghost use Rattle.sql_rules.specs.Columns.{is_end, is_moment, is_in_bounds};
 ghost use Rattle.sql_rules.specs.Ruled.{is_account, is_bucket, is_charge, is_counter, is_session};
-ghost use Rattle.sql_rules.specs.Ruled.{is_voucher};
-ghost use Rattle.sql_rows.specs.Values.{flag_number, nat, state_number};
-ghost use Rattle.sqlite.specs.Values.{or_null};
 
 use crate::swept_rows::SweptAccount;
 use buckets::{Bucket, HeldAmount};
-use commands::{Content, KeyRef};
-use identifiers::{AccountNumber, Reference, SessionId, VoucherCode};
+use commands::KeyRef;
+use identifiers::{AccountNumber, VoucherCode};
 use keepers::{Change, KeptAnswer, NamedRows, Redeemed};
 use ledger::ChargeRow;
-use reserving::{Counter, Reservation, Session, SessionGroup, SessionState};
+use reserving::{Counter, Reservation, Session, SessionGroup};
 use shelves::TariffShelf;
 use sql_rules::MOST_RATED;
-use units::{
-    END_OF_NUMBERS, GREATEST_NUMBER, MOST_BLOCKS, MOST_COUNTED, MOST_DAYS, MOST_MONEY, MOST_USED,
-    Moment, NO_END,
-};
+use units::{END_OF_NUMBERS, MOST_BLOCKS, MOST_COUNTED, MOST_MONEY, MOST_USED, Moment, NO_END};
 use voucher_rules::VoucherTerms;
 
 // ---- values
@@ -50,104 +41,52 @@ fn is_end(starts: Moment, ends: Moment) -> bool
     starts.seconds() < ends.seconds() && ends.seconds() <= NO_END
 }
 
-fn is_small(number: u32) -> bool
-    ensures { result ≡ is_small number }
-{
-    u64::from(number) <= GREATEST_NUMBER
-}
-
 fn is_within(number: u64, low: u64, high: u64) -> bool
     ensures { result ≡ is_in_bounds low high number }
 {
     low <= number && number <= high
 }
 
-fn is_none_or_within(number: Option<u32>, low: u64, high: u64) -> bool
-    ensures { result ≡ is_optional_within low high (or_null nat number) }
-{
-    match number {
-        None => true,
-        Some(number) => is_within(u64::from(number), low, high),
-    }
-}
-
-fn is_number(account: &AccountNumber) -> bool
-    ensures { result ≡ is_account_number account.now }
-{
-    // For the prover alone: looking at the value makes known here what its type keeps.
-    let _text = account.as_str();
-    true
-}
-
-fn is_name(session: &SessionId) -> bool
-    ensures { result ≡ is_session_id session.now }
-{
-    // For the prover alone: looking at the value makes known here what its type keeps.
-    let _text = session.as_str();
-    true
-}
-
-fn is_reference(reference: &Reference) -> bool
-    ensures { result ≡ is_reference reference.now }
-{
-    // For the prover alone: looking at the value makes known here what its type keeps.
-    let _text = reference.as_str();
-    true
-}
-
-fn is_flag(flag: bool) -> bool
-    ensures { result ≡ nat_le (flag_number flag) 1 }
-{
-    // For the prover alone: whichever it is, its number is 0 or 1.
-    match flag {
-        true | false => true,
-    }
-}
-
-fn is_state(state: SessionState) -> bool
-    ensures { result ≡ is_in_bounds 1 3 (state_number state) }
-{
-    // For the prover alone: whichever it is, its number is one of three.
-    match state {
-        SessionState::Open | SessionState::Ended | SessionState::NeverOpened => true,
-    }
-}
-
 // ---- the rows of an account
 
+#[tactic(auto, using(crate::proofs::commits::Typed::flag_within))]
 fn is_account(account: &AccountNumber, rows: &NamedRows) -> bool
     ensures { result ≡ is_account account.now (head_columns_of rows.now) }
 {
-    is_number(account)
-        && is_flag(rows.is_barred())
-        && is_moment(rows.as_of())
+    // For the prover alone: looking at the value makes known here what its type keeps.
+    let _text = account.as_str();
+    is_moment(rows.as_of())
         && is_within(rows.next_bucket(), 1, END_OF_NUMBERS)
         && is_within(rows.next_charge(), 1, END_OF_NUMBERS)
 }
 
+#[tactic(auto, using(crate::proofs::commits::Typed::scope_within))]
 fn is_bucket(bucket: &Bucket) -> bool
     ensures { result ≡ is_bucket bucket.now }
 {
-    is_within(u64::from(bucket.number()), 1, GREATEST_NUMBER)
+    // For the prover alone: looking at the value makes known here what its type keeps.
+    let _scope = bucket.scope();
+    1 <= bucket.number()
         && is_moment(bucket.from())
         && is_end(bucket.from(), bucket.until())
-        && is_none_or_within(bucket.scope(), 0, GREATEST_NUMBER)
         && bucket.credited() <= MOST_MONEY
 }
 
 fn is_counter(counter: &Counter) -> bool
     ensures { result ≡ is_counter counter.now }
 {
-    is_small(counter.group) && is_small(counter.cycle) && counter.blocks <= MOST_COUNTED
+    // For the prover alone: looking at the values makes known here what their types keep.
+    let (_group, _cycle) = (counter.group, counter.cycle);
+    counter.blocks <= MOST_COUNTED
 }
 
+#[tactic(auto, using(crate::proofs::commits::Typed::state_within))]
 fn is_session(session: &Session) -> bool
     ensures { result ≡ is_session session.now }
 {
-    is_name(&session.id)
-        && is_small(session.last_number)
-        && is_moment(session.touched)
-        && is_state(session.state)
+    // For the prover alone: looking at the values makes known here what their types keep.
+    let (_text, _number) = (session.id.as_str(), session.last_number);
+    is_moment(session.touched)
 }
 
 fn is_hold(hold: &HeldAmount) -> bool
@@ -183,7 +122,9 @@ fn is_reservation(books: &TariffShelf, reservation: &Option<Reservation>) -> boo
 fn is_group(books: &TariffShelf, group: &SessionGroup) -> bool
     ensures { result ≡ is_ruled_group (shelf_names books.now) group.now }
 {
-    is_small(group.group) && group.used <= MOST_USED && is_reservation(books, &group.reservation)
+    // For the prover alone: looking at the value makes known here what its type keeps.
+    let _group = group.group;
+    group.used <= MOST_USED && is_reservation(books, &group.reservation)
 }
 
 fn are_buckets(buckets: &[Bucket]) -> bool
@@ -226,10 +167,10 @@ fn are_rows(books: &TariffShelf, account: &AccountNumber, rows: &NamedRows) -> b
 fn is_charge(charge: &ChargeRow) -> bool
     ensures { result ≡ is_charge charge.now }
 {
-    is_within(u64::from(charge.number), 1, GREATEST_NUMBER)
+    // For the prover alone: looking at the values makes known here what their types keep.
+    let (_text, _group) = (charge.session.as_str(), charge.group);
+    1 <= charge.number
         && is_moment(charge.moment)
-        && is_name(&charge.session)
-        && is_small(charge.group)
         && charge.blocks.0 <= MOST_BLOCKS
         && charge.rated.0 <= MOST_RATED as u128
 }
@@ -268,42 +209,31 @@ fn are_timely_charges(moment: Moment, charges: &[ChargeRow]) -> bool
     charges.iter().all(|charge| is_by(charge.moment, moment))
 }
 
-fn are_terms(code: &VoucherCode, terms: VoucherTerms) -> bool
-    ensures { result ≡ is_voucher code.now (voucher_row (unspent terms)) }
+/// For the prover alone: the types of a redeemed voucher keep the rules of its table.
+#[tactic(auto, using(crate::proofs::commits::Typed::days_within, crate::proofs::commits::Typed::scope_within))]
+fn look_at_redeemed(redeemed: &Option<Redeemed>)
+    ensures { is_ruled_redeemed redeemed.now ≡ true }
 {
-    // For the prover alone: looking at the value makes known here what its type keeps.
-    let _text = code.as_str();
-    is_within(terms.amount().micros(), 1, MOST_MONEY)
-        && is_none_or_within(terms.days(), 1, MOST_DAYS)
-        && is_none_or_within(terms.scope(), 0, GREATEST_NUMBER)
-}
-
-fn is_redeemed(redeemed: &Option<Redeemed>) -> bool
-    ensures { result ≡ is_ruled_redeemed redeemed.now }
-{
-    match redeemed {
-        None => true,
-        Some(redeemed) => are_terms(&redeemed.code, redeemed.voucher.terms),
+    if let Some(redeemed) = redeemed {
+        let _text = redeemed.code.as_str();
+        let terms = redeemed.voucher.terms;
+        let (_amount, _days, _scope) = (terms.amount(), terms.days(), terms.scope());
     }
 }
 
-/// Whether texts are kept under a key in its rules.
-#[tactic(auto, using(crate::proofs::rules::RuledRows::and_true, crate::proofs::rules::RuledRows::or_false))]
-fn is_key(content: &Content) -> bool
-    ensures { result ≡ is_ruled_key (key_of content.now) }
+/// For the prover alone: the types of a key keep the rules of the answer under it.
+fn look_at_kept(kept: &Option<KeptAnswer>)
+    ensures { is_ruled_kept kept.now ≡ true }
 {
-    match content.key() {
-        KeyRef::Request { session, number } => is_name(session) && is_small(number),
-        KeyRef::Reference(reference) => is_reference(reference),
-    }
-}
-
-fn is_kept(kept: &Option<KeptAnswer>) -> bool
-    ensures { result ≡ is_ruled_kept kept.now }
-{
-    match kept {
-        None => true,
-        Some(kept) => is_key(&kept.content),
+    if let Some(kept) = kept {
+        match kept.content.key() {
+            KeyRef::Request { session, .. } => {
+                let _text = session.as_str();
+            }
+            KeyRef::Reference(reference) => {
+                let _text = reference.as_str();
+            }
+        }
     }
 }
 
@@ -329,20 +259,24 @@ fn is_timely_change(change: &Change) -> bool
 pub(crate) fn is_ruled_change(books: &TariffShelf, change: &Change) -> bool
     ensures { result ≡ is_ruled_change (shelf_names books.now) change.now }
 {
+    look_at_redeemed(&change.redeemed);
+    look_at_kept(&change.kept);
     is_moment(change.moment)
         && are_rows(books, &change.number, &change.rows)
         && are_charges(&change.charges)
-        && is_redeemed(&change.redeemed)
-        && is_kept(&change.kept)
         && is_timely_change(change)
 }
 
 /// Whether a voucher that is added at a moment is in the rules of its table, and the moment too.
 // rule: rows-ruled.ruled-change
+#[tactic(auto, using(crate::proofs::commits::Typed::days_within, crate::proofs::commits::Typed::scope_within))]
 pub(crate) fn is_ruled_addition(code: &VoucherCode, terms: VoucherTerms, moment: Moment) -> bool
     ensures { result ≡ is_ruled_addition code.now terms moment }
 {
-    is_moment(moment) && are_terms(code, terms)
+    // For the prover alone: looking at the values makes known here what their types keep.
+    let _text = code.as_str();
+    let (_amount, _days, _scope) = (terms.amount(), terms.days(), terms.scope());
+    is_moment(moment)
 }
 
 // ---- a sweep

@@ -78,14 +78,6 @@ use Rattle.sql_keeper.proofs.sweeps.Swept.{MayBePut}
 
 -- ---- a list of rows
 
-pub or_false : (b : Bool) → (b || false) ≡ b
-or_false true = refl
-or_false false = refl
-
-pub and_true : (b : Bool) → (b && true) ≡ b
-and_true true = refl
-and_true false = refl
-
 pub names_count : (shelf : Shelf) → length (shelf_names shelf) ≡ count shelf
 names_count shelf =
     length-map (dated_books shelf) (λ (d : DatedBook). d.book.periods)
