@@ -3,7 +3,7 @@
 ghost use Rattle.std.specs.Prelude.{◌≡◌, false, true};
 ghost use Rattle.keepers.specs.Change.{with_voucher};
 ghost use Rattle.sql_rows.specs.Makes.{Makes};
-ghost use Rattle.sql_tables.specs.Statements.{Attempts, HasTables, HasIdleTables, HasRules};
+ghost use Rattle.sql_tables.specs.Statements.{AttemptsOver, HasTables, HasIdleTables, HasRules};
 ghost use Rattle.sql_tables.specs.Statements.{IsInside};
 ghost use Rattle.sql_keeper.specs.Additions.{BecomesAdded, with_addition_put};
 ghost use Rattle.sql_keeper.specs.Commits.{CommitsStanding, CommitsWhole, Transacts};
@@ -38,9 +38,8 @@ fn put_addition<S: Alter>(
     requires open { IsInside (state S.Store tx.old.conn.now) }
     requires tables { HasTables (state S.Store tx.old.conn.now) }
     requires rules { HasRules (state S.Store tx.old.conn.now) }
-    ensures same_reference { tx.new.conn.ghost_name ≡ tx.old.conn.ghost_name }
-    ensures makes { Attempts (Makes (with_addition_put is_there code.now terms moment))
-        (state S.Store tx.old.conn.now) (state S.Store tx.new.conn.now) result }
+    ensures { AttemptsOver S.Store (Makes (with_addition_put is_there code.now terms moment))
+        tx.old.conn tx.new.conn result }
 {
     put_moment(tx, moment, is_there)?;
     let code = code.as_str();

@@ -3,7 +3,7 @@
 ghost use Rattle.std.specs.Prelude.{◌≡◌, map, IfOk};
 ghost use Rattle.sql_rows.specs.Content.{with_rows};
 ghost use Rattle.sql_rows.specs.Makes.{Makes, MakesIfOpen};
-ghost use Rattle.sql_tables.specs.Statements.{Attempts, HasTables, IsInside};
+ghost use Rattle.sql_tables.specs.Statements.{AttemptsOver, HasTables, IsInside};
 ghost use Rattle.sql_keeper.specs.Kinds.{counted_live};
 ghost use Rattle.sql_keeper.specs.Writes.{with_all_counted, with_all_counted_over, with_counted};
 ghost use Rattle.sql_keeper.specs.Writes.{with_counted_over, with_kind, with_scoped};
@@ -26,10 +26,9 @@ fn put_kind<S: Alter>(
     bucket: &Bucket,
 ) -> Result<(), Error>
     requires tables { HasTables (state S.Store tx.old.conn.now) }
-    ensures same_reference { tx.new.conn.ghost_name ≡ tx.old.conn.ghost_name }
-    ensures makes { Attempts
+    ensures { AttemptsOver S.Store
         (Makes (with_rows account.now (with_kind bucket.now.kind bucket.now.number)))
-        (state S.Store tx.old.conn.now) (state S.Store tx.new.conn.now) result }
+        tx.old.conn tx.new.conn result }
 {
     match bucket.kind() {
         BucketKind::Money => remove_allowance(tx, account, bucket.number()),
@@ -45,10 +44,9 @@ fn put_scoped<S: Alter>(
 ) -> Result<(), Error>
     requires open { IsInside (state S.Store tx.old.conn.now) }
     requires tables { HasTables (state S.Store tx.old.conn.now) }
-    ensures same_reference { tx.new.conn.ghost_name ≡ tx.old.conn.ghost_name }
-    ensures makes { Attempts (MakesIfOpen
+    ensures { AttemptsOver S.Store (MakesIfOpen
         (with_scoped account.now bucket.now.scope bucket.now.kind bucket.now.number))
-        (state S.Store tx.old.conn.now) (state S.Store tx.new.conn.now) result }
+        tx.old.conn tx.new.conn result }
 {
     match bucket.scope() {
         None => Ok(()),
@@ -63,9 +61,8 @@ fn put_with_kind<S: Alter>(
     bucket: &Bucket,
 ) -> Result<(), Error>
     requires tables { HasTables (state S.Store tx.old.conn.now) }
-    ensures same_reference { tx.new.conn.ghost_name ≡ tx.old.conn.ghost_name }
-    ensures makes { Attempts (Makes (with_counted account.now bucket.now))
-        (state S.Store tx.old.conn.now) (state S.Store tx.new.conn.now) result }
+    ensures { AttemptsOver S.Store (Makes (with_counted account.now bucket.now))
+        tx.old.conn tx.new.conn result }
 {
     put_bucket(tx, account, bucket)?;
     put_scoped(tx, account, bucket)
@@ -82,9 +79,8 @@ pub(crate) fn put_counted<S: Alter>(
 ) -> Result<(), Error>
     requires open { IsInside (state S.Store tx.old.conn.now) }
     requires tables { HasTables (state S.Store tx.old.conn.now) }
-    ensures same_reference { tx.new.conn.ghost_name ≡ tx.old.conn.ghost_name }
-    ensures makes { Attempts (MakesIfOpen (with_all_counted account.now rows.now))
-        (state S.Store tx.old.conn.now) (state S.Store tx.new.conn.now) result }
+    ensures { AttemptsOver S.Store (MakesIfOpen (with_all_counted account.now rows.now))
+        tx.old.conn tx.new.conn result }
 {
     'rows: for row in rows {
         put_with_kind(tx, account, row)?;
@@ -100,9 +96,8 @@ fn put_counted_row<S: Alter>(
     bucket: &Bucket,
 ) -> Result<(), Error>
     requires tables { HasTables (state S.Store tx.old.conn.now) }
-    ensures same_reference { tx.new.conn.ghost_name ≡ tx.old.conn.ghost_name }
-    ensures makes { Attempts (Makes (with_counted_over account.now kept.now bucket.now))
-        (state S.Store tx.old.conn.now) (state S.Store tx.new.conn.now) result }
+    ensures { AttemptsOver S.Store (Makes (with_counted_over account.now kept.now bucket.now))
+        tx.old.conn tx.new.conn result }
 {
     if is_counted(kept, account, bucket) {
         put_bucket(tx, account, bucket)
@@ -125,10 +120,9 @@ pub(crate) fn put_counted_over<S: Alter>(
 ) -> Result<(), Error>
     requires open { IsInside (state S.Store tx.old.conn.now) }
     requires tables { HasTables (state S.Store tx.old.conn.now) }
-    ensures same_reference { tx.new.conn.ghost_name ≡ tx.old.conn.ghost_name }
-    ensures makes { Attempts
+    ensures { AttemptsOver S.Store
         (MakesIfOpen (with_all_counted_over account.now kept.now rows.now))
-        (state S.Store tx.old.conn.now) (state S.Store tx.new.conn.now) result }
+        tx.old.conn tx.new.conn result }
 {
     'rows: for row in rows {
         put_counted_row(tx, account, kept, row)?;

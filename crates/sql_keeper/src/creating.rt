@@ -2,7 +2,7 @@
 
 ghost use Rattle.std.specs.Prelude.{◌≡◌, false, IsTrue};
 ghost use Rattle.sql_tables.specs.Stages.{HasStage, IsBlank};
-ghost use Rattle.sql_tables.specs.Statements.{Attempts};
+ghost use Rattle.sql_tables.specs.Statements.{AttemptsOver};
 ghost use Rattle.sql_keeper.specs.Creates.{BuildsBook, CreatesBook};
 ghost use Rattle.sqlite.specs.Held.{state};
 ghost use Rattle.sqlite.specs.State.{HasCleanDisk};
@@ -15,9 +15,7 @@ use units::Moment;
 /// Makes the tables, and puts what is kept once.
 fn put_book<S: Alter>(tx: &mut Transaction<'_, S>, text: &str) -> Result<(), Error>
     requires stage { HasStage 0 (state S.Store tx.old.conn.now) }
-    ensures same_reference { tx.new.conn.ghost_name ≡ tx.old.conn.ghost_name }
-    ensures makes { Attempts (BuildsBook text.now)
-        (state S.Store tx.old.conn.now) (state S.Store tx.new.conn.now) result }
+    ensures { AttemptsOver S.Store (BuildsBook text.now) tx.old.conn tx.new.conn result }
 {
     create_each(tx)?;
     put_meta(tx, LATEST, text, Moment::first())?;

@@ -2,7 +2,7 @@
 
 ghost use Rattle.std.specs.Prelude.{◌≡◌, option_map};
 ghost use Rattle.reserving.specs.Sessions.{holds_in};
-ghost use Rattle.sql_tables.specs.Statements.{Attempts, HasTables, IsInside};
+ghost use Rattle.sql_tables.specs.Statements.{AttemptsOver, HasTables, IsInside};
 ghost use Rattle.sql_rows.specs.Content.{with_group_row, with_rows};
 ghost use Rattle.sql_rows.specs.Each.{with_holds};
 ghost use Rattle.sql_rows.specs.Makes.{Makes, MakesIfOpen};
@@ -71,11 +71,10 @@ fn put_columns<S: Alter>(
     row: &SessionGroup,
 ) -> Result<(), Error>
     requires tables { HasTables (state S.Store tx.old.conn.now) }
-    ensures same_reference { tx.new.conn.ghost_name ≡ tx.old.conn.ghost_name }
-    ensures makes { Attempts (Makes (with_rows account.now
+    ensures { AttemptsOver S.Store (Makes (with_rows account.now
         (with_group_row row.now.session row.now.group (columns_of (shelf_names books.now)
         row.now))))
-        (state S.Store tx.old.conn.now) (state S.Store tx.new.conn.now) result }
+        tx.old.conn tx.new.conn result }
 {
     let names = names_in(books, row);
     put_group(tx, account, &row.session, row.group, row.used, names)
@@ -89,10 +88,9 @@ fn put_number<S: Alter>(
     row: &SessionGroup,
 ) -> Result<(), Error>
     requires tables { HasTables (state S.Store tx.old.conn.now) }
-    ensures same_reference { tx.new.conn.ghost_name ≡ tx.old.conn.ghost_name }
-    ensures makes { Attempts (Makes (with_rows account.now
+    ensures { AttemptsOver S.Store (Makes (with_rows account.now
         (with_book_of row.now.session row.now.group row.now.reservation)))
-        (state S.Store tx.old.conn.now) (state S.Store tx.new.conn.now) result }
+        tx.old.conn tx.new.conn result }
 {
     match &row.reservation {
         None => remove_grant_book(tx, account, &row.session, row.group),
@@ -111,10 +109,9 @@ fn put_held<S: Alter>(
 ) -> Result<(), Error>
     requires open { IsInside (state S.Store tx.old.conn.now) }
     requires tables { HasTables (state S.Store tx.old.conn.now) }
-    ensures same_reference { tx.new.conn.ghost_name ≡ tx.old.conn.ghost_name }
-    ensures makes { Attempts (MakesIfOpen
+    ensures { AttemptsOver S.Store (MakesIfOpen
         (with_holds account.now row.now.session row.now.group (holds_in row.now.reservation)))
-        (state S.Store tx.old.conn.now) (state S.Store tx.new.conn.now) result }
+        tx.old.conn tx.new.conn result }
 {
     match &row.reservation {
         None => Ok(()),
@@ -134,9 +131,9 @@ fn put_held_group<S: Alter>(
     row: &SessionGroup,
 ) -> Result<(), Error>
     requires tables { HasTables (state S.Store tx.old.conn.now) }
-    ensures same_reference { tx.new.conn.ghost_name ≡ tx.old.conn.ghost_name }
-    ensures makes { Attempts (Makes (with_held_group account.now (shelf_names books.now) row.now))
-        (state S.Store tx.old.conn.now) (state S.Store tx.new.conn.now) result }
+    ensures { AttemptsOver S.Store
+        (Makes (with_held_group account.now (shelf_names books.now) row.now))
+        tx.old.conn tx.new.conn result }
 {
     put_columns(tx, account, books, row)?;
     put_number(tx, account, row)?;
@@ -153,10 +150,9 @@ pub(crate) fn put_groups<S: Alter>(
 ) -> Result<(), Error>
     requires open { IsInside (state S.Store tx.old.conn.now) }
     requires tables { HasTables (state S.Store tx.old.conn.now) }
-    ensures same_reference { tx.new.conn.ghost_name ≡ tx.old.conn.ghost_name }
-    ensures makes { Attempts
+    ensures { AttemptsOver S.Store
         (MakesIfOpen (with_groups account.now (shelf_names books.now) rows.now))
-        (state S.Store tx.old.conn.now) (state S.Store tx.new.conn.now) result }
+        tx.old.conn tx.new.conn result }
 {
     'rows: for row in rows {
         put_held_group(tx, account, books, row)?;
@@ -172,10 +168,9 @@ fn put_new_number<S: Alter>(
 ) -> Result<(), Error>
     requires open { IsInside (state S.Store tx.old.conn.now) }
     requires tables { HasTables (state S.Store tx.old.conn.now) }
-    ensures same_reference { tx.new.conn.ghost_name ≡ tx.old.conn.ghost_name }
-    ensures makes { Attempts (MakesIfOpen
+    ensures { AttemptsOver S.Store (MakesIfOpen
         (with_new_book account.now row.now.session row.now.group row.now.reservation))
-        (state S.Store tx.old.conn.now) (state S.Store tx.new.conn.now) result }
+        tx.old.conn tx.new.conn result }
 {
     match &row.reservation {
         None => Ok(()),
@@ -194,11 +189,10 @@ fn add_columns<S: Alter>(
     row: &SessionGroup,
 ) -> Result<(), Error>
     requires tables { HasTables (state S.Store tx.old.conn.now) }
-    ensures same_reference { tx.new.conn.ghost_name ≡ tx.old.conn.ghost_name }
-    ensures makes { Attempts (Makes (with_rows account.now
+    ensures { AttemptsOver S.Store (Makes (with_rows account.now
         (with_group_row row.now.session row.now.group (columns_of (shelf_names books.now)
         row.now))))
-        (state S.Store tx.old.conn.now) (state S.Store tx.new.conn.now) result }
+        tx.old.conn tx.new.conn result }
 {
     let names = names_in(books, row);
     add_group(tx, account, &row.session, row.group, row.used, names)
@@ -213,9 +207,9 @@ fn put_new_group<S: Alter>(
     row: &SessionGroup,
 ) -> Result<(), Error>
     requires tables { HasTables (state S.Store tx.old.conn.now) }
-    ensures same_reference { tx.new.conn.ghost_name ≡ tx.old.conn.ghost_name }
-    ensures makes { Attempts (Makes (with_new_group account.now (shelf_names books.now) row.now))
-        (state S.Store tx.old.conn.now) (state S.Store tx.new.conn.now) result }
+    ensures { AttemptsOver S.Store
+        (Makes (with_new_group account.now (shelf_names books.now) row.now))
+        tx.old.conn tx.new.conn result }
 {
     add_columns(tx, account, books, row)?;
     put_new_number(tx, account, row)?;
@@ -231,10 +225,9 @@ fn put_new_groups<S: Alter>(
 ) -> Result<(), Error>
     requires open { IsInside (state S.Store tx.old.conn.now) }
     requires tables { HasTables (state S.Store tx.old.conn.now) }
-    ensures same_reference { tx.new.conn.ghost_name ≡ tx.old.conn.ghost_name }
-    ensures makes { Attempts
+    ensures { AttemptsOver S.Store
         (MakesIfOpen (with_new_groups account.now (shelf_names books.now) rows.now))
-        (state S.Store tx.old.conn.now) (state S.Store tx.new.conn.now) result }
+        tx.old.conn tx.new.conn result }
 {
     'rows: for row in rows {
         put_new_group(tx, account, books, row)?;
@@ -251,9 +244,9 @@ fn put_kept_group<S: Alter>(
     row: &SessionGroup,
 ) -> Result<(), Error>
     requires tables { HasTables (state S.Store tx.old.conn.now) }
-    ensures same_reference { tx.new.conn.ghost_name ≡ tx.old.conn.ghost_name }
-    ensures makes { Attempts (Makes (with_kept_group account.now (shelf_names books.now) row.now))
-        (state S.Store tx.old.conn.now) (state S.Store tx.new.conn.now) result }
+    ensures { AttemptsOver S.Store
+        (Makes (with_kept_group account.now (shelf_names books.now) row.now))
+        tx.old.conn tx.new.conn result }
 {
     put_columns(tx, account, books, row)?;
     put_held(tx, account, row)
@@ -269,10 +262,9 @@ fn put_group_over<S: Alter>(
     row: &SessionGroup,
 ) -> Result<(), Error>
     requires tables { HasTables (state S.Store tx.old.conn.now) }
-    ensures same_reference { tx.new.conn.ghost_name ≡ tx.old.conn.ghost_name }
-    ensures makes { Attempts
+    ensures { AttemptsOver S.Store
         (Makes (with_group_over account.now (shelf_names books.now) seen.now row.now))
-        (state S.Store tx.old.conn.now) (state S.Store tx.new.conn.now) result }
+        tx.old.conn tx.new.conn result }
 {
     if is_kept(seen, account, row) {
         put_kept_group(tx, account, books, row)
@@ -291,10 +283,9 @@ fn put_groups_over<S: Alter>(
 ) -> Result<(), Error>
     requires open { IsInside (state S.Store tx.old.conn.now) }
     requires tables { HasTables (state S.Store tx.old.conn.now) }
-    ensures same_reference { tx.new.conn.ghost_name ≡ tx.old.conn.ghost_name }
-    ensures makes { Attempts
+    ensures { AttemptsOver S.Store
         (MakesIfOpen (with_groups_over account.now (shelf_names books.now) seen.now rows.now))
-        (state S.Store tx.old.conn.now) (state S.Store tx.new.conn.now) result }
+        tx.old.conn tx.new.conn result }
 {
     'rows: for row in rows {
         put_group_over(tx, account, books, seen, row)?;
@@ -314,11 +305,9 @@ pub(crate) fn put_groups_of<S: Alter>(
 ) -> Result<(), Error>
     requires open { IsInside (state S.Store tx.old.conn.now) }
     requires tables { HasTables (state S.Store tx.old.conn.now) }
-    ensures same_reference { tx.new.conn.ghost_name ≡ tx.old.conn.ghost_name }
-    ensures makes { Attempts
-        (MakesIfOpen
+    ensures { AttemptsOver S.Store (MakesIfOpen
         (with_groups_put account.now (shelf_names books.now) are_new seen.now rows.now))
-        (state S.Store tx.old.conn.now) (state S.Store tx.new.conn.now) result }
+        tx.old.conn tx.new.conn result }
 {
     match are_new {
         true => put_new_groups(tx, account, books, rows),

@@ -12,7 +12,8 @@ ghost use Rattle.sql_rows.specs.Ruled.{AreRuledBooks};
 ghost use Rattle.sql_rows.specs.Texts.{book_at, meta_of};
 ghost use Rattle.sql_tables.specs.Schema.{latest};
 ghost use Rattle.sql_tables.specs.Stages.{HasVersion, Migrates};
-ghost use Rattle.sql_tables.specs.Statements.{Attempts, HasTables, HasRules, IsInside, ReadsWithin};
+ghost use Rattle.sql_tables.specs.Statements.{AttemptsOver, HasTables, HasRules, IsInside};
+ghost use Rattle.sql_tables.specs.Statements.{ReadsWithin};
 ghost use Rattle.sql_keeper.specs.Finds.{IsMetaFound};
 ghost use Rattle.sql_keeper.specs.Migrates.{AreUnruledReserved, BringsToLatest, FindsAny, HasAt};
 ghost use Rattle.sql_keeper.specs.Migrates.{HasIdleAt, HasRuledRows, IsMigrated, IsNotMigrated};
@@ -39,9 +40,8 @@ use std::alloc::Global;
 fn put_numbers<S: Alter>(tx: &mut Transaction<'_, S>, rows: &[ReservedColumns]) -> Result<(), Error>
     requires open { IsInside (state S.Store tx.old.conn.now) }
     requires tables { HasTables (state S.Store tx.old.conn.now) }
-    ensures same_reference { tx.new.conn.ghost_name ≡ tx.old.conn.ghost_name }
-    ensures makes { Attempts (MakesIfOpen (with_first_books rows.now))
-        (state S.Store tx.old.conn.now) (state S.Store tx.new.conn.now) result }
+    ensures { AttemptsOver S.Store (MakesIfOpen (with_first_books rows.now))
+        tx.old.conn tx.new.conn result }
 {
     'rows: for row in rows {
         put_grant_book(tx, &row.account, &row.session, row.group, 1)?;
@@ -54,9 +54,8 @@ fn put_first_numbers<S: Alter>(tx: &mut Transaction<'_, S>, alloc: Global) -> Re
     requires open { IsInside (state S.Store tx.old.conn.now) }
     requires tables { HasTables (state S.Store tx.old.conn.now) }
     requires rules { HasRules (state S.Store tx.old.conn.now) }
-    ensures same_reference { tx.new.conn.ghost_name ≡ tx.old.conn.ghost_name }
-    ensures makes { Attempts (MakesIfOpen (with_granted 1))
-        (state S.Store tx.old.conn.now) (state S.Store tx.new.conn.now) result }
+    ensures over { AttemptsOver S.Store (MakesIfOpen (with_granted 1))
+        tx.old.conn tx.new.conn result }
     ensures refused { HasCleanDisk (state S.Store tx.new.conn.now) →
         IfErr result (AreUnruledReserved 1 (state S.Store tx.old.conn.now).now.trees) }
 {
@@ -82,9 +81,8 @@ fn put_all_numbers<S: Alter>(
     requires open { IsInside (state S.Store tx.old.conn.now) }
     requires tables { HasTables (state S.Store tx.old.conn.now) }
     requires rules { HasRules (state S.Store tx.old.conn.now) }
-    ensures same_reference { tx.new.conn.ghost_name ≡ tx.old.conn.ghost_name }
-    ensures makes { Attempts (MakesIfOpen (with_granted version))
-        (state S.Store tx.old.conn.now) (state S.Store tx.new.conn.now) result }
+    ensures over { AttemptsOver S.Store (MakesIfOpen (with_granted version))
+        tx.old.conn tx.new.conn result }
     ensures refused { HasCleanDisk (state S.Store tx.new.conn.now) →
         IfErr result (AreUnruledReserved version (state S.Store tx.old.conn.now).now.trees) }
 {
@@ -101,9 +99,7 @@ pub(crate) fn make_later<S: Alter>(
 ) -> Result<(), OpenFault>
     requires known { (1 ≤ version) × (version < latest) }
     requires has { HasVersion version (state S.Store tx.old.conn.now) }
-    ensures same_reference { tx.new.conn.ghost_name ≡ tx.old.conn.ghost_name }
-    ensures makes { Attempts (Migrates version) (state S.Store tx.old.conn.now)
-        (state S.Store tx.new.conn.now) result }
+    ensures over { AttemptsOver S.Store (Migrates version) tx.old.conn tx.new.conn result }
     ensures store { IfErr result
         (λ fault. (fault ≡ OpenFault.Store) ⊎ (fault ≡ OpenFault.Memory)) }
 {
@@ -160,11 +156,10 @@ fn put_latest<S: Alter>(
     requires open { IsInside (state S.Store tx.old.conn.now) }
     requires tables { HasTables (state S.Store tx.old.conn.now) }
     requires rules { HasRules (state S.Store tx.old.conn.now) }
-    ensures same_reference { tx.new.conn.ghost_name ≡ tx.old.conn.ghost_name }
-    ensures makes { Attempts
+    ensures over { AttemptsOver S.Store
         (Makes (λ c. with_meta (record (meta_of meta.now) { version = latest })
         (with_granted version c)))
-        (state S.Store tx.old.conn.now) (state S.Store tx.new.conn.now) result }
+        tx.old.conn tx.new.conn result }
     ensures refused { HasCleanDisk (state S.Store tx.new.conn.now) →
         IfErr result (AreUnruledReserved version (state S.Store tx.old.conn.now).now.trees) }
 {

@@ -3,7 +3,7 @@
 ghost use Rattle.std.specs.Prelude.{◌≡◌, map};
 ghost use Rattle.sql_rows.specs.Content.{tables_content};
 ghost use Rattle.sql_rows.specs.Makes.{Makes, MakesIfOpen};
-ghost use Rattle.sql_tables.specs.Statements.{Attempts, HasTables, IsInside};
+ghost use Rattle.sql_tables.specs.Statements.{AttemptsOver, HasTables, IsInside};
 ghost use Rattle.sql_keeper.specs.Covered.{blocks_of, covered_charge};
 ghost use Rattle.sql_keeper.specs.Numbers.{LacksCharge, LacksCharges, WasSo};
 ghost use Rattle.sql_keeper.specs.Writes.{some_blocks, with_all_charged};
@@ -35,9 +35,8 @@ fn put_new_blocks<S: Alter>(
 ) -> Result<(), Error>
     requires open { IsInside (state S.Store tx.old.conn.now) }
     requires tables { HasTables (state S.Store tx.old.conn.now) }
-    ensures same_reference { tx.new.conn.ghost_name ≡ tx.old.conn.ghost_name }
-    ensures makes { Attempts (MakesIfOpen (with_new_blocks account.now number blocks))
-        (state S.Store tx.old.conn.now) (state S.Store tx.new.conn.now) result }
+    ensures { AttemptsOver S.Store (MakesIfOpen (with_new_blocks account.now number blocks))
+        tx.old.conn tx.new.conn result }
 {
     match blocks {
         None => Ok(()),
@@ -64,9 +63,8 @@ fn put_charged<S: Alter>(
     charge: &ChargeRow,
 ) -> Result<(), Error>
     requires tables { HasTables (state S.Store tx.old.conn.now) }
-    ensures same_reference { tx.new.conn.ghost_name ≡ tx.old.conn.ghost_name }
-    ensures makes { Attempts (Makes (with_charged account.now charge.now))
-        (state S.Store tx.old.conn.now) (state S.Store tx.new.conn.now) result }
+    ensures over { AttemptsOver S.Store (Makes (with_charged account.now charge.now))
+        tx.old.conn tx.new.conn result }
     ensures free { WasSo (λ trees. LacksCharge account.now (tables_content trees) charge.now)
         (state S.Store tx.old.conn.now) (state S.Store tx.new.conn.now) result }
 {
@@ -90,9 +88,8 @@ pub(crate) fn put_paid<S: Alter>(
 ) -> Result<(), Error>
     requires open { IsInside (state S.Store tx.old.conn.now) }
     requires tables { HasTables (state S.Store tx.old.conn.now) }
-    ensures same_reference { tx.new.conn.ghost_name ≡ tx.old.conn.ghost_name }
-    ensures makes { Attempts (MakesIfOpen (with_all_charged account.now rows.now))
-        (state S.Store tx.old.conn.now) (state S.Store tx.new.conn.now) result }
+    ensures over { AttemptsOver S.Store (MakesIfOpen (with_all_charged account.now rows.now))
+        tx.old.conn tx.new.conn result }
     ensures free { WasSo (λ trees. LacksCharges account.now (tables_content trees) rows.now)
         (state S.Store tx.old.conn.now) (state S.Store tx.new.conn.now) result }
 {

@@ -2,8 +2,7 @@
 
 ghost use Rattle.std.specs.Prelude.{◌≡◌, option_map};
 ghost use Rattle.commands.specs.Keys.{key_of};
-ghost use Rattle.sql_tables.specs.Statements.{Attempts, AttemptsOver, HasTables, HasRules};
-ghost use Rattle.sql_tables.specs.Statements.{IsInside};
+ghost use Rattle.sql_tables.specs.Statements.{AttemptsOver, HasTables, HasRules, IsInside};
 ghost use Rattle.sql_rows.specs.Content.{tables_content};
 ghost use Rattle.sql_rows.specs.Each.{with_sessions};
 ghost use Rattle.sql_rows.specs.Makes.{Makes, MakesIfOpen};
@@ -79,9 +78,8 @@ fn put_named_money<S: Alter>(
     rows: &NamedRows,
 ) -> Result<(), Error>
     requires tables { HasTables (state S.Store tx.old.conn.now) }
-    ensures same_reference { tx.new.conn.ghost_name ≡ tx.old.conn.ghost_name }
-    ensures makes { Attempts (Makes (with_money account.now kept.now rows.now))
-        (state S.Store tx.old.conn.now) (state S.Store tx.new.conn.now) result }
+    ensures { AttemptsOver S.Store (Makes (with_money account.now kept.now rows.now))
+        tx.old.conn tx.new.conn result }
 {
     let head = head_named(rows);
     put_account(tx, account, &head)?;
@@ -116,10 +114,9 @@ fn put_named<S: Alter>(
     rows: &NamedRows,
 ) -> Result<(), Error>
     requires tables { HasTables (state S.Store tx.old.conn.now) }
-    ensures same_reference { tx.new.conn.ghost_name ≡ tx.old.conn.ghost_name }
-    ensures makes { Attempts
+    ensures { AttemptsOver S.Store
         (Makes (with_named account.now (shelf_names books.now) known.now rows.now))
-        (state S.Store tx.old.conn.now) (state S.Store tx.new.conn.now) result }
+        tx.old.conn tx.new.conn result }
 {
     put_named_money(tx, account, known.kept, rows)?;
     put_sessions_of(tx, account, known.are_new, rows.sessions())?;
@@ -134,10 +131,9 @@ fn put_texts<S: Alter>(
     texts: &KeptTexts,
 ) -> Result<(), Error>
     requires tables { HasTables (state S.Store tx.old.conn.now) }
-    ensures same_reference { tx.new.conn.ghost_name ≡ tx.old.conn.ghost_name }
-    ensures makes { Attempts
+    ensures { AttemptsOver S.Store
         (Makes (with_texts account.now (key_of content.now) (kept_of texts.now)))
-        (state S.Store tx.old.conn.now) (state S.Store tx.new.conn.now) result }
+        tx.old.conn tx.new.conn result }
 {
     match content.key() {
         KeyRef::Request { session, number } => {
@@ -156,10 +152,9 @@ fn put_kept<S: Alter>(
 ) -> Result<(), Error>
     requires open { IsInside (state S.Store tx.old.conn.now) }
     requires tables { HasTables (state S.Store tx.old.conn.now) }
-    ensures same_reference { tx.new.conn.ghost_name ≡ tx.old.conn.ghost_name }
-    ensures makes { Attempts (MakesIfOpen
+    ensures { AttemptsOver S.Store (MakesIfOpen
         (with_kept account.now kept.now (option_map kept_of texts.now)))
-        (state S.Store tx.old.conn.now) (state S.Store tx.new.conn.now) result }
+        tx.old.conn tx.new.conn result }
 {
     match kept {
         None => Ok(()),
@@ -178,10 +173,9 @@ fn put_rows<S: Alter>(
     change: &Change,
 ) -> Result<(), Error>
     requires tables { HasTables (state S.Store tx.old.conn.now) }
-    ensures same_reference { tx.new.conn.ghost_name ≡ tx.old.conn.ghost_name }
-    ensures makes { Attempts
+    ensures over { AttemptsOver S.Store
         (Makes (with_changed_rows (shelf_names books.now) known.now change.now))
-        (state S.Store tx.old.conn.now) (state S.Store tx.new.conn.now) result }
+        tx.old.conn tx.new.conn result }
     ensures free { WasSo (λ trees. LacksCharges change.now.number
         (with_named change.now.number (shelf_names books.now) known.now change.now.rows
         (tables_content trees)) change.now.charges.items)
@@ -203,9 +197,8 @@ pub(crate) fn put_moment<S: Alter>(
     requires open { IsInside (state S.Store tx.old.conn.now) }
     requires tables { HasTables (state S.Store tx.old.conn.now) }
     requires rules { HasRules (state S.Store tx.old.conn.now) }
-    ensures same_reference { tx.new.conn.ghost_name ≡ tx.old.conn.ghost_name }
-    ensures makes { Attempts (MakesIfOpen (with_moment_put is_there moment))
-        (state S.Store tx.old.conn.now) (state S.Store tx.new.conn.now) result }
+    ensures { AttemptsOver S.Store (MakesIfOpen (with_moment_put is_there moment))
+        tx.old.conn tx.new.conn result }
 {
     if is_there {
         return Ok(());
@@ -231,11 +224,10 @@ pub(crate) fn put_change<S: Alter>(
     requires open { IsInside (state S.Store tx.old.conn.now) }
     requires tables { HasTables (state S.Store tx.old.conn.now) }
     requires rules { HasRules (state S.Store tx.old.conn.now) }
-    ensures same_reference { tx.new.conn.ghost_name ≡ tx.old.conn.ghost_name }
-    ensures makes { Attempts (Makes
+    ensures over { AttemptsOver S.Store (Makes
         (with_change_put (shelf_names books.now) known.now change.now
         (option_map kept_of texts.now)))
-        (state S.Store tx.old.conn.now) (state S.Store tx.new.conn.now) result }
+        tx.old.conn tx.new.conn result }
     ensures free { WasSo (λ trees.
         LacksThen (shelf_names books.now) known.now change.now (tables_content trees))
         (state S.Store tx.old.conn.now) (state S.Store tx.new.conn.now) result }

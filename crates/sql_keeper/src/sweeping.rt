@@ -4,7 +4,7 @@ ghost use Rattle.std.specs.Prelude.{◌≡◌, false, true, IfOk, OnOk};
 ghost use Rattle.sql_rows.specs.Content.{tables_content};
 ghost use Rattle.sql_rows.specs.Makes.{Makes};
 ghost use Rattle.sql_rules.specs.Columns.{is_moment};
-ghost use Rattle.sql_tables.specs.Statements.{Attempts, HasTables, HasIdleTables, HasRules};
+ghost use Rattle.sql_tables.specs.Statements.{AttemptsOver, HasTables, HasIdleTables, HasRules};
 ghost use Rattle.sql_tables.specs.Statements.{IsInside};
 ghost use Rattle.sql_keeper.specs.Content.{shelf_names};
 ghost use Rattle.sql_keeper.specs.Commits.{CommitsStanding, CommitsWhole};
@@ -42,9 +42,8 @@ fn put_swept<S: Alter>(
 ) -> Result<(), Error>
     requires open { IsInside (state S.Store tx.old.conn.now) }
     requires tables { HasTables (state S.Store tx.old.conn.now) }
-    ensures same_reference { tx.new.conn.ghost_name ≡ tx.old.conn.ghost_name }
-    ensures makes { Attempts (Makes (with_swept (shelf_names names.now) account.now))
-        (state S.Store tx.old.conn.now) (state S.Store tx.new.conn.now) result }
+    ensures over { AttemptsOver S.Store (Makes (with_swept (shelf_names names.now) account.now))
+        tx.old.conn tx.new.conn result }
     ensures rules { OnOk result (HasRules (state S.Store tx.new.conn.now)) }
 {
     put_counted(tx, &account.number, account.rows.buckets())?;
@@ -69,10 +68,9 @@ fn sweep_account<S: Alter>(
     requires open { IsInside (state S.Store tx.old.conn.now) }
     requires tables { HasTables (state S.Store tx.old.conn.now) }
     requires rules { HasRules (state S.Store tx.old.conn.now) }
-    ensures same_reference { tx.new.conn.ghost_name ≡ tx.old.conn.ghost_name }
-    ensures sweeps { Attempts
+    ensures sweeps { AttemptsOver S.Store
         (SweepsOne (shelf_names names.now) shelf.now moment account.now)
-        (state S.Store tx.old.conn.now) (state S.Store tx.new.conn.now) result }
+        tx.old.conn tx.new.conn result }
     ensures rules { OnOk result (HasRules (state S.Store tx.new.conn.now)) }
 {
     let rows = read_uncounted_within(tx, alloc, account, names)?;
@@ -96,9 +94,9 @@ fn sweep_each<S: Alter>(
     moment: Moment,
 ) -> Result<u64, ReadFault>
     requires tables { HasTables (state S.Store tx.old.conn.now) }
-    ensures same_reference { tx.new.conn.ghost_name ≡ tx.old.conn.ghost_name }
-    ensures makes { Attempts (MakesSweep (shelf_names names.now) text.now shelf.now moment)
-        (state S.Store tx.old.conn.now) (state S.Store tx.new.conn.now) result }
+    ensures over { AttemptsOver S.Store
+        (MakesSweep (shelf_names names.now) text.now shelf.now moment)
+        tx.old.conn tx.new.conn result }
     ensures count { HasCleanDisk (state S.Store tx.new.conn.now) →
         IfOk result (λ n. n ≡ (tables_content (state S.Store tx.old.conn.now).now.trees).count) }
 {

@@ -1,7 +1,6 @@
 //! Vouchers, put under their codes.
 
-ghost use Rattle.std.specs.Prelude.{◌≡◌};
-ghost use Rattle.sql_tables.specs.Statements.{Attempts, HasTables, IsInside};
+ghost use Rattle.sql_tables.specs.Statements.{AttemptsOver, HasTables, IsInside};
 ghost use Rattle.sql_keeper.specs.Writes.{voucher_row, with_redeemed};
 ghost use Rattle.sql_rows.specs.Content.{with_voucher_row};
 ghost use Rattle.sql_rows.specs.Makes.{Makes, MakesIfOpen};
@@ -19,9 +18,8 @@ pub(crate) fn put_voucher<S: Alter>(
     voucher: &Voucher,
 ) -> Result<(), Error>
     requires tables { HasTables (state S.Store tx.old.conn.now) }
-    ensures same_reference { tx.new.conn.ghost_name ≡ tx.old.conn.ghost_name }
-    ensures makes { Attempts (Makes (with_voucher_row code.now (voucher_row voucher.now)))
-        (state S.Store tx.old.conn.now) (state S.Store tx.new.conn.now) result }
+    ensures { AttemptsOver S.Store (Makes (with_voucher_row code.now (voucher_row voucher.now)))
+        tx.old.conn tx.new.conn result }
 {
     let code = code.as_str();
     let terms = voucher.terms;
@@ -37,9 +35,8 @@ pub(crate) fn put_redeemed<S: Alter>(
 ) -> Result<(), Error>
     requires open { IsInside (state S.Store tx.old.conn.now) }
     requires tables { HasTables (state S.Store tx.old.conn.now) }
-    ensures same_reference { tx.new.conn.ghost_name ≡ tx.old.conn.ghost_name }
-    ensures makes { Attempts (MakesIfOpen (with_redeemed redeemed.now))
-        (state S.Store tx.old.conn.now) (state S.Store tx.new.conn.now) result }
+    ensures { AttemptsOver S.Store (MakesIfOpen (with_redeemed redeemed.now))
+        tx.old.conn tx.new.conn result }
 {
     match redeemed {
         None => Ok(()),

@@ -2,8 +2,9 @@
 use Rattle.std.proofs.Common.{◌≡◌, ◌∙◌, ◌&&◌, ℕ, Bool, true, false, List, [], ◌∷◌, Option, Some}
 use Rattle.std.proofs.Common.{None}
 use Rattle.std.proofs.Common.{refl, sym, subst, ap, map, nat_eq, arith, ◌<◌, ◌≤◌}
-use Rattle.std.proofs.Common.{Ok, Err, Result}
+use Rattle.std.proofs.Common.{Ok, Result}
 use Rattle.std.specs.Prelude.{IfErr, Vec}
+use Rattle.std.specs.Borrow.{MutBor}
 use Rattle.std.specs.Global.{Global}
 use Rattle.std.proofs.lemmas.Bool.{le-leb}
 use Rattle.std.specs.Prelude.{cond, if◌then◌else◌, is_some}
@@ -11,11 +12,14 @@ use Rattle.std.specs.List.{find}
 use Rattle.identifiers.specs.Texts.{same_name}
 use Rattle.sqlite_trees.specs.Objects.{catalog_tree}
 use Rattle.sqlite_trees.specs.Tree.{Trees}
+use Rattle.sqlite_trees.specs.declared.store.Store.{Ghosts}
 use Rattle.sqlite.specs.Effect.{Database}
-use Rattle.sqlite.specs.State.{State, HasCleanDisk, IsUnchanged, KeepsCommit}
+use Rattle.sqlite.specs.Held.{Held}
+use Rattle.sqlite.specs.State.{State, HasCleanDisk, IsUnchanged}
 use Rattle.sqlite.proofs.StateLemmas.{survives_then}
 use Rattle.sql_tables.specs.Schema.{latest}
-use Rattle.sql_tables.specs.Statements.{AreStored, Attempts, HasTables, IsInside, ReadsWithin}
+use Rattle.sql_tables.specs.Statements.{AreStored, Attempts, AttemptsOver, HasTables, IsInside}
+use Rattle.sql_tables.specs.Statements.{ReadsWithin}
 use Rattle.sql_rows.specs.Makes.{Makes, MakesIfOpen}
 use Rattle.sql_tables.specs.declared.reading.ReadFault.{ReadFault}
 use Rattle.sql_rows.specs.Content.{TablesContent, TableRows, tables_content, with_grant_book}
@@ -29,7 +33,6 @@ use Rattle.sql_rows.specs.declared.reserved_rows.ReservedColumns.{ReservedColumn
 use Rattle.sql_keeper.specs.Content.{is_reserved}
 use Rattle.sql_keeper.specs.Migrates.{AreUnruledReserved, granted_in, with_first_books}
 use Rattle.sql_keeper.specs.Migrates.{with_granted}
-use Rattle.sql_keeper.proofs.puts.Puts.{made_then}
 use Rattle.sql_keeper.proofs.commits.Whole.{survives_self}
 
 -- whether a list has the reservation of this key
@@ -120,12 +123,13 @@ grants_none v s u low inside book = record {
 }
 
 -- a version that has none is the first
-pub grants_at : {A E : Type 0} (v : ℕ) → 1 ≤ v → v < 2 → (old new : State) (r : Result A E)
-    → Attempts {A = A} {E = E} (MakesIfOpen (with_granted 1)) old new r
-    → Attempts {A = A} {E = E} (MakesIfOpen (with_granted v)) old new r
-grants_at {A} {E} v low high old new r =
+pub grants_at : {A E S : Type 0} {g : Ghosts S} (v : ℕ) → 1 ≤ v → v < 2
+    → {old new : MutBor (Held S)} {r : Result A E}
+    → AttemptsOver {A = A} {E = E} g (MakesIfOpen (with_granted 1)) old new r
+    → AttemptsOver {A = A} {E = E} g (MakesIfOpen (with_granted v)) old new r
+grants_at {A} {E} {g = g} v low high {old} {new} {r} =
     let is : 1 ≡ v = omega (arith, low, high) in
-    subst (λ n. Attempts {A = A} {E = E} (MakesIfOpen (with_granted n)) old new r) is
+    subst (λ n. AttemptsOver {A = A} {E = E} g (MakesIfOpen (with_granted n)) old new r) is
 
 pub unruled_at : {A : Type 0} (v : ℕ) → 1 ≤ v → v < 2 → (old new : State)
     (r : Result A ReadFault)
@@ -182,24 +186,6 @@ module _ (xs : List ReservedColumns) (old mid new : State) where
         (λ clean db no. no) reads.still.survives puts.survives;
   }
 
-  pub not_grants : {W A B E F G : Type 0} (told : Trees → W → Type 0) (w : W) (e : F) (f : G)
-      → ReadsWithin {A = W} {E = E} told old mid (Ok w)
-      → Attempts {A = A} {E = F} (MakesIfOpen (with_first_books xs)) mid new (Err e)
-      → Attempts {A = B} {E = G} (MakesIfOpen (with_granted 1)) old new (Err f)
-  not_grants told w e f reads puts = record {
-    done = λ clean. tt;
-    kept = λ clean.
-        let was : HasCleanDisk mid = omega (arith, puts.survives.clean, clean) in
-        let same = reads.still.done was in
-        let kept = puts.kept clean in
-        record {
-          was_open = λ on. same.0.was_open;
-          committed = λ on. kept.committed on ∙ same.0.committed_is;
-        };
-    survives = survives_then old mid new (λ _. ⊥) (λ _. ⊥) (λ _. ⊥) (λ clean db no. no)
-        (λ clean db no. no) reads.still.survives puts.survives;
-  }
-
 -- of the rows as they were read
 pub grants_rows : {A B E F G : Type 0} (xs : List ReservedColumns) (old mid new : State)
     (w : Vec ReservedColumns Global) (u : A) (v : B) → xs ≡ w.items
@@ -231,43 +217,6 @@ pub still_inside : {A E : Type 0} (old mid : State) (u : A) → IsInside old
 still_inside old mid u inside still clean on =
     let same = still.done clean in
     same.0.mode ∙ inside (omega (arith, still.survives.clean, clean)) same.0.was_open
-
--- ---- those of a list, then one statement
-
-module _ (f g : TablesContent → TablesContent) (a b c : State) where
-  kept_all_then : MakesIfOpen f a b → KeepsCommit b c → KeepsCommit a c
-  kept_all_then one two = record {
-    was_open = λ on. one.was_open (two.was_open on);
-    committed = λ on.
-        let was = two.was_open on in
-        two.committed on ∙ (one.made (one.was_open was)).shows.committed_is;
-  }
-
-  pub all_makes_then : {A B D E F G : Type 0} (u : A) (v : B) (w : D)
-      → Attempts {A = A} {E = E} (MakesIfOpen f) a b (Ok u)
-      → Attempts {A = B} {E = F} (Makes g) b c (Ok v)
-      → Attempts {A = D} {E = G} (Makes (λ x. g (f x))) a c (Ok w)
-  all_makes_then u v w one two = record {
-    done = λ clean.
-        let m = two.done clean in
-        let all = one.done (omega (arith, two.survives.clean, clean)) in
-        made_then f g a b c (all.made (all.was_open m.shows.was_open)) m;
-    kept = λ clean. tt;
-    survives = survives_then a b c (λ _. ⊥) (λ _. ⊥) (λ _. ⊥) (λ clean db no. no)
-        (λ clean db no. no) one.survives two.survives;
-  }
-
-  pub all_not_then : {A B D E F G : Type 0} (u : A) (e : F) (h : G)
-      → Attempts {A = A} {E = E} (MakesIfOpen f) a b (Ok u)
-      → Attempts {A = B} {E = F} (Makes g) b c (Err e)
-      → Attempts {A = D} {E = G} (Makes (λ x. g (f x))) a c (Err h)
-  all_not_then u e h one two = record {
-    done = λ clean. tt;
-    kept = λ clean. kept_all_then (one.done (omega (arith, two.survives.clean, clean)))
-        (two.kept clean);
-    survives = survives_then a b c (λ _. ⊥) (λ _. ⊥) (λ _. ⊥) (λ clean db no. no)
-        (λ clean db no. no) one.survives two.survives;
-  }
 
 -- the text that is put is that of the row
 pub puts_meta : {A E : Type 0} (m : Meta) (text : List ℕ) → text ≡ m.book → (old new : State)

@@ -2,10 +2,12 @@
 use Rattle.std.proofs.Common.{◌≡◌, ℕ, Bool, true, false, cond, List, [], ◌∷◌, refl, sym, ap, subst}
 use Rattle.std.proofs.Common.{◌∙◌, Option, Some, None, Result}
 use Rattle.std.specs.Prelude.{if◌then◌else◌, ◌&&◌, ◌==◌, nat_eq, option_map}
+use Rattle.std.specs.Borrow.{MutBor}
 use Rattle.std.proofs.lemmas.Bool.{and_parts}
-use Rattle.sqlite.specs.State.{State}
+use Rattle.sqlite.specs.Held.{Held}
 use Rattle.sqlite_trees.specs.Tree.{Trees}
-use Rattle.sql_tables.specs.Statements.{Attempts}
+use Rattle.sqlite_trees.specs.declared.store.Store.{Ghosts}
+use Rattle.sql_tables.specs.Statements.{AttemptsOver}
 use Rattle.identifiers.specs.Texts.{same_name}
 use Rattle.buckets.specs.Holding.{AreHolds}
 use Rattle.buckets.specs.declared.holds.HeldAmount.{HeldAmount}
@@ -37,24 +39,23 @@ use Rattle.sql_keeper.proofs.puts.Groups.{amount_at, amount_in, book_over, book_
 use Rattle.sql_keeper.proofs.puts.Groups.{group_put, holds_over, may_hold, over_groups, over_holds}
 use Rattle.sql_keeper.proofs.puts.Overlays.{each, each_over, name_from, number_from, number_itself}
 use Rattle.sql_keeper.proofs.puts.Overlays.{opened_same, with_opened, with_twice}
+use Rattle.sql_keeper.proofs.puts.Puts.{made_as}
 use Rattle.sql_keeper.proofs.kept.SeenRows.{name_is, told_grant}
 
 -- ---- how one is put
 
-module _ {B E : Type 0} (a : List ℕ) (names : Names) (seen : Option SeenAccount)
-    (r : SessionGroup) (old new : State) (z : Result B E) where
+module _ {B E S : Type 0} {g : Ghosts S} (a : List ℕ) (names : Names) (seen : Option SeenAccount)
+    (r : SessionGroup) {old new : MutBor (Held S)} {z : Result B E} where
   pub over_kept : is_kept seen a r ≡ true
-      → Attempts {A = B} {E = E} (Makes (with_kept_group a names r)) old new z
-      → Attempts {A = B} {E = E} (Makes (with_group_over a names seen r)) old new z
-  over_kept e =
-      subst (λ (f : TablesContent → TablesContent). Attempts {A = B} {E = E} (Makes f) old new z)
+      → AttemptsOver {A = B} {E = E} g (Makes (with_kept_group a names r)) old new z
+      → AttemptsOver {A = B} {E = E} g (Makes (with_group_over a names seen r)) old new z
+  over_kept e = made_as
       (λ i c. if sym e i then with_kept_group a names r c else with_held_group a names r c)
 
   pub over_held : is_kept seen a r ≡ false
-      → Attempts {A = B} {E = E} (Makes (with_held_group a names r)) old new z
-      → Attempts {A = B} {E = E} (Makes (with_group_over a names seen r)) old new z
-  over_held e =
-      subst (λ (f : TablesContent → TablesContent). Attempts {A = B} {E = E} (Makes f) old new z)
+      → AttemptsOver {A = B} {E = E} g (Makes (with_held_group a names r)) old new z
+      → AttemptsOver {A = B} {E = E} g (Makes (with_group_over a names seen r)) old new z
+  over_held e = made_as
       (λ i c. if sym e i then with_kept_group a names r c else with_held_group a names r c)
 
 -- ---- what is put, some of it over what stays

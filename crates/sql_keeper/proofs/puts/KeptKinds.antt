@@ -2,10 +2,12 @@
 use Rattle.std.proofs.Common.{◌≡◌, ℕ, Bool, true, false, List, [], ◌∷◌, refl, sym, ap, subst}
 use Rattle.std.proofs.Common.{◌∙◌, Option, Some, None, Result}
 use Rattle.std.specs.Prelude.{if◌then◌else◌, ◌&&◌, nat_eq, not, option_map, is_some}
+use Rattle.std.specs.Borrow.{MutBor}
 use Rattle.std.proofs.lemmas.Bool.{and_parts}
-use Rattle.sqlite.specs.State.{State}
+use Rattle.sqlite.specs.Held.{Held}
 use Rattle.sqlite_trees.specs.Tree.{Trees}
-use Rattle.sql_tables.specs.Statements.{Attempts}
+use Rattle.sqlite_trees.specs.declared.store.Store.{Ghosts}
+use Rattle.sql_tables.specs.Statements.{AttemptsOver}
 use Rattle.identifiers.specs.Texts.{same_name}
 use Rattle.buckets.specs.Kinds.{is_alike}
 use Rattle.buckets.specs.Row.{BucketRow}
@@ -33,23 +35,22 @@ use Rattle.sql_keeper.proofs.puts.CountedPuts.{counted_in, counted_over, counted
 use Rattle.sql_keeper.proofs.puts.CountedPuts.{counts_in, counts_scoped, over_counted, told_over}
 use Rattle.sql_keeper.proofs.puts.Overlays.{each, each_over, name_from, number_from, opened_same}
 use Rattle.sql_keeper.proofs.puts.Overlays.{with_opened}
+use Rattle.sql_keeper.proofs.puts.Puts.{made_as}
 
 -- ---- how one is put
 
-module _ {B E : Type 0} (a : List ℕ) (kept : Option KeptRows) (b : BucketRow) (old new : State)
-    (z : Result B E) where
+module _ {B E S : Type 0} {g : Ghosts S} (a : List ℕ) (kept : Option KeptRows) (b : BucketRow)
+    {old new : MutBor (Held S)} {z : Result B E} where
   pub over_known : is_counted kept a b ≡ true
-      → Attempts {A = B} {E = E} (Makes (with_rows a (with_bucket (plain_bucket b)))) old new z
-      → Attempts {A = B} {E = E} (Makes (with_counted_over a kept b)) old new z
-  over_known e =
-      subst (λ (f : TablesContent → TablesContent). Attempts {A = B} {E = E} (Makes f) old new z)
+      → AttemptsOver {A = B} {E = E} g (Makes (with_rows a (with_bucket (plain_bucket b)))) old new z
+      → AttemptsOver {A = B} {E = E} g (Makes (with_counted_over a kept b)) old new z
+  over_known e = made_as
       (λ i c. if sym e i then with_rows a (with_bucket (plain_bucket b)) c else with_counted a b c)
 
   pub over_unknown : is_counted kept a b ≡ false
-      → Attempts {A = B} {E = E} (Makes (with_counted a b)) old new z
-      → Attempts {A = B} {E = E} (Makes (with_counted_over a kept b)) old new z
-  over_unknown e =
-      subst (λ (f : TablesContent → TablesContent). Attempts {A = B} {E = E} (Makes f) old new z)
+      → AttemptsOver {A = B} {E = E} g (Makes (with_counted a b)) old new z
+      → AttemptsOver {A = B} {E = E} g (Makes (with_counted_over a kept b)) old new z
+  over_unknown e = made_as
       (λ i c. if sym e i then with_rows a (with_bucket (plain_bucket b)) c else with_counted a b c)
 
 -- ---- what is put, some of it over what stays

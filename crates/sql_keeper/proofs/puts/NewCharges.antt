@@ -3,11 +3,14 @@ use Rattle.std.proofs.Common.{◌≡◌, ◌<◌, ◌≤◌, ◌+◌, ℕ, Bool,
 use Rattle.std.proofs.Common.{refl, sym, ap, ◌∙◌, arith, Option, Some, None, Ok, Err, Result, subst}
 use Rattle.std.proofs.Common.{nat_eq, take, get_or, length}
 use Rattle.std.specs.Prelude.{if◌then◌else◌, ◌==◌, is_some}
+use Rattle.std.specs.Borrow.{MutBor}
 use Rattle.std.proofs.lemmas.Bool.{not-true}
 use Rattle.std.proofs.lemmas.List.{take_more, take_all}
 use Rattle.std.proofs.lemmas.Result.{on_ok_weaker}
+use Rattle.sqlite.specs.Held.{Held, state}
 use Rattle.sqlite.specs.State.{State, HasCleanDisk, Survives}
-use Rattle.sql_tables.specs.Statements.{Attempts}
+use Rattle.sqlite_trees.specs.declared.store.Store.{Ghosts}
+use Rattle.sql_tables.specs.Statements.{Attempts, AttemptsOver}
 use Rattle.sql_tables.proofs.Keeps.{on_ok}
 use Rattle.identifiers.specs.Texts.{same_name}
 use Rattle.ledger.specs.declared.charge.ChargeRow.{ChargeRow}
@@ -58,38 +61,46 @@ module _ (a : List ℕ) (x : ChargeRow) where
       ap (λ t. blocks (if t then c else charge c)) e
       ∙ sym (ap (λ t. if t then with_paid a x c else blocks (charge c)) e)
 
-  module _ {B E : Type 0} (p q r : State) (added : Bool) (z : Result B E)
-      (adds : AddsIfNone {E = E} stands charge p q (Ok added)) where
-    charged_blocks : added ≡ true
-        → Attempts {A = B} {E = E} (MakesIfOpen blocks) q r z
-        → Attempts {A = B} {E = E} (Makes (with_charged a x)) p r z
-    charged_blocks new two =
-        let both = makes_all_then (λ c. if stands c then c else charge c) blocks p q r added z
-        adds.makes two in
+  module _ {B E S : Type 0} {g : Ghosts S} {p q r : MutBor (Held S)} {added : Bool}
+      {z : Result B E} (adds : AddsIfNone {E = E} stands charge (state g p.now) (state g q.now)
+      (Ok added)) where
+    charged_blocks : q.ghost_name ≡ p.ghost_name → added ≡ true
+        → AttemptsOver {A = B} {E = E} g (MakesIfOpen blocks) q r z
+        → AttemptsOver {A = B} {E = E} g (Makes (with_charged a x)) p r z
+    charged_blocks same new two =
+        let one : AttemptsOver {A = Bool} {E = E} g (Makes (λ c. if stands c then c else charge c))
+        p q (Ok added) = record { same_reference = same; makes = adds.makes } in
+        let both = makes_all_then one two in
         record {
-          done = λ clean. on_ok_weaker z
-              (made_same (λ c. blocks (if stands c then c else charge c)) (with_charged a x) p r
-              (new_is (tables_content p.now.trees) (not-true _
-              (sym (adds.told (omega (arith, two.survives.clean, clean))) ∙ new))))
-              (both.done clean);
-          kept = both.kept;
-          survives = both.survives;
+          same_reference = both.same_reference;
+          makes = record {
+            done = λ clean. on_ok_weaker z
+                (made_same (λ c. blocks (if stands c then c else charge c)) (with_charged a x)
+                (state g p.now) (state g r.now)
+                (new_is (tables_content (state g p.now).now.trees) (not-true _
+                (sym (adds.told (omega (arith, two.makes.survives.clean, clean))) ∙ new))))
+                (both.makes.done clean);
+            kept = both.makes.kept;
+            survives = both.makes.survives;
+          };
         }
 
-    pub charged_new : (n : ℕ) (o : Option ℕ) → n ≡ x.number → o ≡ some_blocks x.covered.0
-        → added ≡ true → Attempts {A = B} {E = E} (MakesIfOpen (with_new_blocks a n o)) q r z
-        → Attempts {A = B} {E = E} (Makes (with_charged a x)) p r z
-    charged_new n o number some new two =
-        charged_blocks new (subst (λ (f : TablesContent → TablesContent).
-        Attempts {A = B} {E = E} (MakesIfOpen f) q r z)
+    pub charged_new : q.ghost_name ≡ p.ghost_name → (n : ℕ) (o : Option ℕ) → n ≡ x.number
+        → o ≡ some_blocks x.covered.0 → added ≡ true
+        → AttemptsOver {A = B} {E = E} g (MakesIfOpen (with_new_blocks a n o)) q r z
+        → AttemptsOver {A = B} {E = E} g (Makes (with_charged a x)) p r z
+    charged_new same n o number some new two =
+        charged_blocks same new (subst (λ (f : TablesContent → TablesContent).
+        AttemptsOver {A = B} {E = E} g (MakesIfOpen f) q r z)
         (λ i. with_new_blocks a (number i) (some i)) two)
 
-    -- there was no charge of its number
-    -- rule: database-writes.numbers-free
-    pub charged_free : added ≡ true → Survives q r (λ _. ⊥)
-        → WasSo {A = B} {E = E} (λ trees. LacksCharge a (tables_content trees) x) p r z
-    charged_free new stops = λ clean. on_ok z (is_none_is _ (not-true _
-        (sym (adds.told (omega (arith, stops.clean, clean))) ∙ new)))
+  -- there was no charge of its number
+  -- rule: database-writes.numbers-free
+  pub charged_free : {B E : Type 0} (p q r : State) (added : Bool) (z : Result B E)
+      → AddsIfNone {E = E} stands charge p q (Ok added) → added ≡ true → Survives q r (λ _. ⊥)
+      → WasSo {A = B} {E = E} (λ trees. LacksCharge a (tables_content trees) x) p r z
+  charged_free p q r added z adds new stops = λ clean. on_ok z (is_none_is _ (not-true _
+      (sym (adds.told (omega (arith, stops.clean, clean))) ∙ new)))
 
 -- where there is one, nothing more is put
 pub not_charged : {A B E : Type 0} (f g : TablesContent → TablesContent) (p q : State) (u : A)

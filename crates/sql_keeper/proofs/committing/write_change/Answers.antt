@@ -21,13 +21,13 @@ returns-clause-transacts g c =
     let change = with_change_put (shelf_names c.args.books.now) c.args.known.now c.args.change.now
     (option_map kept_of c.args.texts.now) in
     let same : c.commit.new.self.0 ≡ c.conn-2-1.given.0 =
-    sym (c.conn-2-1.given.1 (sym (c.in_ok-put_change.ensures.same_reference
+    sym (c.conn-2-1.given.1 (sym (c.in_ok-put_change.ensures.over.same_reference
     ∙ c.transaction-tx.ensures.same_reference))) in
     subst (λ h. Transacts change (state g.S.Store c.args.conn.now) (state g.S.Store h)
     c.commit.result) same
     (transacted g.S.Store change c.args.conn.now c.transaction-tx.result.conn.now _ _
     c.transaction-tx.ensures.begun c.requires.idle c.in_ok-put_change.field-0
-    c.in_ok-put_change.ensures.makes c.commit.ensures.survives c.commit.result
+    c.in_ok-put_change.ensures.over.makes c.commit.ensures.survives c.commit.result
     c.commit.ensures.ok c.commit.ensures.err)
 
 pub returns-clause-free : goal.returns-clause-free
@@ -38,11 +38,11 @@ returns-clause-free g c =
     let change = with_change_put (shelf_names c.args.books.now) c.args.known.now c.args.change.now
     (option_map kept_of c.args.texts.now) in
     let same : c.commit.new.self.0 ≡ c.conn-2-1.given.0 =
-    sym (c.conn-2-1.given.1 (sym (c.in_ok-put_change.ensures.same_reference
+    sym (c.conn-2-1.given.1 (sym (c.in_ok-put_change.ensures.over.same_reference
     ∙ c.transaction-tx.ensures.same_reference))) in
     subst (λ h. WasSo so (state g.S.Store c.args.conn.now) (state g.S.Store h) c.commit.result)
     same
     (was_so g.S.Store change c.args.conn.now c.transaction-tx.result.conn.now _ _
     c.transaction-tx.ensures.begun c.requires.idle c.in_ok-put_change.field-0
-    c.in_ok-put_change.ensures.makes c.commit.ensures.survives so c.commit.result
+    c.in_ok-put_change.ensures.over.makes c.commit.ensures.survives so c.commit.result
     c.in_ok-put_change.ensures.free)

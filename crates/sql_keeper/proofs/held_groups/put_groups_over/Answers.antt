@@ -2,6 +2,7 @@ use Rattle.std.proofs.Common.{◌∙◌, arith}
 use Rattle.sql_keeper.specs.Content.{shelf_names}
 use Rattle.sql_keeper.specs.Writes.{with_group_over}
 use Rattle.sql_rows.proofs.puts.Each.{put_next}
+use Rattle.sql_keeper.proofs.puts.Puts.{all_over}
 use Rattle.sql_keeper.proofs.held_groups.put_groups_over.Goals as goal
 
 pub rows-preserved : goal.rows-preserved
@@ -11,3 +12,6 @@ rows-preserved g c = record {
       c.args.seen.now) c.args.rows.now c.rows.row-index c.row-item.result
       _ _ _ _ (omega arith) c.row-item.is c.rows.invariant.put c.in_ok-put_group_over.ensures.makes;
 }
+
+pub returns : goal.returns
+returns g c = all_over c.rows.row-index c.rows.invariant.same c.rows.invariant.put (omega arith)

@@ -17,34 +17,34 @@ pub returns-in_err-make_later-clause-brings : goal.returns-in_err-make_later-cla
 returns-in_err-make_later-clause-brings g c =
     let p = err_from_is_err_and c.from_residual.result c.from_residual.ensures.1 in
     brought_err _ _ _ _ p.0 _ p.1 p.2 (not_made _ _ _ _ _ c.in_err-make_later.ensures.store
-    c.in_err-make_later.ensures.makes)
+    c.in_err-make_later.ensures.over.makes)
 
 pub kept_within-requires-clause-tables : goal.kept_within-requires-clause-tables
 kept_within-requires-clause-tables g c =
-    made_book _ _ _ (made_first _ _ _ _ c.requires.at c.in_ok-make_later.ensures.makes)
+    made_book _ _ _ (made_first _ _ _ _ c.requires.at c.in_ok-make_later.ensures.over.makes)
 
 pub kept_within-requires-clause-rules : goal.kept_within-requires-clause-rules
 kept_within-requires-clause-rules g c =
-    made_rules _ _ _ (made_first _ _ _ _ c.requires.at c.in_ok-make_later.ensures.makes)
+    made_rules _ _ _ (made_first _ _ _ _ c.requires.at c.in_ok-make_later.ensures.over.makes)
 
 pub returns-in_err-meta-clause-brings : goal.returns-in_err-meta-clause-brings
 returns-in_err-meta-clause-brings g c =
     let p = err_from_is_err_and c.from_residual-in_err-meta.result
     c.from_residual-in_err-meta.ensures.1 in
     brought_err _ _ _ _ p.0 _ p.1 p.2 (no_meta _ c.requires.known.0 c.requires.known.1 _ _
-    (made_first _ _ _ _ c.requires.at c.in_ok-make_later.ensures.makes) _ _
+    (made_first _ _ _ _ c.requires.at c.in_ok-make_later.ensures.over.makes) _ _
     c.in_err-meta.ensures.reads c.in_err-meta.ensures.finds)
 
 pub books_within-requires-clause-tables : goal.books_within-requires-clause-tables
 books_within-requires-clause-tables g c =
     made_book _ _ _ (meta_read _ c.requires.known.0 c.requires.known.1 _ _ _ c.in_ok-meta.meta
-    (made_first _ _ _ _ c.requires.at c.in_ok-make_later.ensures.makes)
+    (made_first _ _ _ _ c.requires.at c.in_ok-make_later.ensures.over.makes)
     c.in_ok-meta.ensures.reads).has
 
 pub books_within-requires-clause-rules : goal.books_within-requires-clause-rules
 books_within-requires-clause-rules g c =
     made_rules _ _ _ (meta_read _ c.requires.known.0 c.requires.known.1 _ _ _ c.in_ok-meta.meta
-    (made_first _ _ _ _ c.requires.at c.in_ok-make_later.ensures.makes)
+    (made_first _ _ _ _ c.requires.at c.in_ok-make_later.ensures.over.makes)
     c.in_ok-meta.ensures.reads).has
 
 pub returns-in_err-rows-clause-brings : goal.returns-in_err-rows-clause-brings
@@ -54,7 +54,7 @@ returns-in_err-rows-clause-brings g c =
     brought_err _ _ _ _ p.0 _ p.1 p.2
     (no_rows _ c.requires.known.0 c.requires.known.1 _ _ c.in_ok-meta.meta
     (meta_read _ c.requires.known.0 c.requires.known.1 _ _ _ c.in_ok-meta.meta
-    (made_first _ _ _ _ c.requires.at c.in_ok-make_later.ensures.makes)
+    (made_first _ _ _ _ c.requires.at c.in_ok-make_later.ensures.over.makes)
     c.in_ok-meta.ensures.reads) _ _ _ c.in_err-rows.ensures.reads c.in_err-rows.ensures.told
     c.in_err-rows.ensures.ours c.in_ok-meta.ensures.finds.own c.in_err-rows.ensures.rules)
 
@@ -68,7 +68,7 @@ returns-in_err-read-clause-brings g c =
     (subst (HasRows _ _ _ c.in_ok-meta.meta) (sym c.deref.ensures.value)
     (rows_read _ c.requires.known.0 c.requires.known.1 _ _ _ c.in_ok-meta.meta c.in_ok-rows.rows
     (meta_read _ c.requires.known.0 c.requires.known.1 _ _ _ c.in_ok-meta.meta
-    (made_first _ _ _ _ c.requires.at c.in_ok-make_later.ensures.makes)
+    (made_first _ _ _ _ c.requires.at c.in_ok-make_later.ensures.over.makes)
     c.in_ok-meta.ensures.reads) c.in_ok-rows.ensures.reads))
     c.in_ok-meta.ensures.finds.own c.as_str.result.now c.as_str.ensures.value _
     c.in_err-read.ensures.rules c.in_err-read.ensures.either)
@@ -81,7 +81,7 @@ put_latest-requires-clause-open g c =
     made_inside _ _ _ (rows_read _ c.requires.known.0 c.requires.known.1 _ _ _ c.in_ok-meta.meta
     c.in_ok-rows.rows
     (meta_read _ c.requires.known.0 c.requires.known.1 _ _ _ c.in_ok-meta.meta
-    (made_first _ _ _ _ c.requires.at c.in_ok-make_later.ensures.makes)
+    (made_first _ _ _ _ c.requires.at c.in_ok-make_later.ensures.over.makes)
     c.in_ok-meta.ensures.reads) c.in_ok-rows.ensures.reads).meta.has
 
 pub put_latest-requires-clause-tables : goal.put_latest-requires-clause-tables
@@ -89,7 +89,7 @@ put_latest-requires-clause-tables g c =
     made_book _ _ _ (rows_read _ c.requires.known.0 c.requires.known.1 _ _ _ c.in_ok-meta.meta
     c.in_ok-rows.rows
     (meta_read _ c.requires.known.0 c.requires.known.1 _ _ _ c.in_ok-meta.meta
-    (made_first _ _ _ _ c.requires.at c.in_ok-make_later.ensures.makes)
+    (made_first _ _ _ _ c.requires.at c.in_ok-make_later.ensures.over.makes)
     c.in_ok-meta.ensures.reads) c.in_ok-rows.ensures.reads).meta.has
 
 pub put_latest-requires-clause-rules : goal.put_latest-requires-clause-rules
@@ -97,7 +97,7 @@ put_latest-requires-clause-rules g c =
     made_rules _ _ _ (rows_read _ c.requires.known.0 c.requires.known.1 _ _ _ c.in_ok-meta.meta
     c.in_ok-rows.rows
     (meta_read _ c.requires.known.0 c.requires.known.1 _ _ _ c.in_ok-meta.meta
-    (made_first _ _ _ _ c.requires.at c.in_ok-make_later.ensures.makes)
+    (made_first _ _ _ _ c.requires.at c.in_ok-make_later.ensures.over.makes)
     c.in_ok-meta.ensures.reads) c.in_ok-rows.ensures.reads).meta.has
 
 pub returns-in-Ok-clause-brings : goal.returns-in-Ok-clause-brings
@@ -106,12 +106,12 @@ returns-in-Ok-clause-brings g c =
     (subst (HasRows _ _ _ c.in_ok-meta.meta) (sym c.deref.ensures.value)
     (rows_read _ c.requires.known.0 c.requires.known.1 _ _ _ c.in_ok-meta.meta c.in_ok-rows.rows
     (meta_read _ c.requires.known.0 c.requires.known.1 _ _ _ c.in_ok-meta.meta
-    (made_first _ _ _ _ c.requires.at c.in_ok-make_later.ensures.makes)
+    (made_first _ _ _ _ c.requires.at c.in_ok-make_later.ensures.over.makes)
     c.in_ok-meta.ensures.reads) c.in_ok-rows.ensures.reads))
     c.in_ok-meta.ensures.finds.own c.as_str.result.now c.as_str.ensures.value _
     c.in_ok-read.read c.in_ok-read.ensures.read c.in_ok-read.ensures.given
     c.in_ok-read.ensures.text c.in_ok-read.ensures.last c.in_ok-meta.ensures.finds.last
-    (IsUtf8-string_bytes c.in_ok-meta.meta.book) c.requires.ruled _ c.in-Ok.ensures.makes
+    (IsUtf8-string_bytes c.in_ok-meta.meta.book) c.requires.ruled _ c.in-Ok.ensures.over.makes
 
 pub returns-clause-brings : goal.returns-clause-brings
 returns-clause-brings g c =
@@ -119,8 +119,8 @@ returns-clause-brings g c =
     (subst (HasRows _ _ _ c.in_ok-meta.meta) (sym c.deref.ensures.value)
     (rows_read _ c.requires.known.0 c.requires.known.1 _ _ _ c.in_ok-meta.meta c.in_ok-rows.rows
     (meta_read _ c.requires.known.0 c.requires.known.1 _ _ _ c.in_ok-meta.meta
-    (made_first _ _ _ _ c.requires.at c.in_ok-make_later.ensures.makes)
+    (made_first _ _ _ _ c.requires.at c.in_ok-make_later.ensures.over.makes)
     c.in_ok-meta.ensures.reads) c.in_ok-rows.ensures.reads))
     c.in_ok-meta.ensures.finds.own c.as_str.result.now c.as_str.ensures.value _ _
-    c.read_fault.result c.in-Err.fault c.in-Err.ensures.makes c.read_fault.ensures.told
+    c.read_fault.result c.in-Err.fault c.in-Err.ensures.over.makes c.read_fault.ensures.told
     c.read_fault.ensures.ours c.read_fault.ensures.rules c.in-Err.ensures.refused
