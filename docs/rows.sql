@@ -145,7 +145,6 @@ SELECT 'session_groups: the rating group is one of the book' AS rule,
   WHERE reserved = 1
     AND replace(text, ' ', '') || char(10)
       NOT GLOB '*' || char(10) || 'id=' || g.rating_group || '[^0-9]*';
--- not at an opening
 SELECT 'session_groups: a reservation is in an open session' AS rule,
   account, session, rating_group, state
   FROM session_groups JOIN sessions USING (account, session) WHERE reserved = 1 AND state <> 1;
@@ -221,7 +220,6 @@ SELECT 'vouchers: the scope is a rating group' AS rule, code, scope
 -- ---- charges, covered
 SELECT 'charges: a number from 1 on' AS rule, account, number
   FROM charges WHERE number NOT BETWEEN 1 AND 4294967295;
--- not at an opening
 SELECT 'charges: the number is below next_charge' AS rule, account, number, next_charge
   FROM charges JOIN accounts USING (account) WHERE number >= next_charge;
 SELECT 'charges: the moment is before 2100' AS rule, account, number, moment

@@ -198,18 +198,19 @@ ROWS = [
         "accounts: a number of 1 to 15 digits",
     ),
     # numbers
-    (of("accounts", 49152, "next_charge = 1"), OPENED, "charges: the number is below next_charge"),
-    (of("accounts", 49152, "next_charge = 2"), OPENED, "charges: the number is below next_charge"),
+    (of("accounts", 49152, "next_charge = 1"), RULES, "charges: the number is below next_charge"),
+    (of("accounts", 49152, "next_charge = 2"), RULES, "charges: the number is below next_charge"),
+    (of("accounts", 49152, "next_charge = 3"), OPENED, None),
     (of("accounts", 49152, "next_charge = 10"), OPENED, None),
     (
         "INSERT INTO charges VALUES ('49152', 3, 1767607200, 'more', 10, 5, 500000, 500000, 0)",
-        OPENED,
+        RULES,
         "charges: the number is below next_charge",
     ),
     (
         """INSERT INTO charges
         VALUES ('49152', 4000000000, 1767607200, 'more', 10, 5, 500000, 500000, 0)""",
-        OPENED,
+        RULES,
         "charges: the number is below next_charge",
     ),
     (
@@ -293,19 +294,20 @@ ROWS = [
     (
         """UPDATE session_groups SET reserved = 1, period_before = 'peak', period_after = 'peak'
         WHERE session = 'ended'""",
-        OPENED,
+        RULES,
         "session_groups: a reservation is in an open session",
     ),
     (
         "UPDATE sessions SET state = 2 WHERE session = 'live'",
-        OPENED,
+        RULES,
         "session_groups: a reservation is in an open session",
     ),
     (
         "UPDATE sessions SET state = 3 WHERE session = 'live'",
-        OPENED,
+        RULES,
         "session_groups: a reservation is in an open session",
     ),
+    ("UPDATE sessions SET state = 3 WHERE session = 'ended'", OPENED, None),
     (
         "UPDATE session_groups SET reserved = 2 WHERE session = 'live'",
         RULES,

@@ -1,8 +1,8 @@
 -- What a keeper over a database holds, by the rows of its tables.
 -- Source: profile.
-use Rattle.std.specs.Prelude.{ℕ, zero, suc, ◌&&◌, Bool, false, List, [], map, slice_get, Option}
+use Rattle.std.specs.Prelude.{ℕ, zero, suc, ◌&&◌, Bool, List, [], map, slice_get, Option}
 use Rattle.std.specs.Prelude.{Some, None, Result, Ok, Err, unwrap_or, option_map}
-use Rattle.std.specs.Prelude.{option_and_then, is_some, nat_lt, if◌then◌else◌}
+use Rattle.std.specs.Prelude.{option_and_then, is_some, if◌then◌else◌}
 use Rattle.units.specs.Words.{BlockCount, BookNumber}
 use Rattle.identifiers.specs.Words.{AccountName}
 use Rattle.buckets.specs.Words.{BucketNumber, BucketAmount}
@@ -29,7 +29,7 @@ use Rattle.keepers.specs.declared.kept_answer.KeptAnswer.{KeptAnswer}
 use Rattle.keepers.specs.Tables.{Head, GroupRow, Rows, Tables}
 use Rattle.sql_rows.specs.declared.head.HeadColumns.{HeadColumns}
 use Rattle.sql_rows.specs.declared.voucher_rows.VoucherColumns.{VoucherColumns}
-pub use Rattle.sql_rules.specs.Ruled.{last_in}
+pub use Rattle.sql_rules.specs.Ruled.{is_numbered, is_reserved, last_in}
 use Rattle.sql_rows.specs.Values.{Group, PeriodNames, Kept}
 use Rattle.sql_rows.specs.Values.{request_kind, reference_kind}
 use Rattle.sql_rows.specs.Content.{TableRows, TablesContent}
@@ -83,10 +83,6 @@ abbrev pub stored_group_in : Names → Bool → Option BookNumber → Group → 
 stored_group_in names is_open book x =
     record { used = x.used; terms = reserved_in names is_open book x.periods }
 
-abbrev pub is_reserved : Option Group → Bool
-is_reserved None = false
-is_reserved (Some x) = is_some x.periods
-
 -- what is held counts as long as its reservation
 abbrev pub held_in : Bool → Option BucketAmount → BucketAmount
 held_in has_reservation amount = if has_reservation then unwrap_or amount 0 else 0
@@ -115,11 +111,7 @@ told_rows names r = record {
       held_in (is_open_row (r.sessions s) && is_reserved (r.groups s g)) (r.holds s g n);
 }
 
--- ---- charges: they are numbered from 1 to below the account's next number
-
-abbrev pub is_numbered : ChargeNumber → Option HeadColumns → Bool
-is_numbered n None = false
-is_numbered n (Some h) = nat_lt 0 n && nat_lt n h.next_charge
+-- ---- charges, which are numbered from 1 to below the account's next number
 
 -- the blocks of a charge that were covered, which have a row of their own; without one none were
 abbrev pub covered_in : Option BlockCount → BlockCount

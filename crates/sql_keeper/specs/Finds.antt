@@ -5,7 +5,7 @@ use Rattle.std.specs.String.{string_bytes}
 use Rattle.units.specs.Words.{latest_moment}
 use Rattle.sqlite_trees.specs.Tree.{Trees}
 use Rattle.sqlite.specs.State.{State, HasCleanDisk, Survives}
-use Rattle.sqlite_schema.specs.Rules.{Fits}
+use Rattle.sqlite_schema.specs.Rules.{Obeys}
 use Rattle.sql_tables.specs.Words.{TablesVersion}
 use Rattle.sql_tables.specs.Schema.{our_schema, latest}
 use Rattle.sql_tables.specs.Statements.{HasIdleTables, IsStill, OnlyReads}
@@ -32,7 +32,7 @@ pub record IsReadOf (r : ReadBooks) (trees : Trees) : Type 0 where
 -- and each row is in its rules, as the statements write it
 pub record IsReadRuled (r : ReadBooks) (trees : Trees) : Type 0 where
   pub read : IsReadOf r trees
-  pub rules : Fits our_schema trees → IsInRules r.own (tables_content trees)
+  pub rules : Obeys our_schema trees → IsInRules r.own (tables_content trees)
   pub plain : ArePlain trees
 
 -- what is kept once is that of this version; or a fault says why not

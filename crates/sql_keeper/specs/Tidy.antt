@@ -14,7 +14,8 @@ use Rattle.reserving.specs.Sessions.{group_in, session_in}
 use Rattle.reserving.specs.Stored.{StoredRows}
 use Rattle.sql_rows.specs.Values.{Group, Kept, PeriodNames, reference_kind, request_kind}
 use Rattle.sql_rows.specs.Content.{TablesContent, TableRows}
-use Rattle.sql_keeper.specs.Content.{Names, book_in, is_numbered, is_reserved, kept_in}
+use Rattle.sql_rules.specs.Ruled.{AreBeside}
+use Rattle.sql_keeper.specs.Content.{Names, book_in, is_reserved, kept_in}
 use Rattle.sql_keeper.specs.Content.{names_numbered}
 
 -- the names are those of periods of the book of this number, the first where there is none
@@ -39,9 +40,9 @@ is_key kind number =
 
 -- of an account
 pub record AreTidyRows (names : Names) (a : AccountName) (r : TableRows) : Type 0 where
-  -- a reservation is in an open session, and its periods have the names of its book
-  pub live : (s : SessionName) (g : GroupId) → is_reserved (r.groups s g) ≡ true →
-      is_open_row (r.sessions s) ≡ true
+  -- charges are numbered, and a reservation is in an open session
+  pub beside : AreBeside r
+  -- its periods have the names of its book
   pub terms : (s : SessionName) (g : GroupId) →
       has_terms names (r.grant_books s g) (r.groups s g) ≡ true
   -- the number of a book, and what is held, are beside a reservation
@@ -51,8 +52,7 @@ pub record AreTidyRows (names : Names) (a : AccountName) (r : TableRows) : Type 
       is_reserved (r.groups s g) ≡ true
   -- a bucket that counts blocks is there
   pub kinds : (n : BucketNumber) → r.allowances n ≡ true → is_some (r.buckets n) ≡ true
-  -- charges are numbered, and covered blocks are beside one
-  pub charges : (n : ChargeNumber) → is_some (r.charges n) ≡ true → is_numbered n r.head ≡ true
+  -- covered blocks are beside a charge
   pub covered : (n : ChargeNumber) → is_some (r.covered n) ≡ true → is_some (r.charges n) ≡ true
   -- texts that are kept are those of a command and its answer, under its key
   pub texts : (kind : KeyKind) (name : KeyName) (number : CcRequestNumber) (k : Kept)

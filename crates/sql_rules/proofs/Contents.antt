@@ -47,7 +47,8 @@ use Rattle.sql_rules.specs.Rules.{is_ruled_answer, is_ruled_book, is_ruled_bucke
 use Rattle.sql_rules.specs.Rules.{is_ruled_counter, is_ruled_covered, is_ruled_grant_book}
 use Rattle.sql_rules.specs.Rules.{is_ruled_group, is_ruled_hold, is_ruled_meta, is_ruled_session}
 use Rattle.sql_rules.specs.Rules.{is_ruled_voucher}
-use Rattle.sql_rules.specs.Ruled.{AreInRules, AreTimely, IsInRules, is_account, is_answer, is_book, is_bucket}
+use Rattle.sql_rules.specs.Ruled.{AreInRules, AreTimely, IsInRulesBy, is_account}
+use Rattle.sql_rules.specs.Ruled.{is_answer, is_book, is_bucket}
 use Rattle.sql_rules.specs.Ruled.{is_charge, is_counter, is_group, is_session, is_voucher}
 use Rattle.sql_rules.specs.Tables.{AreRuled, last_kept, table_at}
 use Rattle.sql_rules.proofs.Decoded.{account_told, answer_told, book_told, bucket_told, charge_told}
@@ -118,7 +119,7 @@ rows_in_rules shelf trees all at low =
     all_weaker (λ r. IsTrue (passes_at shelf (last_kept trees) at r))
     (λ r. IsTrue (rule_at shelf at r))
     (λ r e. (and_parts (rule_at shelf at r) (is_timely_at (last_kept trees) at r) e).0)
-    (trees (table_at at).tree) (all at low).rows
+    (trees (table_at at).tree) (all.each at low).rows
 
 record HasRows (shelf : Shelf) (trees : Trees) (at : ℕ) : Type 0 where
   pub stored : IsStored (trees (table_at at).tree)
@@ -132,7 +133,7 @@ module _ (shelf : Shelf) (trees : Trees) (fits : Fits our_schema trees)
   -- in its rules
   ruled : (at : ℕ) → at < 14 → HasRows shelf trees at
   ruled at low = record {
-    stored = (all at low).stored;
+    stored = (all.each at low).stored;
     rows = rows_in_rules shelf trees all at low;
   }
 
@@ -142,7 +143,7 @@ module _ (shelf : Shelf) (trees : Trees) (fits : Fits our_schema trees)
   timely at low =
       all_weaker (λ r. IsTrue (passes_at shelf last at r)) (λ r. IsTrue (is_timely_at last at r))
       (λ r e. (and_parts (rule_at shelf at r) (is_timely_at last at r) e).1)
-      (trees (table_at at).tree) (all at low).rows
+      (trees (table_at at).tree) (all.each at low).rows
 
   one_meta : length (trees meta.tree) ≤ 1
   one_meta =
@@ -289,7 +290,7 @@ module _ (shelf : Shelf) (trees : Trees) (fits : Fits our_schema trees)
   }
 
   -- rule: rows-ruled.in-rules
-  pub content_ruled : IsInRules shelf (tables_content trees)
+  pub content_ruled : IsInRulesBy shelf last (tables_content trees)
   content_ruled = record {
     once = one_meta;
     meta = λ m e.

@@ -1,4 +1,9 @@
 pub mod Anywhere
+pub mod Beside
+pub mod BesideContents
+pub mod BesideRows
+pub mod BesideTexts
+pub mod BesideTold
 pub mod Contents
 pub mod Decoded
 pub mod Encoded

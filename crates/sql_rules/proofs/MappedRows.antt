@@ -335,20 +335,28 @@ module _ (shelf : Shelf) (trees : Trees) (fits : Fits our_schema trees) where
 
   -- rows in their rules are so under their keys
   pub ruled_mapped : AreRuled shelf latest trees → AreMapped shelf trees
-  ruled_mapped all at low =
-      let is = keyed at low in
-      rows_mapped (table_at at) is.tabled is.listed is.guarding trees fits (all at low).stored
-      (passes_at shelf (last_kept trees) at) (free_rule shelf (last_kept trees) at) (all at low).rows
+  ruled_mapped all = record {
+    each = λ at low.
+        let is = keyed at low in
+        rows_mapped (table_at at) is.tabled is.listed is.guarding trees fits
+        (all.each at low).stored (passes_at shelf (last_kept trees) at)
+        (free_rule shelf (last_kept trees) at) (all.each at low).rows;
+    beside = all.beside;
+  }
 
   -- and what is so under its key is a row in its rules
   pub mapped_ruled : AreStored trees → AreMapped shelf trees → AreRuled shelf latest trees
-  mapped_ruled stored so at low =
-      let is = keyed at low in
-      let here : IsStored (trees (table_at at).tree) =
-      all_has (λ (t : Table). IsStored (trees t.tree)) our_schema.tables (table_at at) stored
-      is.tabled in
-      record {
-        stored = here;
-        rows = mapped_rows (table_at at) is.tabled is.listed is.guarding trees fits here
-            (passes_at shelf (last_kept trees) at) (free_rule shelf (last_kept trees) at) (so at low) (full_rows (table_at at) is);
-      }
+  mapped_ruled stored so = record {
+    each = λ at low.
+        let is = keyed at low in
+        let here : IsStored (trees (table_at at).tree) =
+        all_has (λ (t : Table). IsStored (trees t.tree)) our_schema.tables (table_at at) stored
+        is.tabled in
+        record {
+          stored = here;
+          rows = mapped_rows (table_at at) is.tabled is.listed is.guarding trees fits here
+              (passes_at shelf (last_kept trees) at) (free_rule shelf (last_kept trees) at)
+              (so.each at low) (full_rows (table_at at) is);
+        };
+    beside = so.beside;
+  }

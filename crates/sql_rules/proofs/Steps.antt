@@ -3,6 +3,7 @@ use Rattle.std.proofs.Common.{◌≡◌, ◌<◌, ℕ, zero, suc, ◌+◌, List,
 use Rattle.std.proofs.Common.{◌∙◌, ◌&&◌, true, refl, arith, Ok, Err, Result, inl}
 use Rattle.shelves.specs.Shelves.{Shelf}
 use Rattle.sqlite_value.specs.Order.{Row, column}
+use Rattle.sqlite_trees.specs.Tree.{Trees}
 use Rattle.sqlite_trees.specs.declared.store.Store.{Ghosts}
 use Rattle.sqlite.specs.Effect.{Database}
 use Rattle.sqlite.specs.Held.{Held, state}
@@ -14,7 +15,7 @@ use Rattle.sql_tables.proofs.Keeps.{spares_then}
 use Rattle.sql_tables.specs.declared.fault.OpenFault.{OpenFault}
 use Rattle.sql_rules.specs.Rules.{passes_at}
 use Rattle.sql_rules.specs.Tables.{table_at, places_at, places_from, IsTable, IsRuledAt}
-use Rattle.sql_rules.specs.Tables.{AreRuled, AreRuledBy, AreRuledTo, Tells, last_kept}
+use Rattle.sql_rules.specs.Tables.{AreEachRuled, AreRuled, AreRuledBy, AreRuledTo, Tells, last_kept}
 use Rattle.sql_rules.specs.Walks.{Pass}
 use Rattle.sql_rules.proofs.Lookups.{untimed}
 use Rattle.sql_rules.proofs.Standing.{rows_pass, rows_stand}
@@ -116,8 +117,8 @@ found_next shelf last k a b c u so f = (
 pub found_not : {A B : Type 0} (shelf : Shelf) (last : ℕ) (v k : ℕ) (a b c : State) (e : OpenFault)
     (r : Result B OpenFault) → r ≡ Err e → (HasCleanDisk a → k < length (schema_at v).tables)
     → FoundTo shelf last k a b → Tells {A = A} (IsRuledAt shelf last k) b c (Err e)
-    → Tells (AreRuledBy shelf last v) a c r
-found_not shelf last v k a b c e r is low so f = subst (Tells (AreRuledBy shelf last v) a c) (sym is) (record {
+    → Tells (AreEachRuled shelf last v) a c r
+found_not shelf last v k a b c e r is low so f = subst (Tells (AreEachRuled shelf last v) a c) (sym is) (record {
   found = λ clean. tt;
   means = λ clean rules all.
       let here = so.1 (omega (arith, f.survives.clean, clean)) in
@@ -133,8 +134,8 @@ found_not shelf last v k a b c e r is low so f = subst (Tells (AreRuledBy shelf 
 
 pub none_found_not : {A B : Type 0} (shelf : Shelf) (last : ℕ) (v : ℕ) (a c : State) (e : OpenFault)
     (r : Result B OpenFault) → r ≡ Err e → 0 < length (schema_at v).tables
-    → Tells {A = A} (IsRuledAt shelf last 0) a c (Err e) → Tells (AreRuledBy shelf last v) a c r
-none_found_not shelf last v a c e r is low f = subst (Tells (AreRuledBy shelf last v) a c) (sym is) (record {
+    → Tells {A = A} (IsRuledAt shelf last 0) a c (Err e) → Tells (AreEachRuled shelf last v) a c r
+none_found_not shelf last v a c e r is low f = subst (Tells (AreEachRuled shelf last v) a c) (sym is) (record {
   found = λ clean. tt;
   means = λ clean rules all. f.means clean rules (all 0 low);
   told = f.told;
@@ -144,7 +145,7 @@ none_found_not shelf last v a c e r is low f = subst (Tells (AreRuledBy shelf la
 
 pub found_all : {A : Type 0} (shelf : Shelf) (last : ℕ) (v k : ℕ) (a b : State) (u : A)
     → (HasCleanDisk a → k ≡ length (schema_at v).tables) → FoundTo shelf last k a b
-    → Tells (AreRuledBy shelf last v) a b (Ok u)
+    → Tells (AreEachRuled shelf last v) a b (Ok u)
 found_all shelf last v k a b u end so = record {
   found = λ clean.
       let here = so.1 clean in
@@ -162,6 +163,59 @@ pub still_ours : (shelf : Shelf) (last : ℕ) (v k : ℕ) (a b : State) → Foun
 still_ours shelf last v k a b so ours clean =
     ap (λ (d : Database). d.schema) (so.1 clean).0.0.now_is
     ∙ ours (omega (arith, so.0.clean, clean))
+
+-- ---- one test after another
+
+-- after one that answered
+pub tells_then : {A B : Type 0} (P Q W : Trees → Type 0) → ((t : Trees) → P t → Q t → W t)
+    → ((t : Trees) → W t → Q t) → (a b c : State) (u : A) (r : Result B OpenFault)
+    → Tells P a b (Ok u) → Tells Q b c r → Tells W a c r
+tells_then P Q W make part a b c u (Ok w) f h = record {
+  found = λ clean.
+      let one = f.found (omega (arith, h.survives.clean, clean)) in
+      let two = h.found clean in (
+        unchanged_then a b c one.0 two.0,
+        make c.now.trees (subst (λ (d : Database). P d.trees) (sym two.0.0.now_is) one.1) two.1,
+      );
+  means = λ clean. tt;
+  told = tt;
+  spares = λ clean. spares_then a b c (f.found (omega (arith, h.survives.clean, clean))).0
+      (h.spares clean);
+  survives = survives_then a b c (λ _. ⊥) (λ _. ⊥) (λ _. ⊥) (λ clean db none. none)
+      (λ clean db none. none) f.survives h.survives;
+}
+tells_then P Q W make part a b c u (Err e) f h = record {
+  found = λ clean. tt;
+  means = λ clean rules all.
+      let one = f.found (omega (arith, h.survives.clean, clean)) in
+      h.means clean rules
+      (part b.now.trees (subst (λ (d : Database). W d.trees) (sym one.0.0.now_is) all));
+  told = h.told;
+  spares = λ clean. spares_then a b c (f.found (omega (arith, h.survives.clean, clean))).0
+      (h.spares clean);
+  survives = survives_then a b c (λ _. ⊥) (λ _. ⊥) (λ _. ⊥) (λ clean db none. none)
+      (λ clean db none. none) f.survives h.survives;
+}
+
+-- and where the first reports a fault
+pub tells_not : {A B : Type 0} (P W : Trees → Type 0) → ((t : Trees) → W t → P t)
+    → (a b : State) (e : OpenFault) (r : Result B OpenFault) → r ≡ Err e
+    → Tells {A = A} P a b (Err e) → Tells W a b r
+tells_not P W part a b e r is f = subst (Tells W a b) (sym is) (record {
+  found = λ clean. tt;
+  means = λ clean rules all. f.means clean rules (part a.now.trees all);
+  told = f.told;
+  spares = f.spares;
+  survives = f.survives;
+})
+
+-- the schema stays after one that answered
+pub ours_then : {A : Type 0} (P : Trees → Type 0) (v : ℕ) (a b : State) (u : A)
+    → Tells P a b (Ok u) → (HasCleanDisk a → a.now.schema ≡ schema_at v) → HasCleanDisk b
+    → b.now.schema ≡ schema_at v
+ours_then P v a b u f ours clean =
+    ap (λ (d : Database). d.schema) (f.found clean).0.0.now_is
+    ∙ ours (omega (arith, f.survives.clean, clean))
 
 -- where that is the last moment that is kept
 -- rule: rows-ruled.timely

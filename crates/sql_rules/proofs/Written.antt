@@ -1,15 +1,19 @@
 -- Rows of tables whose content is in its rules, as the statements write them, are in their rules.
 use Rattle.std.proofs.Common.{◌≡◌, ◌≤◌, ◌<◌, ℕ, zero, suc, List, [], ◌∷◌, drop, length, Bool, true}
 use Rattle.std.proofs.Common.{false, not, Some, None, Option, refl, sym, ap, subst, ◌∙◌, arith}
+use Rattle.std.proofs.Common.{nat_lt}
 use Rattle.std.proofs.Common.{inl, inr, get_or, nat_eq, nat_le, IsTrue}
-use Rattle.std.specs.Prelude.{option_map, is_some}
+use Rattle.std.specs.Prelude.{option_map, is_some, ◌==◌, if◌then◌else◌}
 use Rattle.std.specs.FinMap.{get-from_entries}
 use Rattle.std.specs.Ordering.{eq_by_cmp}
 use Rattle.std.specs.List.{AllByRecursion}
-use Rattle.std.proofs.lemmas.Bool.{and_from}
+use Rattle.std.proofs.lemmas.Bool.{and_from, and_parts}
 use Rattle.std.proofs.lemmas.Bool.Decides.{nat_tests}
 use Rattle.shelves.specs.Shelves.{Shelf}
+use Rattle.reserving.specs.Left.{is_open_row}
+use Rattle.reserving.specs.Sessions.{is_open}
 use Rattle.sqlite_sql.specs.Term.{Term, eval}
+use Rattle.sqlite_sql.specs.declared.ops.CompareOp.TheVariants.{Eq, Ge, Ne}
 use Rattle.sqlite_sql.specs.Ops.{is_false, is_null}
 use Rattle.sqlite_value.specs.declared.value.Value.{Value}
 use Rattle.sqlite_value.specs.declared.value.Value.TheVariants.{Text}
@@ -23,13 +27,12 @@ use Rattle.sqlite_schema.specs.Rules.{Fits, is_of, passes_checks, suits}
 use Rattle.sqlite_rules.specs.Lists.{Has}
 use Rattle.sqlite_rules.proofs.ListLemmas.{all_has}
 use Rattle.sql_tables.specs.Keyed.{IsStored, entries_of, key_of, look}
-use Rattle.sql_tables.specs.Schema.{answers, at_least_zero, our_schema}
-use Rattle.sql_tables.specs.Schema.{books, buckets, charges, counters, covered, grant_books, holds}
-use Rattle.sql_tables.specs.Schema.{latest, meta, number, sessions, vouchers}
+use Rattle.sql_tables.specs.Schema.{at_least_zero, our_schema}
+use Rattle.sql_tables.specs.Schema.{latest, meta, number, vouchers}
 use Rattle.sql_tables.specs.Statements.{AreStored}
 use Rattle.sql_tables.proofs.Keys.{number_last}
 use Rattle.sql_tables.proofs.Selections.{met_some}
-use Rattle.sql_rows.specs.Content.{tables_content}
+use Rattle.sql_rows.specs.Content.{rows_in, tables_content}
 use Rattle.sql_rows.specs.Plain.{ArePlain}
 use Rattle.sql_rows.specs.Values.{Meta, nat, nat_in, text_in, meta_key, head_key, bucket_key}
 use Rattle.sql_rows.specs.Values.{counter_key, session_key, group_key, hold_key, answer_key}
@@ -38,12 +41,16 @@ use Rattle.sql_rows.specs.Values.{bucket_in_row}
 use Rattle.sql_rows.specs.Values.{counter_in_row, session_in_row, group_in_row, hold_in}
 use Rattle.sql_rows.specs.Values.{answer_in_row, voucher_in_row}
 use Rattle.sql_rows.specs.Values.{charge_in_row, book_in_row, grant_book_in, allowance_in}
-use Rattle.sql_rows.specs.Values.{covered_in_row}
+use Rattle.sql_rows.specs.Values.{PeriodNames, covered_in_row, state_in}
+use Rattle.sql_rows.proofs.queries.Tests.{open_tested}
 use Rattle.sql_rows.proofs.rules.MetaRules.{right_at}
 use Rattle.sql_rules.specs.Columns.{is_moment}
 use Rattle.sql_rules.specs.Rules.{is_ruled_meta, is_timely_at, passes_at, rule_at}
-use Rattle.sql_rules.specs.Ruled.{IsInRules}
-use Rattle.sql_rules.specs.Tables.{AreRuled, last_kept, table_at}
+use Rattle.sql_rules.specs.Beside.{differs, is_ahead, is_equal, is_from, lacks_open_session}
+use Rattle.sql_rules.specs.Ruled.{IsInRules, is_numbered, is_reserved}
+use Rattle.sql_rules.specs.Tables.{AreEachRuled, AreRuled, last_kept, table_at}
+use Rattle.sql_rules.proofs.BesideRows.{behind, compared, differs_told, equals_text, from_told}
+use Rattle.sql_rules.proofs.BesideRows.{number_same}
 use Rattle.sql_rules.proofs.Encoded.{account_back, answer_back, book_back, bucket_back}
 use Rattle.sql_rules.proofs.Encoded.{charge_back, counter_back, covered_back, grant_book_back}
 use Rattle.sql_rules.proofs.Encoded.{group_back, hold_back, session_back, voucher_back}
@@ -102,6 +109,25 @@ fourth_at (v ∷ cells) = refl
 
 number_one : (k : ℕ) → nat_eq k 1 ≡ true → nat_eq 1 k ≡ true
 number_one k e = grind (arith, nat_tests, e)
+
+-- ---- values that are compared
+
+no_number : {A : Type 0} (n k : ℕ) → nat_le k n ≡ true → nat_lt n k ≡ true → A
+no_number n k e f = absurd (grind (arith, nat_tests, e, f))
+
+never_differs : (n : ℕ) → n ≡ 1 → differs (nat n) (nat 1) ≡ true → ⊥
+never_differs n e h =
+    let t : not (nat_eq 1 n) ≡ true = sym (differs_told n 1) ∙ h in
+    let u : not (nat_eq 1 1) ≡ true = subst (λ m. not (nat_eq 1 m) ≡ true) e t in
+    cc u
+
+is_held : (cells : Row) → nat_in (column cells 4) ≡ 1 → is_reserved (Some (group_in_row cells)) ≡ true
+is_held cells e = at (record { before = text_in (column cells 5); after = text_in (column cells 6) })
+    (nat_in (column cells 4) == 1) (ap (λ n. n == 1) e)
+  where
+    at : (p : PeriodNames) (b : Bool) → b ≡ true → is_some (if b then Some p else None) ≡ true
+    at p true e = refl
+    at p false e = absurd (cc e)
 
 -- ---- the rows of the tables
 
@@ -309,72 +335,72 @@ module _ (shelf : Shelf) (trees : Trees) (fits : Fits our_schema trees) where
           let it = mapped meta_in (look meta trees meta_key) some.0 some.1 in
           let back = met_some (1 ∷ []) meta_key it.0 (trees 0)
           (sym (get-from_entries row_cmp_total (entries_of (1 ∷ []) (trees 0)) meta_key) ∙ it.1) in
-          let same = only_one (trees 0) in'.once r back.0 has back.1 in
+          let same = only_one (trees 0) in'.each.once r back.0 has back.1 in
           let id : nat_eq (nat_in (column back.0 1)) 1 ≡ true =
           sym (number_last (nat_in (column back.0 1)) 1)
           ∙ subst (λ k. eq_by_cmp row_cmp meta_key k ≡ true) (id_of back.0 back.1) back.2 in
           let moment : is_moment (nat_in (column back.0 4)) ≡ true =
           subst (λ n. is_moment n ≡ true) (fourth_at back.0)
           (subst (λ v. is_moment (meta_in v).last ≡ true) back.3
-          (subst (λ (m : Meta). is_moment m.last ≡ true) (sym it.2) (in'.meta some.0 some.1))) in
+          (subst (λ (m : Meta). is_moment m.last ≡ true) (sym it.2) (in'.each.meta some.0 some.1))) in
           subst (λ x. is_ruled_meta x ≡ true) (sym same) (and_from _ _ (number_one _ id) moment)
 
       row_ruled : (at : ℕ) → at < 14 → (r : Row) → Stands at r → rule_at shelf at r ≡ true
       row_ruled zero low r has = meta_row r has
       row_ruled (suc zero) low r has =
           account_back r
-          ((in'.rows (text_in (column r 1))).head (head_in (drop 1 r))
+          ((in'.each.rows (text_in (column r 1))).head (head_in (drop 1 r))
           (told 1 low head_in r _ has (account_of r has)))
           (plain.heads (key_of (1 ∷ []) r) (drop 1 r) (stands 1 low r has))
       row_ruled (suc (suc zero)) low r has =
-          bucket_back r ((in'.rows (text_in (column r 1))).buckets (nat_in (column r 2))
+          bucket_back r ((in'.each.rows (text_in (column r 1))).buckets (nat_in (column r 2))
           (bucket_in_row (drop 1 r)) (told 2 low bucket_in_row r _ has (bucket_of r has)))
       row_ruled (suc (suc (suc zero))) low r has =
-          counter_back r ((in'.rows (text_in (column r 1))).counters (nat_in (column r 2))
+          counter_back r ((in'.each.rows (text_in (column r 1))).counters (nat_in (column r 2))
           (nat_in (column r 3)) (counter_in_row (drop 1 r))
           (told 3 low counter_in_row r _ has (counter_of r has)))
       row_ruled (suc (suc (suc (suc zero)))) low r has =
           session_back r
-          ((in'.rows (text_in (column r 1))).sessions (text_in (column r 2))
+          ((in'.each.rows (text_in (column r 1))).sessions (text_in (column r 2))
           (session_in_row (drop 1 r)) (told 4 low session_in_row r _ has (session_of r has)))
           (plain.of_sessions (key_of (1 ∷ 2 ∷ []) r) (drop 1 r) (stands 4 low r has))
       row_ruled (suc (suc (suc (suc (suc zero))))) low r has =
           group_back shelf r
-          ((in'.rows (text_in (column r 1))).groups (text_in (column r 2)) (nat_in (column r 3))
+          ((in'.each.rows (text_in (column r 1))).groups (text_in (column r 2)) (nat_in (column r 3))
           (group_in_row (drop 1 r)) (told 5 low group_in_row r _ has (group_of r has)))
           (plain.of_groups (key_of (1 ∷ 2 ∷ 3 ∷ []) r) (drop 1 r) (stands 5 low r has))
       row_ruled (suc (suc (suc (suc (suc (suc zero)))))) low r has =
-          hold_back r ((in'.rows (text_in (column r 1))).holds (text_in (column r 2))
+          hold_back r ((in'.each.rows (text_in (column r 1))).holds (text_in (column r 2))
           (nat_in (column r 3)) (nat_in (column r 4)) (hold_in (drop 1 r))
           (told 6 low hold_in r _ has (hold_of r has)))
       row_ruled (suc (suc (suc (suc (suc (suc (suc zero))))))) low r has =
-          answer_back r ((in'.rows (text_in (column r 1))).answers (nat_in (column r 2))
+          answer_back r ((in'.each.rows (text_in (column r 1))).answers (nat_in (column r 2))
           (text_in (column r 3)) (nat_in (column r 4)) (answer_in_row (drop 1 r))
           (told 7 low answer_in_row r _ has (answer_of r has)))
       row_ruled (suc (suc (suc (suc (suc (suc (suc (suc zero)))))))) low r has =
           voucher_back r
           (typed_or (column r 3) (λ some. typed_column trees fits vouchers (keyed 8 low) r has refl
           2 none_named (omega arith) some))
-          (in'.vouchers (text_in (column r 1)) (voucher_in_row (drop 1 r))
+          (in'.each.vouchers (text_in (column r 1)) (voucher_in_row (drop 1 r))
           (told 8 low voucher_in_row r _ has (voucher_of r has)))
       row_ruled (suc (suc (suc (suc (suc (suc (suc (suc (suc zero))))))))) low r has =
-          charge_back r ((in'.rows (text_in (column r 1))).charges (nat_in (column r 2))
+          charge_back r ((in'.each.rows (text_in (column r 1))).charges (nat_in (column r 2))
           (charge_in_row (drop 1 r)) (told 9 low charge_in_row r _ has (charge_of r has)))
       row_ruled (suc (suc (suc (suc (suc (suc (suc (suc (suc (suc zero)))))))))) low r has =
-          book_back r (in'.books (nat_in (column r 1)) (book_in_row (drop 1 r))
+          book_back r (in'.each.books (nat_in (column r 1)) (book_in_row (drop 1 r))
           (told 10 low book_in_row r _ has (book_of r has)))
       row_ruled (suc (suc (suc (suc (suc (suc (suc (suc (suc (suc (suc zero))))))))))) low r has =
-          grant_book_back shelf r ((in'.rows (text_in (column r 1))).grant_books
+          grant_book_back shelf r ((in'.each.rows (text_in (column r 1))).grant_books
           (text_in (column r 2)) (nat_in (column r 3)) (grant_book_in (drop 1 r))
           (told 11 low grant_book_in r _ has (grant_of r has)))
       row_ruled (suc (suc (suc (suc (suc (suc (suc (suc (suc (suc (suc (suc zero)))))))))))) low r
           has =
-          (in'.rows (text_in (column r 1))).allowances (nat_in (column r 2))
+          (in'.each.rows (text_in (column r 1))).allowances (nat_in (column r 2))
           (ap is_some (told 12 low allowance_in r _ has (allowance_of r has)))
       row_ruled
           (suc (suc (suc (suc (suc (suc (suc (suc (suc (suc (suc (suc (suc zero))))))))))))) low r
           has =
-          covered_back r ((in'.rows (text_in (column r 1))).covered (nat_in (column r 2))
+          covered_back r ((in'.each.rows (text_in (column r 1))).covered (nat_in (column r 2))
           (covered_in_row (drop 1 r)) (told 13 low covered_in_row r _ has (covered_of r has)))
       row_ruled
           (suc (suc (suc (suc (suc (suc (suc (suc (suc (suc (suc (suc (suc (suc n)))))))))))))) low
@@ -387,13 +413,13 @@ module _ (shelf : Shelf) (trees : Trees) (fits : Fits our_schema trees) where
       row_timely zero low r has = refl
       row_timely (suc zero) low r has =
           from_by _ (last_kept trees) (subst (λ n. n ≤ last_kept trees) (third_of r)
-          ((in'.rows (text_in (column r 1))).timely.head (head_in (drop 1 r))
+          ((in'.each.rows (text_in (column r 1))).timely.head (head_in (drop 1 r))
           (told 1 low head_in r _ has (account_of r has))))
       row_timely (suc (suc zero)) low r has = refl
       row_timely (suc (suc (suc zero))) low r has = refl
       row_timely (suc (suc (suc (suc zero)))) low r has =
           from_by _ (last_kept trees) (subst (λ n. n ≤ last_kept trees) (fourth_at r)
-          ((in'.rows (text_in (column r 1))).timely.sessions (text_in (column r 2))
+          ((in'.each.rows (text_in (column r 1))).timely.sessions (text_in (column r 2))
           (session_in_row (drop 1 r)) (told 4 low session_in_row r _ has (session_of r has))))
       row_timely (suc (suc (suc (suc (suc zero))))) low r has = refl
       row_timely (suc (suc (suc (suc (suc (suc zero)))))) low r has = refl
@@ -401,7 +427,7 @@ module _ (shelf : Shelf) (trees : Trees) (fits : Fits our_schema trees) where
       row_timely (suc (suc (suc (suc (suc (suc (suc (suc zero)))))))) low r has = refl
       row_timely (suc (suc (suc (suc (suc (suc (suc (suc (suc zero))))))))) low r has =
           from_by _ (last_kept trees) (subst (λ n. n ≤ last_kept trees) (third_of r)
-          ((in'.rows (text_in (column r 1))).timely.charges (nat_in (column r 2))
+          ((in'.each.rows (text_in (column r 1))).timely.charges (nat_in (column r 2))
           (charge_in_row (drop 1 r)) (told 9 low charge_in_row r _ has (charge_of r has))))
       row_timely (suc (suc (suc (suc (suc (suc (suc (suc (suc (suc n)))))))))) low r has =
           let high : 9 < (suc (suc (suc (suc (suc (suc (suc (suc (suc (suc n)))))))))) =
@@ -410,12 +436,117 @@ module _ (shelf : Shelf) (trees : Trees) (fits : Fits our_schema trees) where
           high
 
       -- rule: rows-ruled.in-rules
-      pub rows_ruled : AreRuled shelf latest trees
-      rows_ruled at low = record {
+      each_ruled : AreEachRuled shelf (last_kept trees) latest trees
+      each_ruled at low = record {
         stored = all_has (λ (t : Table). IsStored (trees t.tree)) our_schema.tables (table_at at)
             stored (keyed at low).tabled;
         rows = all_from (λ r. IsTrue (passes_at shelf (last_kept trees) at r))
             (trees (table_at at).tree)
             (λ r has. and_from (rule_at shelf at r) (is_timely_at (last_kept trees) at r)
             (row_ruled at low r has) (row_timely at low r has));
+      }
+
+      -- ---- beside each other
+
+      -- the next number of an account is above those of its charges
+      none_ahead : (r s : Row) → Stands 1 r → Stands 9 s → is_ahead r s ≡ false
+      none_ahead r s has there = at (is_ahead r s) refl
+        where
+          at : (t : Bool) → is_ahead r s ≡ t → t ≡ false
+          at false e = refl
+          at true e =
+              let parts = and_parts (is_equal (column s 1) (column r 1))
+              (is_from (column s 2) (column r 5)) e in
+              let low : 9 < 14 = omega arith in
+              let own = full 9 low s there in
+              let v1 = text_there 9 low s there 0 (omega arith) own.0 (λ v h. h) in
+              let v2 = number_there 9 low s there 1 (omega arith) own.1.0 (λ v h. h)
+              (checked (table_at 9) s 0 (omega arith)) in
+              let first : 1 < 14 = omega arith in
+              let up = text_there 1 first r has 0 (omega arith) (full 1 first r has).0 (λ v h. h) in
+              let next = number_there 1 first r has 4 (omega arith)
+              (compared Ge (column s 2) (column r 5) parts.1).1 (λ v h. h)
+              (checked (table_at 1) r 3 (omega arith)) in
+              let same : text_in (column r 1) ≡ text_in (column s 1) =
+              equals_text (text_in (column s 1)) (text_in (column r 1))
+              (subst (λ w. is_equal w (Text (text_in (column r 1))) ≡ true) v1
+              (subst (λ w. is_equal (column s 1) w ≡ true) up parts.0)) in
+              let from : nat_le (nat_in (column r 5)) (nat_in (column s 2)) ≡ true =
+              sym (from_told (nat_in (column s 2)) (nat_in (column r 5)))
+              ∙ subst (λ w. is_from w (nat (nat_in (column r 5))) ≡ true) v2
+              (subst (λ w. is_from (column s 2) w ≡ true) next parts.1) in
+              let charge = told 9 low charge_in_row s _ there (charge_of s there) in
+              let head = told 1 first head_in r _ has (account_of r has) in
+              let number = (in'.beside (text_in (column s 1))).numbers (nat_in (column s 2))
+              (ap is_some charge) in
+              let below : nat_lt (nat_in (column s 2)) (nat_in (column r 5)) ≡ true =
+              subst (λ n. nat_lt (nat_in (column s 2)) n ≡ true) (ap nat_in (behind r 4))
+              (and_parts (nat_lt 0 (nat_in (column s 2))) _
+              (subst (λ o. is_numbered (nat_in (column s 2)) o ≡ true)
+              (subst (λ x. (rows_in trees x).head ≡ Some (head_in (drop 1 r))) same head)
+              number)).1 in
+              absurd (no_number _ _ from below)
+
+      -- the session of a reservation is open
+      none_over : (r s : Row) → Stands 5 r → Stands 4 s → lacks_open_session r s ≡ false
+      none_over r s has there = at (lacks_open_session r s) refl
+        where
+          at : (t : Bool) → lacks_open_session r s ≡ t → t ≡ false
+          at false e = refl
+          at true e =
+              let parts = and_parts _ (differs (column s 5) (nat 1)) e in
+              let names = and_parts _ (is_equal (column s 2) (column r 2)) parts.0 in
+              let one = and_parts (is_equal (column r 5) (nat 1))
+              (is_equal (column s 1) (column r 1)) names.0 in
+              let low : 5 < 14 = omega arith in
+              let own = full 5 low r has in
+              let v1 = text_there 5 low r has 0 (omega arith) own.0 (λ v h. h) in
+              let v2 = text_there 5 low r has 1 (omega arith) own.1.0 (λ v h. h) in
+              let v5 = number_there 5 low r has 4 (omega arith)
+              (compared Eq (column r 5) (nat 1) one.0).0 (λ v h. h)
+              (checked (table_at 5) r 2 (omega arith)) in
+              let under : 4 < 14 = omega arith in
+              let up = full 4 under s there in
+              let w1 = text_there 4 under s there 0 (omega arith) up.0 (λ v h. h) in
+              let w2 = text_there 4 under s there 1 (omega arith) up.1.0 (λ v h. h) in
+              let w5 = number_there 4 under s there 4 (omega arith)
+              (compared Ne (column s 5) (nat 1) parts.1).0 (λ v h. h)
+              (checked (table_at 4) s 2 (omega arith)) in
+              let account : text_in (column s 1) ≡ text_in (column r 1) =
+              sym (equals_text (text_in (column s 1)) (text_in (column r 1))
+              (subst (λ w. is_equal w (Text (text_in (column r 1))) ≡ true) w1
+              (subst (λ w. is_equal (column s 1) w ≡ true) v1 one.1))) in
+              let session : text_in (column s 2) ≡ text_in (column r 2) =
+              sym (equals_text (text_in (column s 2)) (text_in (column r 2))
+              (subst (λ w. is_equal w (Text (text_in (column r 2))) ≡ true) w2
+              (subst (λ w. is_equal (column s 2) w ≡ true) v2 names.1))) in
+              let reserved : nat_in (column r 5) ≡ 1 = number_same (nat_in (column r 5)) 1
+              (subst (λ w. is_equal w (nat 1) ≡ true) v5 one.0) in
+              let group = told 5 low group_in_row r _ has (group_of r has) in
+              let own = told 4 under session_in_row s _ there (session_of s there) in
+              let named : (rows_in trees (text_in (column r 1))).sessions (text_in (column r 2))
+              ≡ Some (session_in_row (drop 1 s)) =
+              subst (λ x. (rows_in trees x).sessions (text_in (column r 2))
+              ≡ Some (session_in_row (drop 1 s))) account
+              (subst (λ x. (rows_in trees (text_in (column s 1))).sessions x
+              ≡ Some (session_in_row (drop 1 s))) session own) in
+              let live = (in'.beside (text_in (column r 1))).live (text_in (column r 2))
+              (nat_in (column r 3)) (ap is_reserved group
+              ∙ is_held (drop 1 r) (ap nat_in (behind r 4) ∙ reserved)) in
+              let open' : is_open (state_in (column s 5)) ≡ true =
+              subst (λ v. is_open (state_in v) ≡ true) (behind s 4)
+              (subst (λ o. is_open_row o ≡ true) named live) in
+              let one' : nat_in (column s 5) ≡ 1 = number_same (nat_in (column s 5)) 1
+              (subst (λ v. is_equal v (nat 1) ≡ true) w5 (open_tested (column s 5) open')) in
+              absurd (never_differs (nat_in (column s 5)) one'
+              (subst (λ v. differs v (nat 1) ≡ true) w5 parts.1))
+
+      -- rule: rows-ruled.in-rules, rows-ruled.beside
+      pub rows_ruled : AreRuled shelf latest trees
+      rows_ruled = record {
+        each = each_ruled;
+        beside = record {
+          numbers = none_ahead;
+          reservations = none_over;
+        };
       }

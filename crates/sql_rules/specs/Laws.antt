@@ -3,7 +3,8 @@
 use Rattle.std.specs.Prelude.{◌≡◌, ◌∷◌, Bool, IsTrue, is_some}
 use Rattle.sqlite_value.specs.Order.{Row}
 use Rattle.sqlite_value.specs.declared.value.Value.TheVariants.{Null}
-use Rattle.sqlite_schema.specs.Rules.{Fits}
+use Rattle.sqlite_schema.specs.Rules.{Fits, Keeps}
+use Rattle.sqlite_schema.specs.declared.schema.Constraint.TheVariants.{ForeignKey}
 use Rattle.sqlite_schema.specs.declared.schema.Table.{Table}
 use Rattle.sqlite_trees.specs.Tree.{Trees}
 use Rattle.shelves.specs.Shelves.{Shelf}
@@ -12,13 +13,20 @@ use Rattle.sql_tables.specs.Statements.{AreStored, Changes, Ends}
 use Rattle.sql_rows.specs.Content.{tables_content}
 use Rattle.sql_rows.specs.Plain.{ArePlain}
 use Rattle.sql_rules.specs.Mapped.{AreMapped, IsMapped}
-use Rattle.sql_rules.specs.Ruled.{IsInRules}
-use Rattle.sql_rules.specs.Tables.{AreRuled}
+use Rattle.sql_rules.specs.Ruled.{IsInRules, IsInRulesBy}
+use Rattle.sql_rules.specs.Tables.{AreRuled, last_kept}
 
 -- where each row is in its rules, so is what the tables hold
 abbrev pub RuledRowsAreTold : Type 0
 RuledRowsAreTold = (shelf : Shelf) (trees : Trees) → Fits our_schema trees
-    → AreRuled shelf latest trees → IsInRules shelf (tables_content trees)
+    → AreRuled shelf latest trees
+    → IsInRulesBy shelf (last_kept trees) (tables_content trees)
+
+-- and so it is beside each other, where a row that another one names is there
+abbrev pub RuledRowsAreToldBeside : Type 0
+RuledRowsAreToldBeside = (shelf : Shelf) (trees : Trees) → Fits our_schema trees
+    → Keeps ForeignKey our_schema trees → AreRuled shelf latest trees
+    → IsInRules shelf (tables_content trees)
 
 -- where what they hold is, so are the rows, if they are as the statements write them
 abbrev pub ContentIsOfRuledRows : Type 0

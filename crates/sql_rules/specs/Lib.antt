@@ -1,3 +1,4 @@
+pub mod Beside
 pub mod Columns
 pub mod Mapped
 pub mod Ruled

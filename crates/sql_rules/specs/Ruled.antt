@@ -1,15 +1,17 @@
 -- Content that is in its rules: each row of it, as the statements write it, is in those of its
 -- table.
 -- Source: profile.
-use Rattle.std.specs.Prelude.{◌≡◌, ◌≤◌, ℕ, [], ◌∷◌, Bool, true, List, Option, Some, None, IsTrue}
-use Rattle.units.specs.Words.{Moment}
-use Rattle.identifiers.specs.Words.{AccountName, VoucherCode}
+use Rattle.std.specs.Prelude.{◌≡◌, ◌≤◌, ◌&&◌, ℕ, [], ◌∷◌, Bool, true, false, List, Option, Some}
+use Rattle.std.specs.Prelude.{None, IsTrue, is_some, nat_lt}
+use Rattle.units.specs.Words.{GroupId, Moment}
+use Rattle.identifiers.specs.Words.{AccountName, SessionName, VoucherCode}
 use Rattle.buckets.specs.Words.{BucketAmount, BucketNumber}
 use Rattle.ledger.specs.Words.{ChargeNumber}
 use Rattle.shelves.specs.Shelves.{Shelf}
 use Rattle.sqlite_value.specs.declared.value.Value.TheVariants.{Null}
 use Rattle.sqlite_value.specs.Order.{Row as Values}
 use Rattle.buckets.specs.Row.{BucketRow}
+use Rattle.reserving.specs.Left.{is_open_row}
 use Rattle.reserving.specs.declared.session.Session.{Session}
 use Rattle.reserving.specs.declared.session.Counter.{Counter}
 use Rattle.ledger.specs.declared.charge.ChargeRow.{ChargeRow}
@@ -129,8 +131,28 @@ pub record IsInRulesBy (shelf : Shelf) (last : Moment) (c : TablesContent) : Typ
       → IsTrue (is_voucher code x)
   pub books : (n : ℕ) (x : BookRow) → c.books n ≡ Some x → IsTrue (is_book n x)
 
+-- ---- one row beside another
+
+-- charges are numbered from 1 to below the account's next number
+abbrev pub is_numbered : ChargeNumber → Option HeadColumns → Bool
+is_numbered n None = false
+is_numbered n (Some h) = nat_lt 0 n && nat_lt n h.next_charge
+
+-- a group has a reservation
+abbrev pub is_reserved : Option Group → Bool
+is_reserved None = false
+is_reserved (Some x) = is_some x.periods
+
+-- what is stored of an account: its charges are numbered, and a reservation is in an open session
+-- rule: rows-ruled.beside
+pub record AreBeside (r : TableRows) : Type 0 where
+  pub numbers : (n : ChargeNumber) → is_some (r.charges n) ≡ true → is_numbered n r.head ≡ true
+  pub live : (s : SessionName) (g : GroupId) → is_reserved (r.groups s g) ≡ true
+      → is_open_row (r.sessions s) ≡ true
+
 -- rule: rows-ruled.in-rules: if rows are in their rules, so is the content of the tables; and rows
 --   whose content is in its rules are in theirs, if they are as the statements write them
--- rule: rows-ruled.timely
-abbrev pub IsInRules : Shelf → TablesContent → Type 0
-IsInRules shelf c = IsInRulesBy shelf (last_in c.meta) c
+-- rule: rows-ruled.timely, rows-ruled.beside
+pub record IsInRules (shelf : Shelf) (c : TablesContent) : Type 0 where
+  pub each : IsInRulesBy shelf (last_in c.meta) c
+  pub beside : (a : AccountName) → AreBeside (c.rows a)

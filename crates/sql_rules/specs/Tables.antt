@@ -23,6 +23,7 @@ use Rattle.sql_tables.specs.Schema.{our_schema, meta, schema_at}
 use Rattle.sql_tables.specs.Statements.{Spares}
 use Rattle.sql_tables.specs.declared.fault.OpenFault.{OpenFault}
 use Rattle.sql_tables.specs.declared.fault.OpenFault.TheVariants.{Foreign, Version, Rules, Older}
+use Rattle.sql_rules.specs.Beside.{AreRightBeside}
 use Rattle.sql_rules.specs.Rules.{passes_at}
 use Rattle.sql_rules.specs.Ruled.{last_in}
 
@@ -42,15 +43,21 @@ abbrev pub AreRuledTo : Shelf → Moment → ℕ → Trees → Type 0
 AreRuledTo shelf last k trees = (at : ℕ) → at < k → IsRuledAt shelf last at trees
 
 -- of all tables of a version, by this last moment
-abbrev pub AreRuledBy : Shelf → Moment → ℕ → Trees → Type 0
-AreRuledBy shelf last v trees = AreRuledTo shelf last (length (schema_at v).tables) trees
+abbrev pub AreEachRuled : Shelf → Moment → ℕ → Trees → Type 0
+AreEachRuled shelf last v trees = AreRuledTo shelf last (length (schema_at v).tables) trees
+
+-- and none is wrong beside a row of another table
+-- rule: rows-ruled.beside
+pub record AreRuledBy (shelf : Shelf) (last : Moment) (v : ℕ) (trees : Trees) : Type 0 where
+  pub each : AreEachRuled shelf last v trees
+  pub beside : AreRightBeside trees
 
 -- the last moment that is kept there
 abbrev pub last_kept : Trees → Moment
 last_kept trees = last_in (tables_content trees).meta
 
 -- of all tables of a version, by the last moment that they keep
--- rule: rows-ruled, rows-ruled.timely
+-- rule: rows-ruled, rows-ruled.timely, rows-ruled.beside
 abbrev pub AreRuled : Shelf → ℕ → Trees → Type 0
 AreRuled shelf v trees = AreRuledBy shelf (last_kept trees) v trees
 

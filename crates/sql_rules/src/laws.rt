@@ -2,12 +2,14 @@
 
 ghost use Rattle.sql_rules.specs.Laws.{ContentIsOfRuledRows, MappedRowsAreRuled, OthersKeepRules};
 ghost use Rattle.sql_rules.specs.Laws.{PutsKeepRules, RemovalsKeepRules, RuledRowsAreMapped};
-ghost use Rattle.sql_rules.specs.Laws.{RuledRowsAreTold};
+ghost use Rattle.sql_rules.specs.Laws.{RuledRowsAreTold, RuledRowsAreToldBeside};
 
-/// Where each row of the latest version's tables is in its rules, so is what the tables hold.
-// rule: rows-ruled.in-rules
+/// Where each row of the latest version's tables is in its rules, so is what the tables hold; where
+/// each row that another one names is there, so is each beside the others.
+// rule: rows-ruled.in-rules, rows-ruled.beside
 pub fn ruled_rows_are_told_ruled()
-    ensures { RuledRowsAreTold }
+    ensures told { RuledRowsAreTold }
+    ensures beside { RuledRowsAreToldBeside }
 {}
 
 /// Where the content is in its rules, the rows are in theirs, if they are as the statements write

@@ -6,6 +6,7 @@ mod columns;
 mod kept;
 mod laws;
 mod names;
+mod pairs;
 mod periods;
 mod rows;
 mod ruling;

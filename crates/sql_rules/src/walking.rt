@@ -136,7 +136,7 @@ fn do_pass<S: Alter>(
 }
 
 /// The fault of a call of the store.
-fn fault_of(error: Error) -> OpenFault
+pub(crate) fn fault_of(error: Error) -> OpenFault
     ensures told { IsOfRows result }
     ensures none { ¬ (result ≡ Rules) }
 {

@@ -47,8 +47,10 @@ become text code terms t last ruled old new later turns = record {
       ∙ addition_read names text code terms t (tables_content old);
   tidy = λ names tidy. subst (IsTidy names) (sym turns.content)
       (tidy_addition names text code terms t (tables_content old) tidy);
-  rules = λ shelf there in'. subst (IsInRules shelf) (sym turns.content)
-      (addition_ruled shelf (tables_content old) there in' text code terms t later ruled);
+  rules = λ shelf there in'. subst (IsInRules shelf) (sym turns.content) (record {
+    each = addition_ruled shelf (tables_content old) there in' text code terms t later ruled;
+    beside = in'.beside;
+  });
   stands = record {
     tabled = record { catalog = turns.catalog; stored = turns.stored; plain = turns.plain };
     meta = ap (λ (c : TablesContent). c.meta) turns.content;

@@ -40,7 +40,8 @@ use Rattle.sql_keeper.specs.Writes.{AreTexts, columns_of, head_columns_of, meta_
 use Rattle.sql_keeper.specs.Writes.{with_all_counted, with_all_paid, with_book_of, with_counted}
 use Rattle.sql_keeper.specs.Writes.{with_held_group, with_kept, with_paid, with_redeemed}
 use Rattle.sql_keeper.specs.Writes.{with_change_put, with_scoped, with_stored, with_texts}
-use Rattle.sql_keeper.proofs.rules.TidyChanges.{tidy_change}
+use Rattle.sql_keeper.proofs.rules.Tidy.{AreAllBeside}
+use Rattle.sql_keeper.proofs.rules.TidyChanges.{beside_change, tidy_change}
 use Rattle.sql_keeper.proofs.commits.Changed.{changes_read}
 use Rattle.sql_keeper.specs.declared.putting.Known.{Known}
 use Rattle.sql_keeper.proofs.puts.KeptGroups.{sees_kept}
@@ -144,14 +145,20 @@ module _ (names : Names) (text : List ℕ) (change : Change) (texts : Option Kep
         tidy = λ t. subst (IsTidy names) (sym turns.content)
             (tidy_change names (meta_with text change) change texts (tables_content old) named may told
             t);
-        rules = λ shelf is there in'.
-            subst (λ n. IsInRulesBy shelf n (tables_content new)) (sym (ap last_in kept))
-            (subst (IsInRulesBy shelf change.moment) (sym turns.content)
-            (subst (λ n. IsInRulesBy shelf change.moment
-            (with_change n (meta_with text change) change texts (tables_content old))) (sym is)
-            (change_ruled shelf (tables_content old) there in' (meta_with text change) change texts refl
-            later (subst (λ n. is_ruled_change n change ≡ true) is may.ruled) texts_ruled
-            (subst (λ n. AreWritable n change.rows.sessions change.rows.groups) is may.reservations))));
+        rules = λ shelf is there in'. record {
+          each = subst (λ n. IsInRulesBy shelf n (tables_content new)) (sym (ap last_in kept))
+              (subst (IsInRulesBy shelf change.moment) (sym turns.content)
+              (subst (λ n. IsInRulesBy shelf change.moment
+              (with_change n (meta_with text change) change texts (tables_content old))) (sym is)
+              (change_ruled shelf (tables_content old) there in' (meta_with text change) change
+              texts refl later (subst (λ n. is_ruled_change n change ≡ true) is may.ruled)
+              texts_ruled
+              (subst (λ n. AreWritable n change.rows.sessions change.rows.groups) is
+              may.reservations))));
+          beside = subst AreAllBeside (sym turns.content)
+              (beside_change names (meta_with text change) change texts (tables_content old) named
+              may told in'.beside);
+        };
         stands = record {
           tabled = record { catalog = turns.catalog; stored = turns.stored; plain = turns.plain };
           meta = kept;

@@ -407,7 +407,7 @@ module _ (v : ℕ) (known : IsVersion v) (less : v < latest) (old mid : State) (
           let books = shelf_latest v known less old.now.trees mid.now.trees new.now.trees
           (meta_of m) kept (read.meta.is before) made.sound.lists turns b.own at in
           let rules = latest_ruled b.own v mid.now.trees new.now.trees (meta_of m)
-          (rows_made before) (meta_made before) turns (sound_fits mid.now.trees made.sound) in
+          (rows_made before) (meta_made before) turns made.sound.obeys in
           record {
             left = subst (λ t. IsLeftRuled t new.now.trees) same (record {
               left = left_latest v known less old.now.trees mid.now.trees new.now.trees (meta_of m)

@@ -178,14 +178,13 @@ tidy_first names trees t = record {
   rows = λ a.
       let own : AreTidyRows names a ((content_at 1 trees).rows a) = t.rows a in
       record {
-        live = own.live;
+        beside = record { numbers = own.beside.numbers; live = own.beside.live };
         terms = λ s g. granted_terms names (((content_at 1 trees).rows a).grant_books s g)
             (((content_at 1 trees).rows a).groups s g) (no_grant trees a s g) (own.terms s g);
         books = λ s g. granted_number (((content_at 1 trees).rows a).grant_books s g)
             (((content_at 1 trees).rows a).groups s g) (no_grant trees a s g);
         holds = own.holds;
         kinds = own.kinds;
-        charges = own.charges;
         covered = own.covered;
         texts = own.texts;
       };

@@ -8,7 +8,9 @@ use Rattle.std.proofs.lemmas.Bool.Decides.{nat_tests}
 use Rattle.std.specs.List.{AllByRecursion}
 use Rattle.shelves.specs.Shelves.{Shelf, count}
 use Rattle.sqlite_trees.specs.Tree.{Trees}
-use Rattle.sqlite_schema.specs.Rules.{Fits}
+use Rattle.sqlite_rules.specs.Lists.{Has}
+use Rattle.sqlite_schema.specs.Rules.{Obeys}
+use Rattle.sqlite_schema.specs.declared.schema.Constraint.TheVariants.{ForeignKey}
 use Rattle.sqlite_schema.specs.declared.schema.Table.{Table}
 use Rattle.sqlite_catalog.specs.Change.{KeepsRows}
 use Rattle.sql_tables.specs.Keyed.{IsStored, look}
@@ -22,9 +24,10 @@ use Rattle.sql_rows.specs.Plain.{ArePlain}
 use Rattle.sql_rows.specs.Values.{Meta, meta_in, meta_key}
 use Rattle.sql_rules.specs.Columns.{is_in_bounds}
 use Rattle.sql_rules.specs.Rules.{passes_at}
-use Rattle.sql_rules.specs.Ruled.{AreInRules, IsInRules, IsInRulesBy, last_in}
+use Rattle.sql_rules.specs.Beside.{AreRightBeside}
+use Rattle.sql_rules.specs.Ruled.{AreBeside, AreInRules, IsInRules, IsInRulesBy, last_in}
 use Rattle.sql_rules.specs.Tables.{AreRuled, AreRuledTo, IsRuledAt, last_kept, table_at}
-use Rattle.sql_rules.proofs.Contents.{content_ruled}
+use Rattle.sql_rules.proofs.BesideContents.{content_beside}
 use Rattle.sql_rules.proofs.KeptRules.{meta_kept}
 use Rattle.sql_keeper.specs.Content.{is_reserved}
 use Rattle.sql_keeper.specs.Migrates.{granted_in, with_granted}
@@ -102,19 +105,37 @@ module _ (shelf : Shelf) (old mid : Trees) where
       subst (λ n. AreRuledTo shelf n (length (first ++ later)) mid) (last_same old mid same)
       (ruled_tables shelf (last_kept old) old mid first later is kept none all)
 
+  -- tables whose rows stay are right beside each other as they were
+  still_beside : mid table.accounts.tree ≡ old table.accounts.tree
+      → mid table.charges.tree ≡ old table.charges.tree
+      → mid table.session_groups.tree ≡ old table.session_groups.tree
+      → mid table.sessions.tree ≡ old table.sessions.tree → AreRightBeside old → AreRightBeside mid
+  still_beside accounts charges groups sessions right = record {
+    numbers = λ r s h k. right.numbers r s (subst (λ rows. Has rows r) accounts h)
+        (subst (λ rows. Has rows s) charges k);
+    reservations = λ r s h k. right.reservations r s (subst (λ rows. Has rows r) groups h)
+        (subst (λ rows. Has rows s) sessions k);
+  }
+
   -- those of each older version
   -- rule: database-migrated.ruled-version
   pub ruled_since : (v : ℕ) → IsVersion v → v < latest → AreKept v old mid → AreRuled shelf v old →
       AreRuled shelf latest mid
   ruled_since zero known less kept all = absurd (omega (arith, known.0))
-  ruled_since (suc zero) known less kept all =
-      ruled_by_last (schema_at 1).tables
-      (tables_between (length (pieces_to 1)) (length (pieces_to latest))) refl kept.0.0 kept.0
-      kept.1 all
-  ruled_since (suc (suc zero)) known less kept all =
-      ruled_by_last (schema_at 2).tables
-      (tables_between (length (pieces_to 2)) (length (pieces_to latest))) refl kept.0.0 kept.0
-      kept.1 all
+  ruled_since (suc zero) known less kept all = record {
+    each = ruled_by_last (schema_at 1).tables
+        (tables_between (length (pieces_to 1)) (length (pieces_to latest))) refl kept.0.0 kept.0
+        kept.1 all.each;
+    beside = still_beside kept.0.1.0 kept.0.1.1.1.1.1.1.1.1.1.0 kept.0.1.1.1.1.1.0 kept.0.1.1.1.1.0
+        all.beside;
+  }
+  ruled_since (suc (suc zero)) known less kept all = record {
+    each = ruled_by_last (schema_at 2).tables
+        (tables_between (length (pieces_to 2)) (length (pieces_to latest))) refl kept.0.0 kept.0
+        kept.1 all.each;
+    beside = still_beside kept.0.1.0 kept.0.1.1.1.1.1.1.1.1.1.0 kept.0.1.1.1.1.1.0 kept.0.1.1.1.1.0
+        all.beside;
+  }
   ruled_since (suc (suc (suc n))) known less kept all =
       let low : suc (suc (suc n)) < 3 = less in absurd (omega (arith, low))
 
@@ -161,6 +182,13 @@ granted_by shelf false c in' = record {
   books = in'.books;
 }
 
+granted_beside : (b : Bool) (c : TablesContent) → ((a : List ℕ) → AreBeside (c.rows a)) →
+    (a : List ℕ)
+    → AreBeside ((if b then c else record c { rows = λ a. granted_in (c.rows a) }).rows a)
+granted_beside true c beside a = beside a
+granted_beside false c beside a =
+    record { numbers = (beside a).numbers; live = (beside a).live }
+
 granted_meta : (b : Bool) (c : TablesContent)
     → (if b then c else record c { rows = λ a. granted_in (c.rows a) }).meta ≡ c.meta
 granted_meta true c = refl
@@ -171,18 +199,21 @@ granted_meta false c = refl
 module _ (shelf : Shelf) (v : ℕ) (mid new : Trees) (m : Meta) (all : AreRuled shelf latest mid)
     (is : (tables_content mid).meta ≡ Some m) (turns : Turns (with_latest v m) mid new) where
   -- rule: database-migrated.ruled-version
-  pub latest_ruled : Fits our_schema mid → IsInRules shelf (tables_content new)
-  latest_ruled fits =
-      let held = content_ruled shelf mid fits all in
+  pub latest_ruled : Obeys our_schema mid → IsInRules shelf (tables_content new)
+  latest_ruled obeys =
+      let held = content_beside shelf mid all (obeys.rules ForeignKey)
+      (record { rules = λ rule other. obeys.rules rule; indexed = obeys.indexed }) in
       let given = with_granted v (tables_content mid) in
       let same = granted_meta (nat_le 2 v) (tables_content mid) ∙ is in
       let by_row : IsInRulesBy shelf m.last (tables_content mid) =
-      subst (λ o. IsInRulesBy shelf (last_in o) (tables_content mid)) is held in
-      subst (IsInRules shelf) (sym turns.content)
-      (meta_kept shelf given (granted_by shelf (nat_le 2 v) (tables_content mid) by_row)
-      (record m { version = latest }) (held.meta m is)
-      (λ none. absurd (let some : is_some given.meta ≡ true = ap is_some same in
-      let clash : true ≡ false = sym some ∙ none in cc)))
+      subst (λ o. IsInRulesBy shelf (last_in o) (tables_content mid)) is held.each in
+      subst (IsInRules shelf) (sym turns.content) (record {
+        each = meta_kept shelf given (granted_by shelf (nat_le 2 v) (tables_content mid) by_row)
+            (record m { version = latest }) (held.each.meta m is)
+            (λ none. absurd (let some : is_some given.meta ≡ true = ap is_some same in
+            let clash : true ≡ false = sym some ∙ none in cc));
+        beside = granted_beside (nat_le 2 v) (tables_content mid) held.beside;
+      })
 
   pub latest_plain : ArePlain new
   latest_plain = turns.plain (rows_plain shelf mid all)

@@ -471,7 +471,7 @@ any_read old new r f clean = elim (either_version f.0 f.1) [
       let held = ((f.4 less).done clean).2 in
       record {
         read = record { kept = held.left.left.kept; books = held.books; last = held.moment };
-        rules = λ fits. held.left.rules r.own held.books;
+        rules = λ obeys. held.left.rules r.own held.books;
         plain = held.left.plain;
       }
 ]

@@ -26,7 +26,7 @@ use Rattle.sql_rows.specs.Plain.{AreAll, ArePlain, is_plain_group, is_plain_head
 use Rattle.sql_rows.specs.Plain.{is_plain_session}
 use Rattle.sql_rows.proofs.writes.Stays.{same_content}
 use Rattle.sql_rules.specs.Columns.{is_moment}
-use Rattle.sql_rules.specs.Ruled.{AreInRules, IsInRules}
+use Rattle.sql_rules.specs.Ruled.{AreBeside, AreInRules, IsInRules}
 use Rattle.sql_keeper.specs.Content.{Names, answer_in, tables_of}
 use Rattle.sql_keeper.specs.Creates.{first_meta, BuildsBook, IsNewBook}
 use Rattle.sql_keeper.specs.Laws.{AreNewTablesEmpty}
@@ -109,14 +109,19 @@ new_empty names =
     ap (tables_of names) nothing_stored
     ∙ (λ i. record (tables_of names no_content) { answers = λ a k. none_kept a k i })
 
+beside_nothing : AreBeside nothing
+beside_nothing = record {
+  numbers = λ n k. not_both (sym k);
+  live = λ s g k. not_both (sym k);
+}
+
 tidy_nothing : (names : Names) (a : List ℕ) → AreTidyRows names a nothing
 tidy_nothing names a = record {
-  live = λ s g k. not_both (sym k);
+  beside = beside_nothing;
   terms = λ s g. refl;
   books = λ s g k. not_both (sym k);
   holds = λ s g n k. not_both (sym k);
   kinds = λ n k. not_both (sym k);
-  charges = λ n k. not_both (sym k);
   covered = λ n k. not_both (sym k);
   texts = λ kind name number k e. absurd (cc);
 }
@@ -150,11 +155,14 @@ ruled_nothing shelf a = record {
 ruled_new : (shelf : Shelf) (text : List ℕ)
     → IsInRules shelf (with_meta (first_meta text) no_content)
 ruled_new shelf text = record {
-  once = omega arith;
-  meta = λ m e. first m (cc e);
-  rows = ruled_nothing shelf;
-  vouchers = λ code x e. absurd (cc e);
-  books = λ n x e. absurd (cc e);
+  each = record {
+    once = omega arith;
+    meta = λ m e. first m (cc e);
+    rows = ruled_nothing shelf;
+    vouchers = λ code x e. absurd (cc e);
+    books = λ n x e. absurd (cc e);
+  };
+  beside = λ a. beside_nothing;
 }
   where
     first : (m : Meta) → first_meta text ≡ m → is_moment m.last ≡ true

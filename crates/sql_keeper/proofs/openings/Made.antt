@@ -6,15 +6,15 @@ use Rattle.std.proofs.lemmas.Str.{IsUtf8-string_bytes}
 use Rattle.sqlite_trees.specs.declared.store.Store.{Ghosts}
 use Rattle.sqlite_trees.specs.Objects.{catalog_tree}
 use Rattle.sqlite_trees.specs.Tree.{Trees}
-use Rattle.sqlite_catalog.specs.Listing.{Lists}
+use Rattle.sqlite_catalog.specs.Listing.{IsSound, Lists}
+use Rattle.sqlite_schema.specs.declared.schema.Constraint.TheVariants.{ForeignKey}
 use Rattle.sqlite.specs.Held.{Held, state}
 use Rattle.sqlite.specs.State.{HasCleanDisk, IsLive, State}
 use Rattle.sql_tables.specs.Statements.{HasIdleTables}
-use Rattle.sql_tables.proofs.Keeps.{fits_of}
 use Rattle.sql_rows.specs.Content.{tables_content}
 use Rattle.sql_rules.specs.Ruled.{IsInRules}
 use Rattle.sql_rules.specs.Tables.{AreRuled}
-use Rattle.sql_rules.proofs.Contents.{content_ruled}
+use Rattle.sql_rules.proofs.BesideContents.{content_beside}
 use Rattle.sql_tables.specs.Schema.{latest}
 use Rattle.sql_keeper.specs.Content.{last_in}
 use Rattle.sql_keeper.specs.Creates.{CreatesBook, first_meta}
@@ -53,7 +53,7 @@ module _ {S : Type 0} (g : Ghosts S) (law : AreSettled g) (h : Held S) (r : Read
           rules = λ s is. subst (λ x. IsInRules x (tables_content trees))
               (same_shelf (string_bytes r.text) (tables_content trees).books r.own s it.read.books
               is)
-              (it.rules (fits_of (state g h) (on clean) book live));
+              (it.rules (subst (λ s. IsSound s trees) book.schema (live (on clean)).0).obeys);
           plain = it.plain;
         };
         books = it.read.books;
@@ -99,7 +99,7 @@ created_read text old new u r c alone same last clean =
             alone.first made.books);
         last = last ∙ sym (ap last_in made.meta);
       };
-      rules = λ fits. made.rules r.own;
+      rules = λ obeys. made.rules r.own;
       plain = made.plain;
     }
 
@@ -108,6 +108,7 @@ pub ruled_read : (r : ReadBooks) (trees : Trees) → IsReadOf r trees → AreRul
     → IsReadRuled r trees
 ruled_read r trees read ruled = record {
   read = read;
-  rules = λ fits. content_ruled r.own trees fits ruled;
+  rules = λ obeys. content_beside r.own trees ruled (obeys.rules ForeignKey)
+      (record { rules = λ rule other. obeys.rules rule; indexed = obeys.indexed });
   plain = rows_plain r.own trees ruled;
 }

@@ -410,7 +410,7 @@ module _ (shelf : Shelf) (c : TablesContent) (there : is_some c.meta ≡ true)
       → IsInRulesBy shelf change.moment (with_change (shelf_names shelf) m change texts c)
   change_ruled m change texts last later rule told may =
       change_kept shelf change.moment m change texts c refl last rule told may there
-      (later_kept shelf (last_in c.meta) change.moment c later in')
+      (later_kept shelf (last_in c.meta) change.moment c later in'.each)
 
   -- rule: rows-ruled.ruled-change, rows-ruled.timely
   pub addition_ruled : (text code : List ℕ) (terms : VoucherTerms) (t : ℕ) → last_in c.meta ≤ t
@@ -418,7 +418,7 @@ module _ (shelf : Shelf) (c : TablesContent) (there : is_some c.meta ≡ true)
       → IsInRulesBy shelf t (with_addition text code terms t c)
   addition_ruled text code terms t later rule =
       addition_kept shelf t text code terms c rule there
-      (later_kept shelf (last_in c.meta) t c later in')
+      (later_kept shelf (last_in c.meta) t c later in'.each)
 
   -- rule: rows-ruled.ruled-change, rows-ruled.timely
   pub sweep_ruled : (text : List ℕ) (t : ℕ) (xs : List SweptAccount) → last_in c.meta ≤ t
@@ -427,7 +427,7 @@ module _ (shelf : Shelf) (c : TablesContent) (there : is_some c.meta ≡ true)
       → IsInRulesBy shelf t (with_sweep (shelf_names shelf) text t xs c)
   sweep_ruled text t xs later rule may =
       sweep_kept shelf t text xs c rule may there
-      (later_kept shelf (last_in c.meta) t c later in')
+      (later_kept shelf (last_in c.meta) t c later in'.each)
 
 -- ---- a book more
 
@@ -498,11 +498,13 @@ module _ (shelf : Shelf) (from : ℕ) (b : Book) where
   pub dated_kept : (n : ℕ) (text : List ℕ) (c : TablesContent)
       → is_book n (record { starts = from; content = text }) ≡ true → IsInRules shelf c
       → IsInRules (with_book shelf from b) (with_dated n from text c)
-  dated_kept n text c rule in' =
-      book_kept (with_book shelf from b) c (record {
-        once = in'.once;
-        meta = in'.meta;
-        rows = λ a. more_rows a (c.rows a) (in'.rows a);
-        vouchers = in'.vouchers;
-        books = in'.books;
-      }) n (record { starts = from; content = text }) rule
+  dated_kept n text c rule in' = record {
+    each = book_kept (with_book shelf from b) c (record {
+      once = in'.each.once;
+      meta = in'.each.meta;
+      rows = λ a. more_rows a (c.rows a) (in'.each.rows a);
+      vouchers = in'.each.vouchers;
+      books = in'.each.books;
+    }) n (record { starts = from; content = text }) rule;
+    beside = in'.beside;
+  }

@@ -20,6 +20,7 @@ use Rattle.keepers.specs.declared.loaded.Redeemed.{Redeemed}
 use Rattle.keepers.specs.Tables.{charge_in}
 use Rattle.sql_rows.specs.Values.{Kept, Meta, reference_kind, request_kind}
 use Rattle.sql_rows.specs.Content.{TablesContent, TableRows, with_answer, with_meta, with_rows}
+use Rattle.sql_rules.specs.Ruled.{AreBeside}
 use Rattle.sql_keeper.specs.Content.{Names, is_numbered, is_reserved, kept_in, names_numbered}
 use Rattle.sql_keeper.specs.Tests.{AreNumbered, AreWritable, IsPeriodNamed, IsWritable, MayStand}
 use Rattle.sql_keeper.specs.Tests.{first_number}
@@ -51,7 +52,8 @@ pub record MayBeOver (names : Names) (w : StoredRows) (r : TableRows) : Type 0 w
   pub numbers : (n : ℕ) → is_numbered n r.head ≡ true → is_numbered n (Some (head_columns_of w)) ≡
       true
 
-module _ (names : Names) (a : List ℕ) (w : StoredRows) (r : TableRows) (t : AreTidyRows names a r)
+-- a reservation stays in an open session, and a charge stays numbered
+module _ (names : Names) (w : StoredRows) (r : TableRows) (b : AreBeside r)
     (ends : EndsTidy w r) (may : MayBeOver names w r) where
   live_after : (s : List ℕ) (g : ℕ)
       → is_reserved
@@ -68,9 +70,18 @@ module _ (names : Names) (a : List ℕ) (w : StoredRows) (r : TableRows) (t : Ar
       at : (o : Option SessionGroup) → group_in s g w.groups ≡ o
           → is_reserved (first_of (option_map (columns_of names) o) (r.groups s g)) ≡ true
           → is_open_row (first_of (session_in s w.sessions) (r.sessions s)) ≡ true
-      at None e k = ends s g e k (t.live s g k)
+      at None e k = ends s g e k (b.live s g k)
       at (Some x) e k = put x x.reservation e refl k
 
+  -- rule: rows-ruled.beside
+  pub beside_stored : AreBeside (over_stored names w r)
+  beside_stored = record {
+    numbers = λ n k. may.numbers n (b.numbers n k);
+    live = live_after;
+  }
+
+module _ (names : Names) (a : List ℕ) (w : StoredRows) (r : TableRows) (t : AreTidyRows names a r)
+    (ends : EndsTidy w r) (may : MayBeOver names w r) where
   terms_after : (s : List ℕ) (g : ℕ)
       → has_terms names (book_over (group_in s g w.groups) (r.grant_books s g))
       (first_of (option_map (columns_of names) (group_in s g w.groups)) (r.groups s g)) ≡ true
@@ -131,49 +142,52 @@ module _ (names : Names) (a : List ℕ) (w : StoredRows) (r : TableRows) (t : Ar
 
   pub tidy_stored : AreTidyRows names a (over_stored names w r)
   tidy_stored = record {
-    live = live_after;
+    beside = beside_stored names w r t.beside ends may;
     terms = terms_after;
     books = books_after;
     holds = holds_after;
     kinds = kinds_after;
-    charges = λ n k. may.numbers n (t.charges n k);
     covered = t.covered;
     texts = t.texts;
   }
 
-module _ (names : Names) (a : List ℕ) (cs : List ChargeRow) (r : TableRows)
-    (t : AreTidyRows names a r)
+module _ (cs : List ChargeRow) (r : TableRows)
     (numbered : (n : ℕ) (x : ChargeRow) → charge_in n cs ≡ Some x → is_numbered n r.head ≡ true)
   where
-    charges_after : (n : ℕ) → is_some (paid_in (charge_in n cs) (r.charges n)) ≡ true →
-        is_numbered n r.head ≡ true
-    charges_after n = at (charge_in n cs) refl
-      where
-        at : (o : Option ChargeRow) → charge_in n cs ≡ o
-            → is_some (paid_in o (r.charges n)) ≡ true → is_numbered n r.head ≡ true
-        at None e k = t.charges n k
-        at (Some x) e k = numbered n x e
+    module _ (b : AreBeside r) where
+      charges_after : (n : ℕ) → is_some (paid_in (charge_in n cs) (r.charges n)) ≡ true →
+          is_numbered n r.head ≡ true
+      charges_after n = at (charge_in n cs) refl
+        where
+          at : (o : Option ChargeRow) → charge_in n cs ≡ o
+              → is_some (paid_in o (r.charges n)) ≡ true → is_numbered n r.head ≡ true
+          at None e k = b.numbers n k
+          at (Some x) e k = numbered n x e
 
-    covered_after : (n : ℕ) → is_some (blocks_in (charge_in n cs) (r.covered n)) ≡ true →
-        is_some (paid_in (charge_in n cs) (r.charges n)) ≡ true
-    covered_after n = at (charge_in n cs)
-      where
-        at : (o : Option ChargeRow) → is_some (blocks_in o (r.covered n)) ≡ true →
-            is_some (paid_in o (r.charges n)) ≡ true
-        at None k = t.covered n k
-        at (Some x) k = refl
+      -- rule: rows-ruled.beside
+      pub beside_paid : AreBeside (over_paid cs r)
+      beside_paid = record { numbers = charges_after; live = b.live }
 
-    pub tidy_paid : AreTidyRows names a (over_paid cs r)
-    tidy_paid = record {
-      live = t.live;
-      terms = t.terms;
-      books = t.books;
-      holds = t.holds;
-      kinds = t.kinds;
-      charges = charges_after;
-      covered = covered_after;
-      texts = t.texts;
-    }
+    module _ (names : Names) (a : List ℕ) (t : AreTidyRows names a r) where
+      covered_after : (n : ℕ) → is_some (blocks_in (charge_in n cs) (r.covered n)) ≡ true →
+          is_some (paid_in (charge_in n cs) (r.charges n)) ≡ true
+      covered_after n = at (charge_in n cs)
+        where
+          at : (o : Option ChargeRow) → is_some (blocks_in o (r.covered n)) ≡ true →
+              is_some (paid_in o (r.charges n)) ≡ true
+          at None k = t.covered n k
+          at (Some x) k = refl
+
+      pub tidy_paid : AreTidyRows names a (over_paid cs r)
+      tidy_paid = record {
+        beside = beside_paid t.beside;
+        terms = t.terms;
+        books = t.books;
+        holds = t.holds;
+        kinds = t.kinds;
+        covered = covered_after;
+        texts = t.texts;
+      }
 
 -- ---- texts that are kept
 
@@ -181,12 +195,11 @@ tidy_answer : (names : Names) (a : List ℕ) (kind : ℕ) (name : List ℕ) (num
     (r : TableRows) → is_key kind number ≡ true → is_some (kept_in a k) ≡ true
     → AreTidyRows names a r → AreTidyRows names a (with_answer kind name number k r)
 tidy_answer names a kind name number k r key told t = record {
-  live = t.live;
+  beside = record { numbers = t.beside.numbers; live = t.beside.live };
   terms = t.terms;
   books = t.books;
   holds = t.holds;
   kinds = t.kinds;
-  charges = t.charges;
   covered = t.covered;
   texts = λ l s m x e.
       at l s m x (nat_eq kind l) (same_name name s) (nat_eq number m) refl refl e;
@@ -208,30 +221,52 @@ tidy_answer names a kind name number k r key told t = record {
 
 -- ---- all accounts
 
-module _ (names : Names) (a : List ℕ) (f : TableRows → TableRows) (c : TablesContent)
-    (own : AreTidyRows names a (c.rows a) → AreTidyRows names a (f (c.rows a)))
-    (t : (x : List ℕ) → AreTidyRows names x (c.rows x)) where
-  pub tidy_at : (x : List ℕ) →
-      AreTidyRows names x (if same_name a x then f (c.rows x) else c.rows x)
-  tidy_at x = at (same_name a x) refl
+module _ (P : List ℕ → TableRows → Type 0) (a : List ℕ) (f : TableRows → TableRows)
+    (c : TablesContent) (own : P a (c.rows a) → P a (f (c.rows a)))
+    (t : (x : List ℕ) → P x (c.rows x)) where
+  pub each_at : (x : List ℕ) → P x (if same_name a x then f (c.rows x) else c.rows x)
+  each_at x = at (same_name a x) refl
     where
-      at : (b : Bool) → same_name a x ≡ b →
-          AreTidyRows names x (if b then f (c.rows x) else c.rows x)
-      at true e = subst (λ y. AreTidyRows names y (f (c.rows y))) (name_from a x e) (own (t a))
+      at : (b : Bool) → same_name a x ≡ b → P x (if b then f (c.rows x) else c.rows x)
+      at true e = subst (λ y. P y (f (c.rows y))) (name_from a x e) (own (t a))
       at false e = t x
+
+-- each row of each account is right beside the others
+abbrev pub AreAllBeside : TablesContent → Type 0
+AreAllBeside c = (x : List ℕ) → AreBeside (c.rows x)
+
+beside_texts : (a : List ℕ) (key : Key) (k : Kept) (c : TablesContent) → AreAllBeside c
+    → AreAllBeside (with_texts a key k c)
+beside_texts a (Request s n) k c t =
+    each_at (λ x. AreBeside) a (with_answer request_kind s n k) c
+    (λ own. record { numbers = own.numbers; live = own.live }) t
+beside_texts a (Reference x) k c t =
+    each_at (λ x. AreBeside) a (with_answer reference_kind x 0 k) c
+    (λ own. record { numbers = own.numbers; live = own.live }) t
+
+beside_kept : (a : List ℕ) (kept : Option KeptAnswer) (texts : Option Kept) (c : TablesContent)
+    → AreAllBeside c → AreAllBeside (with_kept a kept texts c)
+beside_kept a None texts c t = t
+beside_kept a (Some k) None c t = t
+beside_kept a (Some k) (Some x) c t = beside_texts a (key_of k.content) x c t
+
+beside_redeemed : (redeemed : Option Redeemed) (c : TablesContent) → AreAllBeside c
+    → AreAllBeside (with_redeemed redeemed c)
+beside_redeemed None c t = t
+beside_redeemed (Some x) c t = t
 
 pub tidy_texts : (names : Names) (a : List ℕ) (key : Key) (k : Kept) (c : TablesContent)
     → is_some (kept_in a k) ≡ true → IsTidy names c → IsTidy names (with_texts a key k c)
 tidy_texts names a (Request s n) k c told t = record {
   there = t.there;
   once = t.once;
-  rows = tidy_at names a (with_answer request_kind s n k) c
+  rows = each_at (AreTidyRows names) a (with_answer request_kind s n k) c
       (tidy_answer names a request_kind s n k (c.rows a) refl told) t.rows;
 }
 tidy_texts names a (Reference x) k c told t = record {
   there = t.there;
   once = t.once;
-  rows = tidy_at names a (with_answer reference_kind x 0 k) c
+  rows = each_at (AreTidyRows names) a (with_answer reference_kind x 0 k) c
       (tidy_answer names a reference_kind x 0 k (c.rows a) refl told) t.rows;
 }
 
@@ -263,7 +298,7 @@ pub tidy_opened : (names : Names) (a : List ℕ) (w : StoredRows) (c : TablesCon
 tidy_opened names a w c ends may t = record {
   there = t.there;
   once = t.once;
-  rows = tidy_at names a (over_stored names w) c
+  rows = each_at (AreTidyRows names) a (over_stored names w) c
       (λ own. tidy_stored names a w (c.rows a) own ends may) t.rows;
 }
 
@@ -273,8 +308,8 @@ pub tidy_charges : (names : Names) (a : List ℕ) (cs : List ChargeRow) (c : Tab
 tidy_charges names a cs c numbered t = record {
   there = t.there;
   once = t.once;
-  rows = tidy_at names a (over_paid cs) c
-      (λ own. tidy_paid names a cs (c.rows a) own numbered) t.rows;
+  rows = each_at (AreTidyRows names) a (over_paid cs) c
+      (λ own. tidy_paid cs (c.rows a) numbered names a own) t.rows;
 }
 
 -- ---- all that is written of an account
@@ -311,22 +346,41 @@ module _ (names : Names) (a : List ℕ) (w : StoredRows) (cs : List ChargeRow)
   head_is : after_rows.rows a ≡ over_stored names w (c.rows a)
   head_is = ap (λ b. if b then over_stored names w (c.rows a) else c.rows a) (name_itself a)
 
+  written_is : with_all_paid a cs (with_stored a names w (with_meta m c))
+      ≡ with_rows a (over_paid cs) after_rows
+  written_is =
+      paid_over a cs (with_stored a names w (with_meta m c))
+      (numbered_apart (first_number (c.rows a).head) w.next_charge cs numbers)
+      ∙ ap (with_rows a (over_paid cs))
+      (stored_over a names sessions w (with_meta m c) keyed may)
+
+  -- the charges are numbered on from the account's next number
+  numbered : (n : ℕ) (x : ChargeRow) → charge_in n cs ≡ Some x
+      → is_numbered n (after_rows.rows a).head ≡ true
+  numbered n x is =
+      subst (λ (r : TableRows). is_numbered n r.head ≡ true) (sym head_is)
+      (numbered_among n (first_number (c.rows a).head) w.next_charge cs x numbers
+      (begins n (c.rows a).head).first is)
+
+  -- rule: rows-ruled.beside
+  pub beside_written : EndsTidy w (c.rows a) → MayBeOver names w (c.rows a) → AreAllBeside c
+      → AreAllBeside (with_redeemed redeemed (with_kept a kept texts
+      (with_all_paid a cs (with_stored a names w (with_meta m c)))))
+  beside_written ends put t =
+      let rows : AreAllBeside after_rows =
+      each_at (λ x. AreBeside) a (over_stored names w) (with_meta m c)
+      (λ own. beside_stored names w (c.rows a) own ends put) t in
+      let paid : AreAllBeside (with_rows a (over_paid cs) after_rows) =
+      each_at (λ x. AreBeside) a (over_paid cs) after_rows
+      (beside_paid cs (after_rows.rows a) numbered) rows in
+      beside_redeemed redeemed _ (beside_kept a kept texts _
+      (subst AreAllBeside (sym written_is) paid))
+
   pub tidy_written : EndsTidy w (c.rows a) → MayBeOver names w (c.rows a) → IsTidy names c
       → IsTidy names (with_redeemed redeemed (with_kept a kept texts
       (with_all_paid a cs (with_stored a names w (with_meta m c)))))
   tidy_written ends put t =
       let rows = tidy_opened names a w (with_meta m c) ends put (tidy_meta names m c t) in
-      let paid = tidy_charges names a cs after_rows (λ n x is.
-      subst (λ (r : TableRows). is_numbered n r.head ≡ true) (sym head_is)
-      (numbered_among n (first_number (c.rows a).head) w.next_charge cs x numbers
-      (begins n (c.rows a).head).first is)) rows in
+      let paid = tidy_charges names a cs after_rows numbered rows in
       tidy_redeemed names redeemed _ (tidy_kept names a kept texts _ told
-      (subst (IsTidy names) (sym (written_is)) paid))
-    where
-      written_is : with_all_paid a cs (with_stored a names w (with_meta m c))
-          ≡ with_rows a (over_paid cs) after_rows
-      written_is =
-          paid_over a cs (with_stored a names w (with_meta m c))
-          (numbered_apart (first_number (c.rows a).head) w.next_charge cs numbers)
-          ∙ ap (with_rows a (over_paid cs))
-          (stored_over a names sessions w (with_meta m c) keyed may)
+      (subst (IsTidy names) (sym written_is) paid))

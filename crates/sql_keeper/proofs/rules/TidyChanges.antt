@@ -21,7 +21,8 @@ use Rattle.sql_keeper.specs.Tidy.{has_terms}
 use Rattle.sql_keeper.specs.Writes.{AreTexts, meta_at, with_change}
 use Rattle.sql_keeper.proofs.commits.Changed.{keyed_named, open_named, settled_each}
 use Rattle.sql_keeper.proofs.puts.Overlays.{not_both}
-use Rattle.sql_keeper.proofs.rules.Tidy.{may_be_over, tidy_meta, tidy_written}
+use Rattle.sql_keeper.proofs.rules.Tidy.{AreAllBeside, beside_written, may_be_over, tidy_meta}
+use Rattle.sql_keeper.proofs.rules.Tidy.{tidy_written}
 
 -- ---- a change
 
@@ -47,6 +48,22 @@ pub tidy_change : (names : Names) (m : Meta) (change : Change) (texts : Option K
     → IsTidy names (with_change names m change texts c)
 tidy_change names m change texts c named may told t =
     tidy_written names change.number change.rows change.charges.items change.kept texts
+    change.redeemed m c change.rows.sessions (keyed_named change.rows named) may.reservations
+    may.numbers told
+    (ends_settled change.rows (c.rows change.number)
+    (settled_each change.rows.sessions change.rows.groups (c.rows change.number) may.settled))
+    (may_be_over names change.number change.rows change.charges.items change.kept texts
+    change.redeemed m c change.rows.sessions (keyed_named change.rows named) may.reservations
+    may.numbers told (open_named change.rows.sessions (c.rows change.number))) t
+
+-- rule: rows-ruled.beside
+pub beside_change : (names : Names) (m : Meta) (change : Change) (texts : Option Kept)
+    (c : TablesContent)
+    → IsNamed change.rows → MayBeMade names change (c.rows change.number)
+    → AreTexts change.number change.kept texts → AreAllBeside c
+    → AreAllBeside (with_change names m change texts c)
+beside_change names m change texts c named may told t =
+    beside_written names change.number change.rows change.charges.items change.kept texts
     change.redeemed m c change.rows.sessions (keyed_named change.rows named) may.reservations
     may.numbers told
     (ends_settled change.rows (c.rows change.number)
@@ -109,13 +126,12 @@ tidy_dated names more n from text c t = record {
   rows = λ a.
       let own : AreTidyRows names a (c.rows a) = t.rows a in
       record {
-        live = own.live;
+        beside = own.beside;
         terms = λ s g. terms_still names more ((c.rows a).grant_books s g) ((c.rows a).groups s g)
             (own.terms s g);
         books = own.books;
         holds = own.holds;
         kinds = own.kinds;
-        charges = own.charges;
         covered = own.covered;
         texts = own.texts;
       };

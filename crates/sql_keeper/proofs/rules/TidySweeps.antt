@@ -8,35 +8,36 @@ use Rattle.reserving.specs.declared.session.SessionGroup.{SessionGroup}
 use Rattle.reserving.specs.Sessions.{group_in}
 use Rattle.reserving.specs.Stored.{StoredRows}
 use Rattle.sql_rows.specs.Content.{TablesContent, TableRows}
+use Rattle.sql_rules.specs.Ruled.{AreBeside}
 use Rattle.sql_keeper.specs.Content.{Names, is_numbered}
 use Rattle.sql_keeper.specs.Sweeps.{AreAllSwept, AreSweptRows, IsSweptOf, with_sweep}
 use Rattle.sql_keeper.specs.Tests.{IsWritable, MayStand}
-use Rattle.sql_keeper.specs.Tidy.{AreTidyRows, IsTidy}
+use Rattle.sql_keeper.specs.Tidy.{AreTidyRows, EndsTidy, IsTidy}
 use Rattle.sql_keeper.specs.Writes.{head_columns_of, meta_at}
 use Rattle.sql_keeper.specs.declared.swept_rows.SweptAccount.{SweptAccount}
 use Rattle.sql_keeper.proofs.commits.Changed.{may_at, over_stored}
 use Rattle.sql_keeper.proofs.sweeps.Swept.{found_one, next_is, row_after, rows_are, swept_at}
 use Rattle.sql_keeper.proofs.sweeps.Swept.{swept_kept, swept_meta}
 use Rattle.sql_keeper.proofs.sweeps.SweptNamed.{after, may_swept, opens_swept, settled_swept}
-use Rattle.sql_keeper.proofs.rules.Tidy.{tidy_meta, tidy_stored}
+use Rattle.sql_keeper.proofs.rules.Tidy.{AreAllBeside, MayBeOver, beside_stored, tidy_meta}
+use Rattle.sql_keeper.proofs.rules.Tidy.{tidy_stored}
 use Rattle.sql_keeper.proofs.rules.TidyChanges.{ends_settled}
 
 -- ---- what is written of an account
 
-module _ (names : Names) (shelf : Shelf) (t : ℕ) (a : List ℕ) (r : TableRows)
-    (tidy : AreTidyRows names a r) (w : StoredRows) (swept : AreSweptRows names shelf t r w) where
+module _ (names : Names) (shelf : Shelf) (t : ℕ) (r : TableRows) (w : StoredRows)
+    (swept : AreSweptRows names shelf t r w) where
   abbrev among : List Session
   among = (after names shelf t r w swept).sessions
 
-  tidy_swept : AreTidyRows names a (over_stored names w r)
-  tidy_swept = tidy_stored names a w r tidy
-      (ends_settled w r (settled_swept names shelf t r w swept)) (record {
-        live = λ s g x y is has. opens_swept names shelf t r w swept s (stands s g x y is has).live;
-        before = λ s g x y is has. (stands s g x y is has).before;
-        after = λ s g x y is has. (stands s g x y is has).after;
-        numbers = λ n is. sym (ap (is_numbered n) ((swept.live shelf t).0 ∙ ap (λ m. Some (record
-            (head_columns_of swept.before) { next_charge = m })) next_same)) ∙ is;
-      })
+  over : MayBeOver names w r
+  over = record {
+    live = λ s g x y is has. opens_swept names shelf t r w swept s (stands s g x y is has).live;
+    before = λ s g x y is has. (stands s g x y is has).before;
+    after = λ s g x y is has. (stands s g x y is has).after;
+    numbers = λ n is. sym (ap (is_numbered n) ((swept.live shelf t).0 ∙ ap (λ m. Some (record
+        (head_columns_of swept.before) { next_charge = m })) next_same)) ∙ is;
+  }
     where
       next_same : swept.before.next_charge ≡ w.next_charge
       next_same = sym (ap (λ (x : StoredRows). x.next_charge) swept.is
@@ -46,6 +47,15 @@ module _ (names : Names) (shelf : Shelf) (t : ℕ) (a : List ℕ) (r : TableRows
           → group_in s g w.groups ≡ Some x → x.reservation ≡ Some y → IsWritable names among s y
       stands s g x y is has = subst (MayStand names among s) has
           (may_at names among w.groups (may_swept names shelf t r w swept) s g x is)
+
+  ends : EndsTidy w r
+  ends = ends_settled w r (settled_swept names shelf t r w swept)
+
+  tidy_swept : (a : List ℕ) → AreTidyRows names a r → AreTidyRows names a (over_stored names w r)
+  tidy_swept a tidy = tidy_stored names a w r tidy ends over
+
+  beside_swept : AreBeside r → AreBeside (over_stored names w r)
+  beside_swept own = beside_stored names w r own ends over
 
 -- ---- all accounts
 
@@ -67,5 +77,19 @@ tidy_sweep names text shelf t c xs ranges all tidy =
     at a None e = tidy.rows a
     at a (Some x) e =
         let one = found_one (IsSweptOf names shelf t c) a xs x all.each e in
-        tidy_swept names shelf t a (c.rows a) (tidy.rows a) x.rows
-        (subst (λ n. AreSweptRows names shelf t (c.rows n) x.rows) one.1 one.0)
+        tidy_swept names shelf t (c.rows a) x.rows
+        (subst (λ n. AreSweptRows names shelf t (c.rows n) x.rows) one.1 one.0) a (tidy.rows a)
+
+-- rule: rows-ruled.beside
+pub beside_sweep : (names : Names) (text : List ℕ) (shelf : Shelf) (t : ℕ) (c : TablesContent)
+    (xs : List SweptAccount) → IsShelf shelf → AreAllSwept names shelf t c xs → AreAllBeside c
+    → AreAllBeside (with_sweep names text t xs c)
+beside_sweep names text shelf t c xs ranges all beside a =
+    subst AreBeside (sym (rows_are names text shelf t c xs ranges all a)) (at (swept_at a xs) refl)
+  where
+    at : (o : Option SweptAccount) → swept_at a xs ≡ o → AreBeside (row_after names o (c.rows a))
+    at None e = beside a
+    at (Some x) e =
+        let one = found_one (IsSweptOf names shelf t c) a xs x all.each e in
+        beside_swept names shelf t (c.rows a) x.rows
+        (subst (λ n. AreSweptRows names shelf t (c.rows n) x.rows) one.1 one.0) (beside a)

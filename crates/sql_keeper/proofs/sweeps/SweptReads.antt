@@ -42,7 +42,8 @@ use Rattle.sql_keeper.proofs.puts.Overlays.{name_from, not_both}
 use Rattle.sql_keeper.proofs.puts.Puts.{made_since, made_then}
 use Rattle.sql_keeper.proofs.sweeps.Swept.{MayBePut, apart_of, may, may_each, row_after, rows_after}
 use Rattle.sql_keeper.proofs.sweeps.Swept.{sweeps_read, swept_at, swept_books, swept_meta}
-use Rattle.sql_keeper.proofs.rules.TidySweeps.{tidy_sweep}
+use Rattle.sql_keeper.proofs.rules.Tidy.{AreAllBeside}
+use Rattle.sql_keeper.proofs.rules.TidySweeps.{beside_sweep, tidy_sweep}
 
 -- ---- one account
 
@@ -310,14 +311,17 @@ become names text shelf t xs ranges last old new later all ruled turns =
           (sym turns.content) (sweeps_read names text shelf t (tables_content old) xs ranges all);
       tidy = λ tidy. subst (IsTidy names) (sym turns.content)
           (tidy_sweep names text shelf t (tables_content old) xs ranges all tidy);
-      rules = λ own is there in'.
-          subst (λ n. IsInRulesBy own n (tables_content new)) (sym (ap last_in kept))
-          (subst (IsInRulesBy own t) (sym turns.content)
-          (subst (λ n. IsInRulesBy own t (with_sweep n text t xs (tables_content old))) (sym is)
-          (sweep_ruled own (tables_content old) there in' text t xs later
-          (subst (λ n. is_ruled_sweep n t xs ≡ true) is ruled)
-          (subst (λ n. EachIn (MayBePut n) xs) is
-          (may names text shelf t (tables_content old) xs ranges all)))));
+      rules = λ own is there in'. record {
+        each = subst (λ n. IsInRulesBy own n (tables_content new)) (sym (ap last_in kept))
+            (subst (IsInRulesBy own t) (sym turns.content)
+            (subst (λ n. IsInRulesBy own t (with_sweep n text t xs (tables_content old))) (sym is)
+            (sweep_ruled own (tables_content old) there in' text t xs later
+            (subst (λ n. is_ruled_sweep n t xs ≡ true) is ruled)
+            (subst (λ n. EachIn (MayBePut n) xs) is
+            (may names text shelf t (tables_content old) xs ranges all)))));
+        beside = subst AreAllBeside (sym turns.content)
+            (beside_sweep names text shelf t (tables_content old) xs ranges all in'.beside);
+      };
       stands = record {
         tabled = record { catalog = turns.catalog; stored = turns.stored; plain = turns.plain };
         meta = kept;

@@ -1,6 +1,6 @@
 use Rattle.sqlite.specs.Held.{state}
 use Rattle.sql_rules.proofs.Steps.{FoundTo}
-use Rattle.sql_rules.proofs.ruling.rules_of.Given as goal
+use Rattle.sql_rules.proofs.ruling.tables_pass.Given as goal
 
 abbrev pub invariant-tables : goal.invariant-tables
 invariant-tables g l =
