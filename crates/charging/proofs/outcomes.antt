@@ -2,6 +2,7 @@
 pub mod Allowing
 pub mod KeptKeys
 pub mod Operated
+pub mod PartsServed
 pub mod Refused
 pub mod Requested
 pub mod Serving

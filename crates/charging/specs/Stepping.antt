@@ -5,7 +5,7 @@ use Rattle.std.specs.Prelude.{◌≡◌, ◌≤◌, Bool, true, false, List, Opt
 use Rattle.std.specs.Prelude.{Err, ◌&&◌, not, is_some, if◌then◌else◌, MatchResult, IfOk, Vec}
 use Rattle.std.specs.Global.{Global}
 use Rattle.units.specs.Words.{Moment, GroupId}
-use Rattle.identifiers.specs.Words.{AccountName, SessionName}
+use Rattle.identifiers.specs.Words.{AccountName, SessionName, VoucherCode}
 use Rattle.buckets.specs.Words.{BucketNumber, BucketAmount}
 use Rattle.commands.specs.declared.answer.Answer.{Answer}
 use Rattle.commands.specs.declared.answer.Answer.TheVariants as answer
@@ -16,8 +16,12 @@ use Rattle.commands.specs.declared.command.Command.TheVariants.{Bar, Unbar}
 use Rattle.commands.specs.declared.command.Content.{Content}
 use Rattle.commands.specs.declared.command.Content.TheVariants as content
 use Rattle.commands.specs.declared.command.Credit.{Credit}
+use Rattle.commands.specs.declared.command.VoucherRedemption.{VoucherRedemption}
+use Rattle.commands.specs.declared.key.Key.{Key}
 use Rattle.commands.specs.declared.request.Request.{Request}
 use Rattle.commands.specs.Keys.{key_of}
+use Rattle.voucher_rules.specs.declared.redeeming.Redemption.{Redemption}
+use Rattle.voucher_rules.specs.Redeeming.{redemption}
 use Rattle.shelves.specs.Shelves.{Shelf}
 use Rattle.buckets.specs.declared.kind.BucketKind.{BucketKind}
 use Rattle.buckets.specs.declared.kind.BucketKind.TheVariants.{Money, Blocks}
@@ -35,12 +39,14 @@ use Rattle.keepers.specs.declared.loaded.Change.{Change}
 use Rattle.keepers.specs.declared.loaded.Loaded.{Loaded}
 use Rattle.keepers.specs.declared.loaded.Redeemed.{Redeemed}
 use Rattle.keepers.specs.Tables.{Tables}
-use Rattle.keepers.specs.Change.{IsLoad, changed}
+use Rattle.keepers.specs.Change.{IsLoad, IsLoadedFrom, changed}
 use Rattle.keepers.specs.Differing.{named_rows, named_for}
+use Rattle.keepers.specs.Seen.{Seen}
 use Rattle.charging.specs.Accepted.{Accepted, last_moment, IsInTime}
-use Rattle.charging.specs.Outcomes.{is_full}
+use Rattle.charging.specs.Outcomes.{is_full, book_days}
 use Rattle.charging.specs.OutcomeParts.{from_of, until_of, is_out_of_range, begin_of, end_of}
 use Rattle.charging.specs.OutcomeParts.{allowance_refusal}
+use Rattle.charging.specs.Parts.{Leaves, PartKeeps}
 use Rattle.charging.specs.Served.{AreTables, IsServed, with_command}
 
 -- a command is served at a moment that isn't before that of the last accepted command, or the
@@ -151,3 +157,54 @@ kept_of_request r tables =
 -- rule: session-names.known: a session that begins is new
 abbrev pub is_known : Request → Tables → Bool
 is_known r tables = begins_session r.ask && is_some ((tables.rows r.account).sessions r.session)
+
+-- ---- a part of a step
+
+-- a part commits a change, with this answer, or a store fault changes nothing; a stop leaves what
+-- was there, or that with the change
+pub record CommitsOver (change : Change) (told : Answer) (old new : Seen)
+    (result : Result Answer StoreFault) : Type 0 where
+  pub done : new.clean → IfOk result (λ given. (given ≡ told)
+      × Commits change old.tables new.tables)
+  pub kept : PartKeeps old new result
+  pub left : Leaves old new (Commits change old.tables)
+
+-- a part serves a command at its moment, or a store fault changes nothing; a stop leaves what was
+-- there, or that with the command
+pub record ServesOver (b : Shelf) (c : Command) (t : Moment) (old new : Seen)
+    (result : Result Answer StoreFault) : Type 0 where
+  pub served : new.clean → ServesAt b c t old.tables new.tables result
+  -- rule: refused
+  pub refused : new.clean → LeavesRefused old.tables new.tables result
+  pub kept : PartKeeps old new result
+  pub left : Leaves old new (WritesAt b c t old.tables)
+
+-- the same for each shelf that is as `Given` says beside the tables before
+pub record ServesGiven (Given : Tables → Shelf → Type 0) (c : Command) (t : Moment)
+    (old new : Seen) (result : Result Answer StoreFault) : Type 0 where
+  pub served : new.clean → (b : Shelf) → Given old.tables b →
+      ServesAt b c t old.tables new.tables result
+  -- rule: refused
+  pub refused : new.clean → LeavesRefused old.tables new.tables result
+  pub kept : PartKeeps old new result
+  pub left : Leaves old new (λ x. (b : Shelf) → Given old.tables b → WritesAt b c t old.tables x)
+
+-- an account was loaded, and nothing is kept of it under a key
+pub record IsFirstAsked (t : Moment) (a : AccountName) (k : Key) (found : Loaded)
+    (tables : Tables) (b : Shelf) : Type 0 where
+  pub load : IsLoad b t a (tables.rows a) (Some found)
+  pub fresh : tables.answers a k ≡ None
+
+-- so it is for a redemption, which comes to this by what is under its code
+pub record IsRedeemable (t : Moment) (asked : VoucherRedemption) (code : VoucherCode)
+    (redeemed : Redemption) (found : Loaded) (tables : Tables) (b : Shelf) : Type 0 where
+  pub first : IsFirstAsked t asked.account (key_of (content.Redeem asked)) found tables b
+  pub coded : code ≡ asked.code
+  pub redeems : redemption (book_days b) (tables.vouchers asked.code) asked.account t ≡ Ok redeemed
+
+-- an account was viewed for a request, of which nothing is kept; the session that it begins is new
+pub record IsUndecided (t : Moment) (r : Request) (account : AccountRows) (tables : Tables)
+    (b : Shelf) : Type 0 where
+  pub loads : IsLoadedFrom b t (tables.rows r.account) account
+  pub fresh : kept_of_request r tables ≡ None
+  pub new : is_known r tables ≡ false

@@ -1,19 +1,16 @@
 //! Allowances: operators give accounts blocks of a rating group, which are used before money.
 
-ghost use Rattle.std.specs.Prelude.{◌≡◌, ◌≤◌, IfOk, IfSome, None, Some};
-ghost use Rattle.commands.specs.declared.answer.Answer.TheVariants as answer;
+ghost use Rattle.std.specs.Prelude.{◌≡◌, ◌≤◌, IfOk, IfSome, Some};
 ghost use Rattle.commands.specs.declared.command.Command.TheVariants as command;
 ghost use Rattle.commands.specs.declared.command.Content.TheVariants as content;
 ghost use Rattle.commands.specs.Keys.{key_of};
-ghost use Rattle.shelves.specs.Shelves.{Shelf, book_at};
+ghost use Rattle.shelves.specs.Shelves.{book_at};
 ghost use Rattle.buckets.specs.declared.kind.BucketKind.{BucketKind};
 ghost use Rattle.ledger.specs.Ledger.{Ledger};
 ghost use Rattle.reserving.specs.Left.{LeftRows, IsWith};
 ghost use Rattle.decisions.specs.Services.{is_known};
-ghost use Rattle.keepers.specs.Change.{IsLoad};
 ghost use Rattle.charging.specs.OutcomeParts.{is_over};
-ghost use Rattle.charging.specs.Parts.{Leaves, PartKeeps};
-ghost use Rattle.charging.specs.Stepping.{ServesAt, WritesAt, Allows, Makes, LeavesRefused};
+ghost use Rattle.charging.specs.Stepping.{Allows, IsFirstAsked, Makes, ServesGiven, ServesOver};
 
 use crate::committing::{commit, moment_on};
 use crate::refusing::refuse;
@@ -35,14 +32,8 @@ pub(crate) fn serve_allowance<K: Keeper>(
     allowance: Allowance,
     moment: Moment,
 ) -> Result<WrittenAnswer, StoreFault>
-    ensures served { (K.seen keeper.new).clean →
-        ServesAt shelf.now (command.Allow allowance) moment (K.seen keeper.old).tables
-        (K.seen keeper.new).tables result }
-    ensures refused { (K.seen keeper.new).clean → LeavesRefused (K.seen keeper.old).tables
-        (K.seen keeper.new).tables result }
-    ensures kept { PartKeeps (K.seen keeper.old) (K.seen keeper.new) result }
-    ensures left { Leaves (K.seen keeper.old) (K.seen keeper.new)
-        (WritesAt shelf.now (command.Allow allowance) moment (K.seen keeper.old).tables) }
+    ensures { ServesOver shelf.now (command.Allow allowance) moment (K.seen keeper.old)
+        (K.seen keeper.new) result }
 {
     let kept = find_referenced(keeper, &allowance.account, &allowance.reference)?;
     if let Some(kept) = kept {
@@ -141,21 +132,9 @@ fn allow_account<K: Keeper>(
     allowance: Allowance,
     moment: Moment,
 ) -> Result<WrittenAnswer, StoreFault>
-    ensures served { (K.seen keeper.new).clean → (b : Shelf) →
-        IsLoad b moment allowance.account ((K.seen keeper.old).tables.rows allowance.account)
-        (Some loaded.entry) → (K.seen keeper.old).tables.answers allowance.account
-        (key_of (content.Allow allowance)) ≡ None →
-        ServesAt b (command.Allow allowance) moment (K.seen keeper.old).tables
-        (K.seen keeper.new).tables result }
-    ensures refused { (K.seen keeper.new).clean → LeavesRefused (K.seen keeper.old).tables
-        (K.seen keeper.new).tables result }
-    ensures kept { PartKeeps (K.seen keeper.old) (K.seen keeper.new) result }
-    ensures left { Leaves (K.seen keeper.old) (K.seen keeper.new)
-        (λ t. (b : Shelf) →
-        IsLoad b moment allowance.account ((K.seen keeper.old).tables.rows allowance.account)
-        (Some loaded.entry) → (K.seen keeper.old).tables.answers allowance.account
-        (key_of (content.Allow allowance)) ≡ None →
-        WritesAt b (command.Allow allowance) moment (K.seen keeper.old).tables t) }
+    ensures { ServesGiven
+        (IsFirstAsked moment allowance.account (key_of (content.Allow allowance)) loaded.entry)
+        (command.Allow allowance) moment (K.seen keeper.old) (K.seen keeper.new) result }
 {
     let moment = moment_on(&loaded.account, moment);
     match add_allowance(&mut loaded.account, &allowance, moment) {

@@ -4,11 +4,10 @@ ghost use Rattle.std.specs.Prelude.{◌≡◌, ◌++◌, IfOk, OnOk, map};
 ghost use Rattle.std.specs.List.Sorted.{IsNonDecreasingBy, IsPermutation};
 ghost use Rattle.commands.specs.declared.command.Command.TheVariants as command;
 ghost use Rattle.keepers.specs.Keeping.{KeeperReads};
-ghost use Rattle.keepers.specs.Tables.{Tables};
 ghost use Rattle.charging.specs.Balances.{AreByNumber, bucket_balance, unit_of};
 ghost use Rattle.charging.specs.States.{IsStateOf, TellsState, TellsStateAt};
-ghost use Rattle.charging.specs.Parts.{Leaves, PartKeeps};
-ghost use Rattle.charging.specs.Stepping.{ServesAt, WritesAt, LeavesRefused};
+ghost use Rattle.charging.specs.Parts.{PartReads};
+ghost use Rattle.charging.specs.Stepping.{ServesOver};
 
 use crate::committing::moment_on;
 use crate::refusing::refuse;
@@ -59,13 +58,8 @@ fn state_at<K: Keeper>(
     number: &AccountNumber,
     moment: Moment,
 ) -> Result<Option<AccountState>, StoreFault>
-    ensures found { (K.seen keeper.new).clean →
-        IfOk result (TellsStateAt shelf.now number.now moment (K.seen keeper.old).tables) }
-    ensures same { (K.seen keeper.new).clean →
-        (K.seen keeper.new).tables ≡ (K.seen keeper.old).tables }
-    ensures kept { PartKeeps (K.seen keeper.old) (K.seen keeper.new) result }
-    ensures left { (K.seen keeper.new).honest → (t : Tables) → (K.seen keeper.new).left t →
-        (K.seen keeper.old).left t }
+    ensures { PartReads (K.seen keeper.old) (K.seen keeper.new)
+        (TellsStateAt shelf.now number.now moment (K.seen keeper.old).tables) result }
 {
     let Some(account) = keeper.view(shelf, number, moment)? else {
         return Ok(None);
@@ -120,14 +114,8 @@ pub(crate) fn tell_balance<K: Keeper>(
     number: AccountNumber,
     moment: Moment,
 ) -> Result<WrittenAnswer, StoreFault>
-    ensures served { (K.seen keeper.new).clean →
-        ServesAt shelf.now (command.Balance number) moment (K.seen keeper.old).tables
-        (K.seen keeper.new).tables result }
-    ensures refused { (K.seen keeper.new).clean → LeavesRefused (K.seen keeper.old).tables
-        (K.seen keeper.new).tables result }
-    ensures kept { PartKeeps (K.seen keeper.old) (K.seen keeper.new) result }
-    ensures left { Leaves (K.seen keeper.old) (K.seen keeper.new)
-        (WritesAt shelf.now (command.Balance number) moment (K.seen keeper.old).tables) }
+    ensures { ServesOver shelf.now (command.Balance number) moment (K.seen keeper.old)
+        (K.seen keeper.new) result }
 {
     let Some(state) = state_at(keeper, shelf, &number, moment)? else {
         return Ok(refuse(alloc, Refusal::AccountUnknown)?);

@@ -3,7 +3,7 @@
 ghost use Rattle.std.specs.Prelude.{◌≡◌, ◌≤◌, max, IfOk, OnOk, option_copied};
 ghost use Rattle.reserving.specs.Rows.{IsAccount};
 ghost use Rattle.charging.specs.Parts.{Leaves, PartKeeps};
-ghost use Rattle.charging.specs.Stepping.{Commits, change_for, kept_as};
+ghost use Rattle.charging.specs.Stepping.{Commits, CommitsOver, change_for, kept_as};
 
 use commands::{Answer, Content};
 use identifiers::SessionId;
@@ -55,14 +55,9 @@ pub(crate) fn commit<K: Keeper>(
     redeemed: Option<Redeemed>,
     answer: Answer,
 ) -> Result<WrittenAnswer, StoreFault>
-    ensures done { (K.seen keeper.new).clean → IfOk result (λ given. (given ≡ answer)
-        × Commits (change_for (option_copied own.entry) loaded.entry charges
-        (kept_as content answer) redeemed) (K.seen keeper.old).tables (K.seen keeper.new).tables) }
+    ensures commits { CommitsOver (change_for (option_copied own.entry) loaded.entry charges
+        (kept_as content answer) redeemed) answer (K.seen keeper.old) (K.seen keeper.new) result }
     ensures account { IsAccount loaded.entry.account }
-    ensures kept { PartKeeps (K.seen keeper.old) (K.seen keeper.new) result }
-    ensures left { Leaves (K.seen keeper.old) (K.seen keeper.new)
-        (Commits (change_for (option_copied own.entry) loaded.entry charges
-        (kept_as content answer) redeemed) (K.seen keeper.old).tables) }
 {
     // For the prover alone: the call makes known here what each account keeps.
     let _moment = loaded.account.as_of();

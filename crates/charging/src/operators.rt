@@ -1,20 +1,16 @@
 //! Operators' commands: accounts are opened, credited, barred, and swept.
 
-ghost use Rattle.std.specs.Prelude.{◌≡◌, ◌≤◌, IfOk, IfSome, IsTrue, None, Some, true};
+ghost use Rattle.std.specs.Prelude.{◌≡◌, ◌≤◌, IfOk, IfSome, IsTrue, true};
 ghost use Rattle.commands.specs.Kept.{is_kept};
-ghost use Rattle.commands.specs.declared.answer.Answer.TheVariants as answer;
 ghost use Rattle.commands.specs.declared.command.Command.TheVariants as command;
 ghost use Rattle.commands.specs.declared.command.Content.TheVariants as content;
 ghost use Rattle.commands.specs.Keys.{key_of};
-ghost use Rattle.shelves.specs.Shelves.{Shelf};
 ghost use Rattle.buckets.specs.declared.kind.BucketKind.{BucketKind};
 ghost use Rattle.ledger.specs.Ledger.{Ledger};
 ghost use Rattle.reserving.specs.Left.{LeftRows, IsWith};
-ghost use Rattle.keepers.specs.Change.{IsLoad};
 ghost use Rattle.charging.specs.OutcomeParts.{is_unusable};
-ghost use Rattle.charging.specs.Parts.{Leaves, PartKeeps};
-ghost use Rattle.charging.specs.Stepping.{ServesAt, WritesAt, Credits, Makes, bar_command};
-ghost use Rattle.charging.specs.Stepping.{LeavesRefused};
+ghost use Rattle.charging.specs.Stepping.{Credits, IsFirstAsked, Makes, ServesGiven, ServesOver};
+ghost use Rattle.charging.specs.Stepping.{bar_command};
 
 use crate::committing::{commit, moment_on};
 use crate::refusing::refuse;
@@ -37,14 +33,8 @@ pub(crate) fn open_account<K: Keeper>(
     number: AccountNumber,
     moment: Moment,
 ) -> Result<WrittenAnswer, StoreFault>
-    ensures served { (K.seen keeper.new).clean →
-        ServesAt shelf.now (command.OpenAccount number) moment (K.seen keeper.old).tables
-        (K.seen keeper.new).tables result }
-    ensures refused { (K.seen keeper.new).clean → LeavesRefused (K.seen keeper.old).tables
-        (K.seen keeper.new).tables result }
-    ensures kept { PartKeeps (K.seen keeper.old) (K.seen keeper.new) result }
-    ensures left { Leaves (K.seen keeper.old) (K.seen keeper.new)
-        (WritesAt shelf.now (command.OpenAccount number) moment (K.seen keeper.old).tables) }
+    ensures { ServesOver shelf.now (command.OpenAccount number) moment (K.seen keeper.old)
+        (K.seen keeper.new) result }
 {
     if keeper.has_account(&number)? {
         return Ok(refuse(alloc, Refusal::AccountExists)?);
@@ -79,14 +69,8 @@ pub(crate) fn set_barred<K: Keeper>(
     barred: bool,
     moment: Moment,
 ) -> Result<WrittenAnswer, StoreFault>
-    ensures served { (K.seen keeper.new).clean →
-        ServesAt shelf.now (bar_command number barred) moment (K.seen keeper.old).tables
-        (K.seen keeper.new).tables result }
-    ensures refused { (K.seen keeper.new).clean → LeavesRefused (K.seen keeper.old).tables
-        (K.seen keeper.new).tables result }
-    ensures kept { PartKeeps (K.seen keeper.old) (K.seen keeper.new) result }
-    ensures left { Leaves (K.seen keeper.old) (K.seen keeper.new)
-        (WritesAt shelf.now (bar_command number barred) moment (K.seen keeper.old).tables) }
+    ensures { ServesOver shelf.now (bar_command number barred) moment (K.seen keeper.old)
+        (K.seen keeper.new) result }
 {
     let Some(mut loaded) = keeper.load(shelf, &number, moment)? else {
         return Ok(refuse(alloc, Refusal::AccountUnknown)?);
@@ -113,14 +97,8 @@ pub(crate) fn sweep<K: Keeper>(
     shelf: &TariffShelf,
     moment: Moment,
 ) -> Result<WrittenAnswer, StoreFault>
-    ensures served { (K.seen keeper.new).clean →
-        ServesAt shelf.now command.Sweep moment (K.seen keeper.old).tables
-        (K.seen keeper.new).tables result }
-    ensures refused { (K.seen keeper.new).clean → LeavesRefused (K.seen keeper.old).tables
-        (K.seen keeper.new).tables result }
-    ensures kept { PartKeeps (K.seen keeper.old) (K.seen keeper.new) result }
-    ensures left { Leaves (K.seen keeper.old) (K.seen keeper.new)
-        (WritesAt shelf.now command.Sweep moment (K.seen keeper.old).tables) }
+    ensures { ServesOver shelf.now command.Sweep moment (K.seen keeper.old)
+        (K.seen keeper.new) result }
 {
     let room = AnswerRoom::new(alloc)?;
     let count = keeper.sweep(shelf, moment)?;
@@ -136,14 +114,8 @@ pub(crate) fn serve_credit<K: Keeper>(
     credit: Credit,
     moment: Moment,
 ) -> Result<WrittenAnswer, StoreFault>
-    ensures served { (K.seen keeper.new).clean →
-        ServesAt shelf.now (command.Credit credit) moment (K.seen keeper.old).tables
-        (K.seen keeper.new).tables result }
-    ensures refused { (K.seen keeper.new).clean → LeavesRefused (K.seen keeper.old).tables
-        (K.seen keeper.new).tables result }
-    ensures kept { PartKeeps (K.seen keeper.old) (K.seen keeper.new) result }
-    ensures left { Leaves (K.seen keeper.old) (K.seen keeper.new)
-        (WritesAt shelf.now (command.Credit credit) moment (K.seen keeper.old).tables) }
+    ensures { ServesOver shelf.now (command.Credit credit) moment (K.seen keeper.old)
+        (K.seen keeper.new) result }
 {
     let kept = find_referenced(keeper, &credit.account, &credit.reference)?;
     if let Some(kept) = kept {
@@ -228,21 +200,9 @@ fn credit_account<K: Keeper>(
     credit: Credit,
     moment: Moment,
 ) -> Result<WrittenAnswer, StoreFault>
-    ensures served { (K.seen keeper.new).clean → (b : Shelf) →
-        IsLoad b moment credit.account ((K.seen keeper.old).tables.rows credit.account)
-        (Some loaded.entry) → (K.seen keeper.old).tables.answers credit.account
-        (key_of (content.Credit credit)) ≡ None →
-        ServesAt b (command.Credit credit) moment (K.seen keeper.old).tables
-        (K.seen keeper.new).tables result }
-    ensures refused { (K.seen keeper.new).clean → LeavesRefused (K.seen keeper.old).tables
-        (K.seen keeper.new).tables result }
-    ensures kept { PartKeeps (K.seen keeper.old) (K.seen keeper.new) result }
-    ensures left { Leaves (K.seen keeper.old) (K.seen keeper.new)
-        (λ t. (b : Shelf) →
-        IsLoad b moment credit.account ((K.seen keeper.old).tables.rows credit.account)
-        (Some loaded.entry) → (K.seen keeper.old).tables.answers credit.account
-        (key_of (content.Credit credit)) ≡ None →
-        WritesAt b (command.Credit credit) moment (K.seen keeper.old).tables t) }
+    ensures { ServesGiven
+        (IsFirstAsked moment credit.account (key_of (content.Credit credit)) loaded.entry)
+        (command.Credit credit) moment (K.seen keeper.old) (K.seen keeper.new) result }
 {
     let moment = moment_on(&loaded.account, moment);
     match add_bucket(&mut loaded.account, &credit, moment) {

@@ -1,19 +1,16 @@
 //! Requests of gateways.
 
-ghost use Rattle.std.specs.Prelude.{◌≡◌, Some, None, false, IfOk, IfSome, option_copied};
+ghost use Rattle.std.specs.Prelude.{◌≡◌, Some, None, IfOk, IfSome, option_copied};
 ghost use Rattle.commands.specs.declared.answer.Answer.TheVariants as answer;
 ghost use Rattle.commands.specs.declared.answer.Failure.TheVariants.{InvalidAvpValue};
 ghost use Rattle.commands.specs.declared.avp.Avp.TheVariants.{RequestNumber};
 ghost use Rattle.commands.specs.declared.command.Command.TheVariants.{Ccr};
 ghost use Rattle.commands.specs.declared.command.Content.TheVariants as content;
-ghost use Rattle.shelves.specs.Shelves.{Shelf};
 ghost use Rattle.decisions.specs.Calls.{own_of};
-ghost use Rattle.keepers.specs.Change.{IsLoadedFrom};
-ghost use Rattle.keepers.specs.Tables.{Tables};
 ghost use Rattle.charging.specs.OutcomeParts.{failed, repeated};
-ghost use Rattle.charging.specs.Parts.{Leaves, PartKeeps, PartReads};
-ghost use Rattle.charging.specs.Stepping.{Answers, Commits, ServesAt, WritesAt, change_for};
-ghost use Rattle.charging.specs.Stepping.{LeavesRefused, is_known, kept_of_request};
+ghost use Rattle.charging.specs.Parts.{PartReads};
+ghost use Rattle.charging.specs.Stepping.{Answers, CommitsOver, IsUndecided, ServesGiven};
+ghost use Rattle.charging.specs.Stepping.{ServesOver, change_for, is_known, kept_of_request};
 
 use crate::committing::{commit, moment_on};
 use crate::repetition::repeated;
@@ -36,14 +33,8 @@ pub(crate) fn serve_request<K: Keeper>(
     request: Request,
     moment: Moment,
 ) -> Result<WrittenAnswer, StoreFault>
-    ensures served { (K.seen keeper.new).clean →
-        ServesAt shelf.now (Ccr request) moment (K.seen keeper.old).tables
-        (K.seen keeper.new).tables result }
-    ensures refused { (K.seen keeper.new).clean → LeavesRefused (K.seen keeper.old).tables
-        (K.seen keeper.new).tables result }
-    ensures kept { PartKeeps (K.seen keeper.old) (K.seen keeper.new) result }
-    ensures left { Leaves (K.seen keeper.old) (K.seen keeper.new)
-        (WritesAt shelf.now (Ccr request) moment (K.seen keeper.old).tables) }
+    ensures { ServesOver shelf.now (Ccr request) moment (K.seen keeper.old)
+        (K.seen keeper.new) result }
 {
     let kept = find_kept(keeper, &request)?;
     if let Some(kept) = kept {
@@ -132,15 +123,9 @@ fn answer_read<K: Keeper>(
     request: &Request,
     moment: Moment,
 ) -> Result<Option<WrittenAnswer>, StoreFault>
-    ensures served { (K.seen keeper.new).clean →
-        IfOk result (λ o. IfSome o (λ given.
+    ensures { PartReads (K.seen keeper.old) (K.seen keeper.new) (λ o. IfSome o (λ given.
         Answers shelf.now (Ccr request.now) moment (K.seen keeper.old).tables
-        (K.seen keeper.new).tables given)) }
-    ensures same { (K.seen keeper.new).clean →
-        (K.seen keeper.new).tables ≡ (K.seen keeper.old).tables }
-    ensures kept { PartKeeps (K.seen keeper.old) (K.seen keeper.new) result }
-    ensures left { (K.seen keeper.new).honest → (t : Tables) → (K.seen keeper.new).left t →
-        (K.seen keeper.old).left t }
+        (K.seen keeper.new).tables given)) result }
 {
     if !is_read(&request.ask) {
         return Ok(None);
@@ -177,21 +162,8 @@ fn decide_on<K: Keeper>(
     request: Request,
     moment: Moment,
 ) -> Result<WrittenAnswer, StoreFault>
-    ensures served { (K.seen keeper.new).clean → (b : Shelf) →
-        IsLoadedFrom b moment ((K.seen keeper.old).tables.rows request.account) account.entry →
-        kept_of_request request (K.seen keeper.old).tables ≡ None →
-        is_known request (K.seen keeper.old).tables ≡ false →
-        ServesAt b (Ccr request) moment (K.seen keeper.old).tables (K.seen keeper.new).tables
-        result }
-    ensures refused { (K.seen keeper.new).clean → LeavesRefused (K.seen keeper.old).tables
-        (K.seen keeper.new).tables result }
-    ensures kept { PartKeeps (K.seen keeper.old) (K.seen keeper.new) result }
-    ensures left { Leaves (K.seen keeper.old) (K.seen keeper.new)
-        (λ t. (b : Shelf) →
-        IsLoadedFrom b moment ((K.seen keeper.old).tables.rows request.account) account.entry →
-        kept_of_request request (K.seen keeper.old).tables ≡ None →
-        is_known request (K.seen keeper.old).tables ≡ false →
-        WritesAt b (Ccr request) moment (K.seen keeper.old).tables t) }
+    ensures { ServesGiven (IsUndecided moment request account.entry) (Ccr request) moment
+        (K.seen keeper.old) (K.seen keeper.new) result }
 {
     let moment = moment_on(&account, moment);
     let before = account.earlier(own_of(&account, &request, moment))?;
@@ -218,18 +190,10 @@ fn keep<K: Keeper>(
     decided: Decided,
     request: Request,
 ) -> Result<WrittenAnswer, StoreFault>
-    ensures done { (K.seen keeper.new).clean →
-        IfOk result (λ given. (given ≡ answer.Request decided.answer)
-        × Commits (change_for decided.own loaded.entry decided.charges (Some (record {
-          content = content.Request request;
-          answer = answer.Request decided.answer;
-        })) None) (K.seen keeper.old).tables (K.seen keeper.new).tables) }
-    ensures kept { PartKeeps (K.seen keeper.old) (K.seen keeper.new) result }
-    ensures left { Leaves (K.seen keeper.old) (K.seen keeper.new)
-        (Commits (change_for decided.own loaded.entry decided.charges (Some (record {
-          content = content.Request request;
-          answer = answer.Request decided.answer;
-        })) None) (K.seen keeper.old).tables) }
+    ensures { CommitsOver (change_for decided.own loaded.entry decided.charges (Some (record {
+      content = content.Request request;
+      answer = answer.Request decided.answer;
+    })) None) (answer.Request decided.answer) (K.seen keeper.old) (K.seen keeper.new) result }
 {
     let own = decided.own;
     commit(

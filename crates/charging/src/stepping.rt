@@ -1,9 +1,7 @@
 //! One command, answered and committed.
 
-ghost use Rattle.std.specs.Prelude.{◌≡◌, OnOk, max};
-ghost use Rattle.charging.specs.Parts.{Leaves, PartKeeps};
-ghost use Rattle.charging.specs.Served.{Serves, Writes};
-ghost use Rattle.charging.specs.Stepping.{ServesAt, WritesAt, LeavesRefused};
+ghost use Rattle.std.specs.Prelude.{◌≡◌, max};
+ghost use Rattle.charging.specs.Stepping.{ServesOver};
 ghost use Rattle.charging.specs.Stepped.{StepsOver};
 
 use crate::allowances::serve_allowance;
@@ -36,42 +34,20 @@ pub fn step<K: Keeper>(
 ) -> Result<WrittenAnswer, StoreFault>
     ensures { StepsOver shelf.now command moment (K.seen keeper.old) (K.seen keeper.new) result }
 {
-    serve(alloc, keeper, shelf, command, moment)
-}
-
-/// Serves a command by its kind.
-// rule: command-moment
-fn serve<K: Keeper>(
-    alloc: Global,
-    keeper: &mut K,
-    shelf: &TariffShelf,
-    command: Command,
-    moment: Moment,
-) -> Result<WrittenAnswer, StoreFault>
-    ensures served { (K.seen keeper.new).clean →
-        Serves shelf.now command moment (K.seen keeper.old).tables (K.seen keeper.new).tables
-        result }
-    // rule: refused
-    ensures refused { (K.seen keeper.new).clean → LeavesRefused (K.seen keeper.old).tables
-        (K.seen keeper.new).tables result }
-    ensures kept { PartKeeps (K.seen keeper.old) (K.seen keeper.new) result }
-    ensures stands { (K.seen keeper.new).honest → OnOk result (K.seen keeper.new).clean }
-    ensures left { Leaves (K.seen keeper.old) (K.seen keeper.new) (λ t. (K.seen keeper.old).clean
-        × Writes shelf.now command moment (K.seen keeper.old).tables t) }
-{
     let last = keeper.last()?;
     let moment = later(moment, last);
     serve_at(alloc, keeper, shelf, command, moment)
 }
 
 /// The later of a command's moment and that of the last one.
+// rule: command-moment
 fn later(moment: Moment, last: Moment) -> Moment
     ensures { result ≡ max moment last }
 {
     moment.max(last)
 }
 
-/// The same at a moment that isn't before that of the last accepted command.
+/// Serves a command by its kind, at a moment that isn't before that of the last accepted command.
 fn serve_at<K: Keeper>(
     alloc: Global,
     keeper: &mut K,
@@ -79,14 +55,7 @@ fn serve_at<K: Keeper>(
     command: Command,
     moment: Moment,
 ) -> Result<WrittenAnswer, StoreFault>
-    ensures served { (K.seen keeper.new).clean →
-        ServesAt shelf.now command moment (K.seen keeper.old).tables (K.seen keeper.new).tables
-        result }
-    ensures refused { (K.seen keeper.new).clean → LeavesRefused (K.seen keeper.old).tables
-        (K.seen keeper.new).tables result }
-    ensures kept { PartKeeps (K.seen keeper.old) (K.seen keeper.new) result }
-    ensures left { Leaves (K.seen keeper.old) (K.seen keeper.new)
-        (WritesAt shelf.now command moment (K.seen keeper.old).tables) }
+    ensures { ServesOver shelf.now command moment (K.seen keeper.old) (K.seen keeper.new) result }
 {
     match command {
         Command::Ccr(request) => serve_request(alloc, keeper, shelf, request, moment),

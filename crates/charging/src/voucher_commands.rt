@@ -1,17 +1,11 @@
 //! Vouchers: operators add them, and accounts redeem them.
 
-ghost use Rattle.std.specs.Prelude.{◌≡◌, IfOk, None, Ok, Some};
-ghost use Rattle.commands.specs.declared.answer.Answer.TheVariants as answer;
+ghost use Rattle.std.specs.Prelude.{◌≡◌, IfOk, ⊤};
 ghost use Rattle.commands.specs.declared.command.Command.TheVariants as command;
-ghost use Rattle.commands.specs.declared.command.Content.TheVariants as content;
-ghost use Rattle.commands.specs.Keys.{key_of};
-ghost use Rattle.shelves.specs.Shelves.{Shelf};
-ghost use Rattle.keepers.specs.Change.{IsLoad};
 ghost use Rattle.voucher_rules.specs.Redeeming.{redemption};
 ghost use Rattle.charging.specs.Outcomes.{book_days};
 ghost use Rattle.charging.specs.OutcomeParts.{refused_as};
-ghost use Rattle.charging.specs.Parts.{Leaves, PartKeeps};
-ghost use Rattle.charging.specs.Stepping.{ServesAt, WritesAt, LeavesRefused};
+ghost use Rattle.charging.specs.Stepping.{IsRedeemable, ServesGiven, ServesOver};
 
 use crate::committing::{commit, moment_on};
 use crate::operators::make_bucket;
@@ -50,15 +44,8 @@ pub(crate) fn add_voucher<K: Keeper>(
     addition: VoucherAddition,
     moment: Moment,
 ) -> Result<WrittenAnswer, StoreFault>
-    ensures served { (K.seen keeper.new).clean → (b : Shelf) →
-        ServesAt b (command.AddVoucher addition) moment (K.seen keeper.old).tables
-        (K.seen keeper.new).tables result }
-    ensures refused { (K.seen keeper.new).clean → LeavesRefused (K.seen keeper.old).tables
-        (K.seen keeper.new).tables result }
-    ensures kept { PartKeeps (K.seen keeper.old) (K.seen keeper.new) result }
-    ensures left { Leaves (K.seen keeper.old) (K.seen keeper.new)
-        (λ t. (b : Shelf) →
-        WritesAt b (command.AddVoucher addition) moment (K.seen keeper.old).tables t) }
+    ensures { ServesGiven (λ tables b. ⊤) (command.AddVoucher addition) moment
+        (K.seen keeper.old) (K.seen keeper.new) result }
 {
     let found = keeper.find_voucher(&addition.code)?;
     let done = WrittenAnswer::new(alloc, Answer::Done)?;
@@ -81,14 +68,8 @@ pub(crate) fn serve_redemption<K: Keeper>(
     asked: VoucherRedemption,
     moment: Moment,
 ) -> Result<WrittenAnswer, StoreFault>
-    ensures served { (K.seen keeper.new).clean →
-        ServesAt shelf.now (command.Redeem asked) moment (K.seen keeper.old).tables
-        (K.seen keeper.new).tables result }
-    ensures refused { (K.seen keeper.new).clean → LeavesRefused (K.seen keeper.old).tables
-        (K.seen keeper.new).tables result }
-    ensures kept { PartKeeps (K.seen keeper.old) (K.seen keeper.new) result }
-    ensures left { Leaves (K.seen keeper.old) (K.seen keeper.new)
-        (WritesAt shelf.now (command.Redeem asked) moment (K.seen keeper.old).tables) }
+    ensures { ServesOver shelf.now (command.Redeem asked) moment (K.seen keeper.old)
+        (K.seen keeper.new) result }
 {
     let kept = find_referenced(keeper, &asked.account, &asked.reference)?;
     if let Some(kept) = kept {
@@ -148,25 +129,8 @@ fn credit_redeemed<K: Keeper>(
     redeemed: Redemption,
     moment: Moment,
 ) -> Result<WrittenAnswer, StoreFault>
-    ensures served { (K.seen keeper.new).clean → (b : Shelf) →
-        IsLoad b moment asked.account ((K.seen keeper.old).tables.rows asked.account)
-        (Some loaded.entry) → (K.seen keeper.old).tables.answers asked.account
-        (key_of (content.Redeem asked)) ≡ None → code ≡ asked.code →
-        redemption (book_days b) ((K.seen keeper.old).tables.vouchers asked.code) asked.account
-        moment ≡ Ok redeemed →
-        ServesAt b (command.Redeem asked) moment (K.seen keeper.old).tables
-        (K.seen keeper.new).tables result }
-    ensures refused { (K.seen keeper.new).clean → LeavesRefused (K.seen keeper.old).tables
-        (K.seen keeper.new).tables result }
-    ensures kept { PartKeeps (K.seen keeper.old) (K.seen keeper.new) result }
-    ensures left { Leaves (K.seen keeper.old) (K.seen keeper.new)
-        (λ t. (b : Shelf) →
-        IsLoad b moment asked.account ((K.seen keeper.old).tables.rows asked.account)
-        (Some loaded.entry) → (K.seen keeper.old).tables.answers asked.account
-        (key_of (content.Redeem asked)) ≡ None → code ≡ asked.code →
-        redemption (book_days b) ((K.seen keeper.old).tables.vouchers asked.code) asked.account
-        moment ≡ Ok redeemed →
-        WritesAt b (command.Redeem asked) moment (K.seen keeper.old).tables t) }
+    ensures { ServesGiven (IsRedeemable moment asked code redeemed loaded.entry)
+        (command.Redeem asked) moment (K.seen keeper.old) (K.seen keeper.new) result }
 {
     let moment = moment_on(&loaded.account, moment);
     let Redemption {

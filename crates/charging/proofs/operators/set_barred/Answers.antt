@@ -2,15 +2,14 @@ use Rattle.std.proofs.Common.{refl, None}
 use Rattle.commands.specs.declared.answer.Answer.TheVariants as answer
 use Rattle.keepers.specs.Tables.{Tables}
 use Rattle.charging.specs.Stepping.{Answers, Commits, bar_command}
-use Rattle.charging.proofs.outcomes.Serving.{none_loaded, some_loaded, commits-from, left_as}
-use Rattle.charging.proofs.outcomes.Serving.{served-by, served-as}
+use Rattle.charging.proofs.outcomes.PartsServed.{committed_after, read_of, told_after}
+use Rattle.charging.proofs.outcomes.Serving.{none_loaded, some_loaded, commits-from, served-as}
 use Rattle.charging.proofs.outcomes.Operated.{bar-unknown, bar-done, made_change, made_tells}
-use Rattle.charging.proofs.outcomes.Refused.{accepted_given}
 use Rattle.charging.proofs.operators.set_barred.Goals as goal
 use Rattle.charging.proofs.operators.set_barred.Goals.{After-commit}
 
-pub returns-in_default-clause-served : goal.returns-in_default-clause-served
-returns-in_default-clause-served g c = λ clean list time is le.
+pub returns-in_default : goal.returns-in_default
+returns-in_default g c = told_after (read_of c.in_ok-loaded.ensures) (λ clean list time is le.
     served-as c.args.shelf.now list (bar_command c.args.number c.args.barred) c.args.moment
     (g.K.Keeper.seen c.args.keeper.now).tables (g.K.Keeper.seen c.load.new.self).tables
     c.in_ok-refuse.field-0 _ c.in_ok-refuse.ensures
@@ -20,7 +19,7 @@ returns-in_default-clause-served g c = λ clean list time is le.
     (g.K.Keeper.seen c.args.keeper.now).tables
     (g.K.Keeper.seen c.args.keeper.now).tables c.in_ok-loaded.field-0 refl
     (c.in_ok-loaded.ensures.found clean) c.in_default.is)
-    (c.in_ok-loaded.ensures.same clean))
+    (c.in_ok-loaded.ensures.same clean)))
 
 -- what its commit makes is what the command comes to
 done : (g : _) (c : After-commit g) (t : Tables) → (g.K.Keeper.seen c.load.new.self).clean →
@@ -48,27 +47,6 @@ done g c t clean made = λ list time is le.
     (g.K.Keeper.seen c.args.keeper.now).tables (g.K.Keeper.seen c.load.new.self).tables t
     (c.in_ok-loaded.ensures.same clean) made)
 
-pub returns-clause-served : goal.returns-clause-served
-returns-clause-served g c = λ clean list time is le.
-    let clean_load = c.commit.ensures.kept.cleanness clean in
-    served-by c.args.shelf.now list (bar_command c.args.number c.args.barred) c.args.moment
-    (g.K.Keeper.seen c.args.keeper.now).tables (g.K.Keeper.seen c.load.new.self).tables
-    (g.K.Keeper.seen c.commit.new.keeper).tables answer.Done c.commit.result
-    (c.in_ok-loaded.ensures.same clean_load) (c.commit.ensures.done clean)
-    (c.commit.ensures.kept.err clean)
-    (λ made. done g (goal.at.returns-clause-served g c).After-commit
-    (g.K.Keeper.seen c.commit.new.keeper).tables clean_load made list time is le)
-
-pub returns-clause-left : goal.returns-clause-left
-returns-clause-left g c = λ honest t l.
-    let honest_load = c.commit.ensures.kept.honesty honest in
-    left_as (c.commit.ensures.left honest t l) (c.in_ok-loaded.ensures.left honest_load t)
-    (λ made list time is le. (done g (goal.at.returns-clause-left g c).After-commit t
-    (c.in_ok-loaded.ensures.stands honest_load) made list time is le).tables)
-
-pub returns-in_default-clause-refused : goal.returns-in_default-clause-refused
-returns-in_default-clause-refused g c = λ clean e. c.in_ok-loaded.ensures.same clean
-
-pub returns-clause-refused : goal.returns-clause-refused
-returns-clause-refused g c = λ clean.
-    accepted_given c.commit.result answer.Done _ _ refl (c.commit.ensures.done clean)
+pub returns : goal.returns
+returns g c = committed_after (read_of c.in_ok-loaded.ensures) c.in_ok-loaded.ensures.stands
+    answer.Done refl c.commit.ensures.commits (done g (goal.at.returns g c).After-commit)
