@@ -3,7 +3,7 @@
 //! no words and opens no database, so it is compiled before `ocs` is.
 #![tactic(auto)]
 
-use request_lines::{LinesFault, once_lines};
+use operations::{LinesFault, once_lines};
 use std::alloc::AllocError;
 use std::io::{self, BufReader};
 use std::process::ExitCode;

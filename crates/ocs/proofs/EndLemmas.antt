@@ -39,7 +39,7 @@ use Rattle.ocs.specs.Runs.{PrintsSaid}
 use Rattle.ocs.specs.Told.{IsTextTold, IsTold}
 use Rattle.ocs.specs.Told.{IsToldAtEnd, IsToldBy, IsToldOf, LeavesOutput, ReportsConnections}
 use Rattle.ocs.specs.Told.{ReportsFault, fault_line, done_line}
-use Rattle.request_lines.specs.Once.{BeginsOnce, once_text}
+use Rattle.operations.specs.Once.{BeginsOnce, once_text}
 use Rattle.ocs.specs.declared.fault.ProgramFault.{ProgramFault}
 use Rattle.ocs.specs.declared.fault.ProgramFault.TheVariants as program
 

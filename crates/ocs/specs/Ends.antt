@@ -22,7 +22,7 @@ use Rattle.operator.specs.declared.fault.WordsFault.TheVariants as fault
 use Rattle.operator.specs.declared.parsed.OnceWords.{OnceWords}
 use Rattle.operator.specs.declared.parsed.ProgramWords.{ProgramWords}
 use Rattle.operator.specs.declared.parsed.ProgramWords.TheVariants as words
-use Rattle.request_lines.specs.Served.{BeginsLines, TellsLines}
+use Rattle.operations.specs.LinesServed.{BeginsLines, TellsLines}
 
 -- ---- what words say
 

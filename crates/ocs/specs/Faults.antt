@@ -7,7 +7,7 @@ use Rattle.clap.specs.Words.{Text}
 use Rattle.operator.specs.Read.{IsSaid}
 use Rattle.operator.specs.declared.parsed.ProgramWords.{ProgramWords}
 use Rattle.operator.specs.declared.parsed.ProgramWords.TheVariants as words
-use Rattle.request_lines.specs.Faults.{IsReachedByLines}
+use Rattle.operations.specs.LinesFaults.{IsReachedByLines}
 use Rattle.service.specs.Adding.{IsAdditionFault}
 use Rattle.service.specs.CivilClock.{IsClockFault}
 use Rattle.service.specs.Making.{IsInitFault}

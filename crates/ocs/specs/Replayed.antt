@@ -5,7 +5,7 @@ use Rattle.texts.specs.StreamWords.{Bytes}
 use Rattle.shelves.specs.Shelves.{Shelf}
 use Rattle.keepers.specs.Tables.{Tables}
 use Rattle.charging.specs.Continued.{ForEachList}
-use Rattle.request_lines.specs.Served.{AreLinesAnswered}
+use Rattle.operations.specs.LinesServed.{AreLinesAnswered}
 
 -- the lines of a stream are answered, for every list of accepted commands whose tables were found:
 -- their text is written, and the tables are those of their commands too

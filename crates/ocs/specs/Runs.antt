@@ -13,7 +13,7 @@ use Rattle.operations.specs.Written.{WritesBeginning}
 use Rattle.operations.specs.declared.status.Status.{Status}
 use Rattle.operations.specs.declared.status.Status.TheVariants.{Done, Failed, Unread}
 use Rattle.ocs.specs.Ends.{HasBegun, HasPrinted, IfOnce, IsEnd}
-use Rattle.request_lines.specs.Once.{BeginsOnce, WritesOnce}
+use Rattle.operations.specs.Once.{BeginsOnce, WritesOnce}
 use Rattle.ocs.specs.Told.{IsTold, done_line}
 
 -- what words that are read print: all that they ask for where it is done, and where it fails a

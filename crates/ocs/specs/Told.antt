@@ -23,12 +23,11 @@ use Rattle.service.specs.Opening.{IsUnanswered, IsUnasked}
 use Rattle.service.specs.Told.{about_database}
 use Rattle.service.specs.declared.fault.DatabaseFault.{DatabaseFault}
 use Rattle.service.specs.ServingTold.{IsUnlistened, TellsFaults, listening_line}
-use Rattle.request_lines.specs.Faults.{AreUnread}
-use Rattle.request_lines.specs.Told.{about_lines}
+use Rattle.operations.specs.LinesFaults.{AreUnread, about_lines}
 use Rattle.vouchers.specs.Faults.{voucher_fault_number}
 use Rattle.ocs.specs.Ends.{PrintsRefusal, SaysSo}
 use Rattle.ocs.specs.Faults.{IsFaultIn, IsFaultOf, IsMemoryFault, IsWriteFault}
-use Rattle.request_lines.specs.declared.fault.LinesFault.{LinesFault}
+use Rattle.operations.specs.declared.lines_fault.LinesFault.{LinesFault}
 use Rattle.ocs.specs.declared.fault.ProgramFault.{ProgramFault}
 use Rattle.ocs.specs.declared.fault.ProgramFault.TheVariants as program
 

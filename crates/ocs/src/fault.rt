@@ -4,8 +4,7 @@ ghost use Rattle.std.specs.Prelude.{◌≡◌};
 ghost use Rattle.ocs.specs.Faults.{of_import};
 ghost use Rattle.ocs.specs.Told.{about_fault, fault_place};
 
-use operations::stream_line;
-use request_lines::LinesFault;
+use operations::{LinesFault, stream_line};
 use service::{DatabaseFault, ImportFault};
 use texts::StreamFault;
 use thiserror::Error;

@@ -2,7 +2,7 @@
 
 ghost use Rattle.std.specs.Prelude.{◌≡◌, IfErr, IfOk, IfSome, None, OnErr, OnOk};
 ghost use Rattle.operations.specs.Printed.{IsEnded};
-ghost use Rattle.request_lines.specs.Served.{AnswersLines, BeginsLines, TellsLines};
+ghost use Rattle.operations.specs.LinesServed.{AnswersLines, BeginsLines, TellsLines};
 ghost use Rattle.sqlite.specs.Files.{file_state};
 ghost use Rattle.sqlite.specs.State.{HasCleanDisk};
 ghost use Rattle.sqlite_wal.specs.Files.{image_at};
@@ -13,13 +13,12 @@ ghost use Rattle.ocs.specs.Ends.{BeginsLinesOf, PrintsLines};
 ghost use Rattle.ocs.specs.Faults.{IsReplayFault};
 ghost use Rattle.ocs.specs.Replayed.{IsReplayDone};
 ghost use Rattle.ocs.specs.Told.{IfLines};
-ghost use Rattle.request_lines.specs.Faults.{AreUnread, IsReachedByLines};
+ghost use Rattle.operations.specs.LinesFaults.{AreUnread, IsReachedByLines};
 
 use crate::fault::ProgramFault;
 use keepers::Keeper;
-use operations::Status;
+use operations::{LinesFault, Status, lines};
 use operator::ReplayWords;
-use request_lines::{LinesFault, lines};
 use service::{DatabaseFiles, Office, open_file, open_office};
 use shelves::TariffShelf;
 use sql_keeper::SqlKeeper;
@@ -127,7 +126,7 @@ fn answer_reader<K: Keeper, R: Read + Drop, O: Write>(
 }
 
 /// Answers the lines of a reader over a keeper, which may fail.
-#[tactic(auto, using(request_lines::proofs::Reached::reached_over, request_lines::proofs::Reached::where_unread))]
+#[tactic(auto, using(operations::proofs::request_lines::Reached::reached_over, operations::proofs::request_lines::Reached::where_unread))]
 fn answer_requests<K: Keeper, R: Read, O: Write>(
     alloc: Global,
     keeper: &mut K,

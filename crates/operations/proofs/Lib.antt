@@ -6,3 +6,4 @@ pub mod ImportLemmas
 pub mod HeldImports
 pub mod WriteFaults
 pub mod KeeperFaults
+pub mod request_lines

@@ -8,3 +8,10 @@ pub mod Counts
 pub mod Imports
 pub mod Printed
 pub mod Laws
+pub mod Lines
+pub mod LinesFaults
+pub mod LinesServed
+pub mod LinesAnswering
+pub mod LineInput
+pub mod LineOutput
+pub mod Once

@@ -1,7 +1,7 @@
 use Rattle.std.proofs.Common.{ap}
 use Rattle.tariffs.specs.OnceBook.{once_book}
 use Rattle.operations.specs.Written.{WritesBeginning}
-use Rattle.request_lines.specs.Once.{BeginsOnce}
+use Rattle.operations.specs.Once.{BeginsOnce}
 use Rattle.ocs.proofs.EndLemmas.{fails_undone, fault_told, line_ends, once_ends, printed_done}
 use Rattle.ocs.proofs.EndLemmas.{refused_begun}
 use Rattle.ocs.proofs.run_said.Goals as goal

@@ -1,7 +1,7 @@
 //! Lines of requests where the store, the reader or the writer fails.
 
 use keepers::{Failing, MemoryKeeper, StoreFault};
-use request_lines::{LinesFault, lines};
+use operations::{LinesFault, lines};
 use shelves::TariffShelf;
 use std::alloc::Global;
 use std::io::{self, ErrorKind, Read, Write};

@@ -1,7 +1,7 @@
 use Rattle.std.proofs.Common.{ℕ, List, Option, IfSome, subst}
 use Rattle.operations.proofs.Beginnings.{on_err}
-use Rattle.request_lines.proofs.Ended.{none_begun}
-use Rattle.request_lines.specs.Served.{BeginsLines, TellsLines}
+use Rattle.operations.proofs.request_lines.Ended.{none_begun}
+use Rattle.operations.specs.LinesServed.{BeginsLines, TellsLines}
 use Rattle.ocs.specs.Replayed.{IsReplayDone}
 use Rattle.ocs.proofs.Buffers.{buffer_unread}
 use Rattle.ocs.proofs.replaying.answer_reader.Goals as goal

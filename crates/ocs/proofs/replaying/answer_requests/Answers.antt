@@ -1,4 +1,4 @@
-use Rattle.request_lines.proofs.Carried.{carried-stands}
+use Rattle.operations.proofs.request_lines.Carried.{carried-stands}
 use Rattle.ocs.proofs.replaying.answer_requests.Goals as goal
 
 pub returns-clause-honesty : goal.returns-clause-honesty

@@ -1,6 +1,6 @@
 use Rattle.sqlite_wal.specs.Files.{image_at}
 use Rattle.operations.proofs.Beginnings.{on_err}
-use Rattle.request_lines.proofs.Ended.{none_begun}
+use Rattle.operations.proofs.request_lines.Ended.{none_begun}
 use Rattle.service.proofs.OverLemmas.{read_from}
 use Rattle.ocs.specs.Replayed.{IsReplayDone}
 use Rattle.ocs.proofs.replaying.replay_over.Goals as goal
