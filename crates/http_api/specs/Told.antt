@@ -1,12 +1,16 @@
 -- What is written of a statement that is asked for, by the charges that a source has.
 -- Source: profile.
-use Rattle.std.specs.Prelude.{◌≡◌, ◌⊎◌, Bool, List, Option}
+use Rattle.std.specs.Prelude.{◌≡◌, ◌≤◌, ◌⊎◌, Bool, List, Option, Result, Err, OnErr}
 use Rattle.texts.specs.StreamWords.{Bytes}
+use Rattle.texts.specs.declared.streams.StreamFault.{StreamFault}
+use Rattle.texts.specs.declared.streams.StreamFault.TheVariants.{Write}
 use Rattle.ledger.specs.Words.{ChargeNumber}
 use Rattle.commands.specs.declared.answer.Answer.{Answer}
 use Rattle.wire.specs.Spelled.{answer_text}
 use Rattle.ledger.specs.ChargeColumns.{ChargeColumns}
 use Rattle.keepers.specs.Rows.{AreCharges}
+use Rattle.keepers.specs.Seen.{Seen}
+use Rattle.keepers.specs.Tables.{Tables}
 use Rattle.http_messages.specs.Statuses.{ok, service_unavailable}
 use Rattle.http_messages.specs.declared.text.Media.TheVariants.{Text}
 use Rattle.http_messages.specs.Texts.{response, response_of, unable}
@@ -28,3 +32,13 @@ pub record TellsCharges (charges : ChargeNumber → Option ChargeColumns)
   pub written : Writes text
   pub told : (rows : List ChargeColumns) → AreCharges charges rows →
       IsBodyTold closes (body rows) text
+
+-- what was read alone is written, and the writer alone fails: the tables are as before, and so is
+-- what a stop leaves
+pub record TellsByRead {A : Type 0} (old new : Seen) (result : Result A StreamFault) : Type 0 where
+  pub fault : OnErr result (result ≡ Err Write)
+  pub same : new.clean → new.tables ≡ old.tables
+  pub cleanness : new.clean → old.clean
+  pub honesty : new.honest → old.honest
+  pub left : new.honest → (t : Tables) → new.left t → old.left t
+  pub failures : old.failed ≤ new.failed

@@ -1,18 +1,17 @@
 //! A statement that is asked for.
 
-ghost use Rattle.std.specs.Prelude.{◌≡◌, ◌≤◌, List, OnOk, OnErr, IfOk};
+ghost use Rattle.std.specs.Prelude.{◌≡◌, List, OnOk, OnErr, IfOk};
 ghost use Rattle.std.specs.Io.KnownBytes.{Appends};
 ghost use Rattle.commands.specs.declared.answer.Answer.TheVariants.{Refused};
 ghost use Rattle.commands.specs.declared.answer.Refusal.TheVariants.{AccountUnknown as Unknown};
 ghost use Rattle.ledger.specs.ChargeColumns.{ChargeColumns};
 ghost use Rattle.keepers.specs.Rows.{AreCharges};
-ghost use Rattle.keepers.specs.Tables.{Tables};
 ghost use Rattle.statements.specs.Charges.{AsksSource};
 ghost use Rattle.statements.specs.Texts.{statement_text};
 ghost use Rattle.http_messages.specs.Asking.{states};
 ghost use Rattle.http_messages.specs.Texts.{AppendsBeginning};
 ghost use Rattle.http_api.specs.Replies.{Replies, ShowsHonestReply};
-ghost use Rattle.http_api.specs.Told.{TellsAnswer, TellsCharges};
+ghost use Rattle.http_api.specs.Told.{TellsAnswer, TellsByRead, TellsCharges};
 
 use crate::clock::Clock;
 use crate::telling::{Following, tell_answer, tell_text, tell_unable};
@@ -44,14 +43,7 @@ pub(crate) fn serve_statement<W: Write, K: ChargeSource, C: Clock>(
         (Replies C.gives shelf.now (states asked.now) following.closes clock.old clock.new)
         shelf.now (W.contents writer.old) (W.contents writer.new) (K.seen keeper.old) (K.seen keeper.new)
         result }
-    ensures fault { OnErr result (result ≡ Err StreamFault.Write) }
-    ensures same { (K.seen keeper.new).clean →
-        (K.seen keeper.new).tables ≡ (K.seen keeper.old).tables }
-    ensures cleanness { (K.seen keeper.new).clean → (K.seen keeper.old).clean }
-    ensures honesty { (K.seen keeper.new).honest → (K.seen keeper.old).honest }
-    ensures left { (K.seen keeper.new).honest → (t : Tables) → (K.seen keeper.new).left t →
-        (K.seen keeper.old).left t }
-    ensures failures { (K.seen keeper.old).failed ≤ (K.seen keeper.new).failed }
+    ensures reads { TellsByRead (K.seen keeper.old) (K.seen keeper.new) result }
 {
     let Some(moment) = clock.now() else {
         return tell_unable(writer, following);
@@ -86,14 +78,7 @@ fn tell_statement<W: Write, K: ChargeSource>(
         (λ rows. statement_text shelf.now.first asked.now.account asked.now.month state.now.moment
         rows state.now.buckets.items) following.closes
         (AppendsBeginning (W.contents writer.old) (W.contents writer.new))) }
-    ensures fault { OnErr result (result ≡ Err StreamFault.Write) }
-    ensures same { (K.seen keeper.new).clean →
-        (K.seen keeper.new).tables ≡ (K.seen keeper.old).tables }
-    ensures cleanness { (K.seen keeper.new).clean → (K.seen keeper.old).clean }
-    ensures honesty { (K.seen keeper.new).honest → (K.seen keeper.old).honest }
-    ensures left { (K.seen keeper.new).honest → (t : Tables) → (K.seen keeper.new).left t →
-        (K.seen keeper.old).left t }
-    ensures failures { (K.seen keeper.old).failed ≤ (K.seen keeper.new).failed }
+    ensures reads { TellsByRead (K.seen keeper.old) (K.seen keeper.new) result }
 {
     match statement_of(alloc, keeper, shelf, asked, state) {
         Ok(text) => tell_text(alloc, writer, text.as_slice(), following),

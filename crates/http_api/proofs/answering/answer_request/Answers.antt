@@ -83,4 +83,4 @@ returns-in-Does-clause-held g c = λ asking asked.
     c.serve_command.ensures.held asking (subst (IsAskingGiven asking) c.in-Does.is asked)
 
 pub returns-in-States-clause-held : goal.returns-in-States-clause-held
-returns-in-States-clause-held g c = λ asking asked h t l. inl (c.serve_statement.ensures.left h t l)
+returns-in-States-clause-held g c = λ asking asked h t l. inl (c.serve_statement.ensures.reads.left h t l)

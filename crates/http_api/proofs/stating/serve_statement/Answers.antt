@@ -65,7 +65,7 @@ returns-in-None-clause-shown g c = shows_new
 
 pub returns-in-Some-state-clause-shown : goal.returns-in-Some-state-clause-shown
 returns-in-Some-state-clause-shown g c = λ h held before.
-    let viewed = c.in-Ok.ensures.stands (c.tell_statement.ensures.honesty h) in
+    let viewed = c.in-Ok.ensures.stands (c.tell_statement.ensures.reads.honesty h) in
     let is = sym (before (c.in-Ok.ensures.cleanness viewed)) in
     let told : (Writes : List ℕ → Type 0) → TellsCharges _ _ c.args.following.closes Writes →
     Replies g.C.Clock.gives c.args.shelf.now (states c.args.asked.now) c.args.following.closes
@@ -92,8 +92,8 @@ returns-in-Some-state-clause-shown g c = λ h held before.
           (holds_same c.args.shelf.now (g.K.Keeper.seen c.account_state.new.keeper)
           (g.K.Keeper.seen c.tell_statement.new.keeper)
           (g.K.Keeper.seen c.account_state.new.keeper).tables (λ clean. refl)
-          c.tell_statement.ensures.cleanness c.tell_statement.ensures.same
-          (c.tell_statement.ensures.left h));
+          c.tell_statement.ensures.reads.cleanness c.tell_statement.ensures.reads.same
+          (c.tell_statement.ensures.reads.left h));
       ok = subst (λ (x : Tables). OnOk c.tell_statement.result (Replies g.C.Clock.gives
           c.args.shelf.now (states c.args.asked.now) c.args.following.closes c.args.clock.now
           c.now.new.self
