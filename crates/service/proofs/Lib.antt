@@ -1,5 +1,4 @@
 pub mod NextRun
-pub mod CommandLemmas
 pub mod ImportingLemmas
 pub mod MakingLemmas
 pub mod OverLemmas

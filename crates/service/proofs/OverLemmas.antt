@@ -1,6 +1,6 @@
 -- What words leave of the database that files held, out of what they leave of a keeper that was
 -- opened.
-use Rattle.std.proofs.Common.{◌≡◌, ℕ, List, Option, Some, None, Result, Ok, Err, ap, subst, sym}
+use Rattle.std.proofs.Common.{◌≡◌, ℕ, List, Option, Some, None, Result, Ok, Err, ap, subst}
 use Rattle.std.proofs.Common.{◌∙◌, arith, inl, inr}
 use Rattle.std.specs.Prelude.{IfOk, IfSome}
 use Rattle.std.specs.Io.KnownBytes.{Appends}
@@ -36,9 +36,7 @@ use Rattle.operator.specs.declared.parsed.StatementWords.{StatementWords}
 use Rattle.service.specs.Importing.{IsFileImported}
 use Rattle.service.specs.Over.{Comes, IsImportDone, IsMadeIn, IsMigratedIn, IsMomentOf}
 use Rattle.service.specs.Over.{IsMonthDone, IsOpenedIn, query_of}
-use Rattle.service.specs.Stating.{BeginsMonthOf, IsOfOffice, PrintsMonthOf, of_office}
-use Rattle.service.specs.declared.fault.DatabaseFault.{DatabaseFault}
-use Rattle.service.specs.declared.fault.DatabaseFault.TheVariants.{Office}
+use Rattle.service.specs.Stating.{BeginsMonthOf, PrintsMonthOf}
 
 -- what was opened over the files is what they held
 -- rule: database-words.opened-in
@@ -197,36 +195,14 @@ import_done words t before after shelf old new (Some text) said imported =
     record { moment = t; said = said; imported = imported }
 import_done words t before after shelf old new None said imported = tt
 
-status_in : Status → Result Status DatabaseFault → Status
-status_in other (Ok status) = status
-status_in other (Err fault) = other
-
-abbrev IsAnswered : Result Status DatabaseFault → Type 0
-IsAnswered (Ok status) = Unit {0}
-IsAnswered (Err fault) = ⊥
-
-ok_is_err : (s : Status) (f : DatabaseFault) →
-    ◌≡◌ {A = Result Status DatabaseFault} (Ok s) (Err f) → ⊥
-ok_is_err s f e = subst IsAnswered e tt
-
--- what an office answers is what is handed on of it
-handed_on : (says : Result Status OfficeFault → Type 0) (s : Status)
-    (given : Result Status OfficeFault) →
-    ◌≡◌ {A = Result Status DatabaseFault} (Ok s) (of_office given) → says given → says (Ok s)
-unfolding status_in
-handed_on says s (Ok x) is was =
-    subst (λ (y : Status). says (Ok y)) (sym (ap (status_in s) is)) was
-handed_on says s (Err f) is was = absurd (ok_is_err s (Office f) is)
-
 pub month_done : (words : StatementWords) (t : ℕ) (before after : Option (List ℕ)) (shelf : Shelf)
     (old new : Tables) (status : Status) → IsMomentOf words.at t →
-    IsOfOffice (IsMonthTold shelf (query_of words) t old before after) (Ok status) → new ≡ old →
+    IsMonthTold shelf (query_of words) t old before after (Ok status) → new ≡ old →
     IsMonthDone words before after status shelf old new
 month_done words t before after shelf old new status said told same = record {
   moment = t;
   said = said;
-  told = handed_on (IsMonthTold shelf (query_of words) t old before after) status told.answer
-      told.is told.was;
+  told = told;
   same = same;
 }
 

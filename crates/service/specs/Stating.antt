@@ -1,6 +1,6 @@
--- What an office answers, among the answers of a database, and what is printed of a month.
+-- What is printed of a month, and what the calls answer that print it.
 -- Source: profile.
-use Rattle.std.specs.Prelude.{◌≡◌, ◌⊎◌, Option, Result, Ok, Err, IfErr, IfOk, OnErr}
+use Rattle.std.specs.Prelude.{◌≡◌, ◌⊎◌, Option, Result, IfErr, IfOk, OnErr}
 use Rattle.std.specs.Io.KnownBytes.{Appends}
 use Rattle.texts.specs.StreamWords.{Bytes}
 use Rattle.shelves.specs.Shelves.{Shelf}
@@ -13,24 +13,11 @@ use Rattle.sql_keeper.specs.Inside.{KeeperState}
 use Rattle.operations.specs.Months.{PrintsMonth, WritesMonth, unknown_line}
 use Rattle.operations.specs.Printed.{IsEnded}
 use Rattle.operations.specs.Written.{WritesBeginning}
-use Rattle.operations.specs.declared.fault.OfficeFault.{OfficeFault}
 use Rattle.operations.specs.declared.status.Status.{Status}
 use Rattle.operator.specs.declared.parsed.StatementWords.{StatementWords}
 use Rattle.service.specs.Opening.{IsCommandFault, IsUnasked}
 use Rattle.service.specs.Over.{Comes, IsMonthDone, query_of}
 use Rattle.service.specs.declared.fault.DatabaseFault.{DatabaseFault}
-use Rattle.service.specs.declared.fault.DatabaseFault.TheVariants.{Office}
-
-abbrev pub of_office : Result Status OfficeFault → Result Status DatabaseFault
-of_office (Ok status) = Ok status
-of_office (Err fault) = Err (Office fault)
-
--- this is so of the office's answer, which is handed on
-pub record IsOfOffice (says : Result Status OfficeFault → Type 0)
-    (result : Result Status DatabaseFault) : Type 0 where
-  pub answer : Result Status OfficeFault
-  pub is : result ≡ of_office answer
-  pub was : says answer
 
 -- ---- what is printed, whatever a database holds
 

@@ -1,31 +1,20 @@
 //! An operator's command over a database.
 
-ghost use Rattle.std.specs.Prelude.{◌≡◌, ◌≤◌, Err, IfErr, IfOk, OnOk};
-ghost use Rattle.std.specs.Io.KnownBytes.{Appends};
-ghost use Rattle.texts.specs.declared.streams.StreamFault.{StreamFault};
-ghost use Rattle.keepers.specs.declared.fault.StoreFault.{StoreFault};
-ghost use Rattle.operations.specs.Carried.{IsCarriedOut};
+ghost use Rattle.std.specs.Prelude.{◌≡◌, IfErr, IfOk};
 ghost use Rattle.operations.specs.Printed.{PrintsAnswer};
-ghost use Rattle.operations.specs.Told.{answer_line, status_of};
-ghost use Rattle.operations.specs.Written.{WritesBeginning};
-ghost use Rattle.operations.specs.declared.fault.OfficeFault.TheVariants.{Store, Write};
-ghost use Rattle.operator.specs.Office.{command_of_office};
 ghost use Rattle.sqlite_wal.specs.Files.{image_at};
 ghost use Rattle.service.specs.Opening.{IsOfficeFault, IsUnanswered};
 ghost use Rattle.sql_keeper.specs.Inside.{tables_in};
 ghost use Rattle.sql_keeper.specs.Stops.{honest_in};
 ghost use Rattle.service.specs.Over.{IsCommandDone, IsMomentOf};
 ghost use Rattle.service.specs.Over.{CommandsOffice, CommandsOver};
-ghost use Rattle.service.specs.declared.fault.DatabaseFault.TheVariants.{Office as OfOffice};
 
 use crate::clock::command_moment;
 use crate::database_files::DatabaseFiles;
 use crate::fault::DatabaseFault;
 use crate::opening::{Office, open_office};
-use keepers::Keeper;
 use operations::{Status, serve_office};
 use operator::OfficeWords;
-use shelves::TariffShelf;
 use sql_keeper::SqlKeeper;
 use sqlite::Alter;
 use sqlite_disk::{Start, Wary};
@@ -89,37 +78,6 @@ fn carry_over<S: Alter + Drop, O: Write>(
     ensures fault { IfErr result IsOfficeFault }
 {
     let Office { mut keeper, shelf } = office;
-    let status = carry_out(alloc, &mut keeper, &shelf, words, moment, output)?;
+    let status = serve_office(alloc, &mut keeper, &shelf, words.command, moment, output)?;
     Ok((status, keeper))
-}
-
-/// Carries out the command of words over a keeper, as `serve_office`.
-fn carry_out<K: Keeper, O: Write>(
-    alloc: Global,
-    keeper: &mut K,
-    shelf: &TariffShelf,
-    words: OfficeWords,
-    moment: Moment,
-    output: &mut O,
-) -> Result<Status, DatabaseFault>
-    ensures done { (K.seen keeper.new).clean → IfOk result (λ status.
-        IsCarriedOut shelf.now (command_of_office words.command) moment (K.seen keeper.old).tables
-        (K.seen keeper.new).tables (λ answer. (status ≡ status_of answer)
-        × Appends (O.contents output.old) (O.contents output.new) (answer_line answer))) }
-    ensures printed { IfOk result (λ status.
-        PrintsAnswer status (O.contents output.old) (O.contents output.new)) }
-    ensures untold { (fault : StreamFault) → result ≡ Err (OfOffice (Write fault)) →
-        (K.seen keeper.new).clean → IsCarriedOut shelf.now (command_of_office words.command) moment
-        (K.seen keeper.old).tables (K.seen keeper.new).tables (λ answer.
-        WritesBeginning (O.contents output.old) (O.contents output.new) (answer_line answer)) }
-    ensures unserved { (fault : StoreFault) → result ≡ Err (OfOffice (Store fault)) →
-        (K.seen keeper.new).clean → (K.seen keeper.new).tables ≡ (K.seen keeper.old).tables }
-    ensures unwritten { IfErr result (λ fault. IsUnanswered fault → output.new ≡ output.old) }
-    ensures fault { IfErr result IsOfficeFault }
-    ensures honesty { (K.seen keeper.new).honest → (K.seen keeper.old).honest }
-    ensures stands { (K.seen keeper.new).honest → OnOk result (K.seen keeper.new).clean }
-    ensures cleanness { (K.seen keeper.new).clean → (K.seen keeper.old).clean }
-    ensures failures { (K.seen keeper.old).failed ≤ (K.seen keeper.new).failed }
-{
-    Ok(serve_office(alloc, keeper, shelf, words.command, moment, output)?)
 }

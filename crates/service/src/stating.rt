@@ -1,25 +1,23 @@
 //! An account's month over a database.
 
-ghost use Rattle.std.specs.Prelude.{◌≡◌, IfErr, IfOk, OnErr, OnOk};
+ghost use Rattle.std.specs.Prelude.{◌≡◌, IfErr, IfOk, OnErr};
 ghost use Rattle.std.specs.Io.KnownBytes.{Appends};
-ghost use Rattle.operations.specs.Months.{IsMonthTold, OnlyReadsMonth, unknown_line};
+ghost use Rattle.operations.specs.Months.{unknown_line};
 ghost use Rattle.operations.specs.Printed.{IsEnded};
 ghost use Rattle.service.specs.Opening.{IsOfficeFault, IsUnasked};
 ghost use Rattle.sqlite_wal.specs.Files.{image_at};
 ghost use Rattle.sql_keeper.specs.Inside.{tables_in};
 ghost use Rattle.sql_keeper.specs.Stops.{honest_in};
 ghost use Rattle.service.specs.Over.{IsMomentOf, IsMonthDone, query_of};
-ghost use Rattle.service.specs.Stating.{BeginsMonthOf, IsOfOffice, PrintsMonthOf};
+ghost use Rattle.service.specs.Stating.{BeginsMonthOf, PrintsMonthOf};
 ghost use Rattle.service.specs.Stating.{StatesOffice, StatesOver};
 
 use crate::clock::command_moment;
 use crate::database_files::DatabaseFiles;
 use crate::fault::DatabaseFault;
 use crate::opening::{Office, open_office};
-use keepers::ChargeSource;
 use operations::{MonthQuery, Status, serve_statement};
 use operator::StatementWords;
-use shelves::TariffShelf;
 use sql_keeper::SqlKeeper;
 use sqlite::Alter;
 use sqlite_disk::{Start, Wary};
@@ -87,7 +85,8 @@ fn tell_over<S: Alter + Drop, O: Write>(
     ensures fault { IfErr result IsOfficeFault }
 {
     let Office { mut keeper, shelf } = office;
-    let status = tell_month(alloc, &mut keeper, &shelf, words, moment, output)?;
+    let query = query_of(words);
+    let status = serve_statement(alloc, &mut keeper, &shelf, &query, moment, output)?;
     Ok((status, keeper))
 }
 
@@ -107,32 +106,4 @@ fn query_of(words: StatementWords) -> MonthQuery
         month,
         csv,
     }
-}
-
-/// Writes the month of words over a keeper, as `serve_statement`.
-fn tell_month<K: ChargeSource, O: Write>(
-    alloc: Global,
-    keeper: &mut K,
-    shelf: &TariffShelf,
-    words: StatementWords,
-    moment: Moment,
-    output: &mut O,
-) -> Result<Status, DatabaseFault>
-    ensures told { (K.seen keeper.new).clean →
-        IsOfOffice (IsMonthTold shelf.now (query_of words) moment (K.seen keeper.old).tables
-        (O.contents output.old) (O.contents output.new)) result }
-    ensures ended { IfOk result (IsEnded
-        (Appends (O.contents output.old) (O.contents output.new) unknown_line)) }
-    ensures printed { IfOk result
-        (PrintsMonthOf words (O.contents output.old) (O.contents output.new)) }
-    ensures begun { OnErr result
-        (BeginsMonthOf words (O.contents output.old) (O.contents output.new)) }
-    ensures reads { IsOfOffice (OnlyReadsMonth (K.seen keeper.old) (K.seen keeper.new)) result }
-    ensures honesty { (K.seen keeper.new).honest → (K.seen keeper.old).honest }
-    ensures stands { (K.seen keeper.new).honest → OnOk result (K.seen keeper.new).clean }
-    ensures unwritten { IfErr result (λ fault. IsUnasked fault → output.new ≡ output.old) }
-    ensures fault { IfErr result IsOfficeFault }
-{
-    let query = query_of(words);
-    Ok(serve_statement(alloc, keeper, shelf, &query, moment, output)?)
 }
