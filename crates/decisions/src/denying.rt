@@ -1,10 +1,9 @@
 //! The denial of a request that would begin a session.
 
-ghost use Rattle.std.specs.Prelude.{◌≡◌, ◌≤◌, IfOk, OnOk, None};
+ghost use Rattle.std.specs.Prelude.{◌≡◌, ◌≤◌, None};
 ghost use Rattle.reserving.specs.Sessions.{session_in};
-ghost use Rattle.reserving.specs.Others.{OthersStay};
 ghost use Rattle.decisions.specs.Decisions.{denied};
-ghost use Rattle.decisions.specs.Follows.{IsNew, IsRuledBy};
+ghost use Rattle.decisions.specs.Follows.{IsNew, RulesOver};
 
 use crate::request_head::Asked;
 use crate::ruling::{Ruled, Ruling};
@@ -22,12 +21,8 @@ pub(crate) fn deny(
 ) -> Ruled
     requires later { account.old.as_of ≤ asked.now.moment }
     requires new { session_in asked.now.session.now account.old.sessions ≡ None }
-    ensures ruled { IfOk result (IsRuledBy (IsNew asked.now.session.now)
-        (denied asked.now.moment asked.now.session.now asked.now.number why)
-        asked.now.moment account.old account.new) }
-    ensures stay { OnOk result (OthersStay asked.now.session.now asked.now.moment account.old
-        account.new) }
-    ensures tariff { account.new.shelf ≡ account.old.shelf }
+    ensures { RulesOver (IsNew asked.now.session.now) (denied asked.now.moment asked.now.session.now
+        asked.now.number why) asked.now.session.now asked.now.moment account.old account.new result }
 {
     account.deny(asked.session, asked.number, asked.moment)?;
     Ok(Ruling::accepted(Outcome::Failed(Failure::Denied(why)), Vec::new(alloc)))
