@@ -1,17 +1,22 @@
--- Rows in the rules of who reads them: the one that is kept once, those of books, and those of
--- reservations.
+-- Rows in the rules of who reads them. What a row is is what the content shows of it.
 -- Source: profile.
-use Rattle.std.specs.Prelude.{◌≡◌, ◌<◌, ◌≤◌, ◌^◌, IsTrue, Option, Some, None}
+use Rattle.std.specs.Prelude.{◌≡◌, ◌<◌, ◌≤◌, ◌^◌, ℕ, IfSome, IsTrue, Option, Some, None}
+use Rattle.std.specs.Prelude.{is_some}
 use Rattle.std.specs.Str.{IsUtf8}
 use Rattle.units.specs.Words.{GroupId, BookNumber, latest_moment}
 use Rattle.identifiers.specs.Words.{SessionName, AccountName}
 use Rattle.identifiers.specs.Texts.{is_account_number, is_session_id}
+use Rattle.buckets.specs.Row.{BucketRow}
+use Rattle.reserving.specs.declared.session.Counter.{Counter}
+use Rattle.reserving.specs.declared.session.Session.{Session}
 use Rattle.sql_tables.specs.Words.{TablesVersion}
 use Rattle.sql_rows.specs.Content.{TablesContent}
 use Rattle.sql_rows.specs.Lists.{BookAt, ReservedAt, has_reservation}
 use Rattle.sql_rows.specs.Texts.{meta_of}
-use Rattle.sql_rows.specs.Values.{BookRow, Meta}
+use Rattle.sql_rows.specs.Values.{BookRow, Kept, Meta}
+use Rattle.sql_rows.specs.declared.head.HeadColumns.{HeadColumns}
 use Rattle.sql_rows.specs.declared.meta_rows.MetaColumns.{MetaColumns}
+use Rattle.sql_rows.specs.declared.voucher_rows.VoucherColumns.{VoucherColumns}
 
 -- the version is below 2^32, the text is one of characters, and the moment is in the range of
 -- moments
@@ -63,3 +68,48 @@ abbrev pub AreRuledReserved : TablesContent → Type 0
 AreRuledReserved c = (a : AccountName) (s : SessionName) (g : GroupId) →
     IsTrue (has_reservation ((c.rows a).groups s g))
     → IsTrue (is_account_number a) × IsTrue (is_session_id s) × (g < 2 ^ 32)
+
+-- what is kept of an account once: the moment that its rows are as of is in the range of moments
+-- rule: statements-of-tables.refused: the rows that are out of the rules of who reads them
+pub record IsRuledHead (h : HeadColumns) : Type 0 where
+  pub as_of : h.as_of ≤ latest_moment
+
+-- an account: its name is an account's number
+abbrev pub IsRuledAccount : AccountName → Type 0
+IsRuledAccount a = IsTrue (is_account_number a)
+
+-- each account that is opened is in the rules
+abbrev pub AreRuledAccounts : TablesContent → Type 0
+AreRuledAccounts c = (a : AccountName) → IsTrue (is_some (c.rows a).head) → IsRuledAccount a
+
+-- a session: its name is such a text, the number of its last request is below 2^32, and its moment
+-- is in the range of moments
+pub record IsRuledSession (x : Session) : Type 0 where
+  pub id : IsTrue (is_session_id x.id)
+  pub last_number : x.last_number < 2 ^ 32
+  pub touched : x.touched ≤ latest_moment
+
+-- a bucket: its number and the rating group that it pays for are below 2^32, and its moments are in
+-- the range of moments
+pub record IsRuledBucket (b : BucketRow) : Type 0 where
+  pub number : b.number < 2 ^ 32
+  pub from : b.from ≤ latest_moment
+  pub until : b.until ≤ latest_moment
+  pub scope : IfSome b.scope (λ (g : ℕ). g < 2 ^ 32)
+
+-- a counter: its rating group and its cycle are below 2^32
+pub record IsRuledCounter (k : Counter) : Type 0 where
+  pub group : k.group < 2 ^ 32
+  pub cycle : k.cycle < 2 ^ 32
+
+-- a voucher: its days and the rating group that it pays for are below 2^32, and who redeemed it has
+-- an account's number
+pub record IsRuledVoucher (x : VoucherColumns) : Type 0 where
+  pub days : IfSome x.days (λ n. n < 2 ^ 32)
+  pub scope : IfSome x.scope (λ g. g < 2 ^ 32)
+  pub account : IfSome x.account (λ a. IsTrue (is_account_number a))
+
+-- a kept answer: both texts are ones of characters
+pub record IsRuledKept (k : Kept) : Type 0 where
+  pub content : IsUtf8 k.content
+  pub answer : IsUtf8 k.answer

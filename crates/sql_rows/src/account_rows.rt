@@ -1,15 +1,19 @@
 //! Rows of accounts.
 
-ghost use Rattle.std.specs.Prelude.{◌≡◌, map, IfOk, None, OnOk, Some, option_copied};
+ghost use Rattle.std.specs.Prelude.{◌≡◌, map, IfErr, IfSome, MatchResult, None, OnOk, Option};
+ghost use Rattle.std.specs.Prelude.{Some, option_copied};
 ghost use Rattle.sql_rows.specs.Content.{has_account, tables_content, rows_in, with_account};
 ghost use Rattle.sql_rows.specs.Values.{head_cells, head_key, head_values};
 ghost use Rattle.sql_rows.specs.Lists.{IsNextAccount};
+ghost use Rattle.sql_rows.specs.Plain.{ArePlain};
+ghost use Rattle.sql_rows.specs.Ruled.{AreRuledAccounts, IsRuledAccount, IsRuledHead};
+ghost use Rattle.identifiers.specs.Words.{AccountName};
 ghost use Rattle.sql_rows.specs.Makes.{Makes, ReplacesIfSome};
 ghost use Rattle.sql_tables.specs.Statements.{Attempts, HasTables, HasIdleTables, HasRules, Reads};
 ghost use Rattle.sql_tables.specs.Statements.{AttemptsOver, ReadsWithin};
 ghost use Rattle.sql_tables.specs.Selects.{one_or_none};
 ghost use Rattle.sqlite.specs.Held.{state};
-ghost use Rattle.sqlite.specs.State.{ExecutesInside};
+ghost use Rattle.sqlite.specs.State.{ExecutesInside, HasCleanDisk};
 
 use crate::decoding::{account_at, flag_at, moment_at};
 use crate::head::HeadColumns;
@@ -127,8 +131,8 @@ pub fn put_account<S: Alter>(
 /// What is kept of an account once: none where it is not opened.
 ///
 /// # Errors
-/// `Store` where the store failed, `Rules` where a row is out of its rules, `Memory` where a growth
-/// was refused. Nothing is changed then either.
+/// `Store` where the store failed, `Rules` only where the row is out of its rules or isn't as
+/// statements write it, `Memory` where a growth was refused. Nothing is changed then either.
 // rule: statements-of-tables.tables-content
 pub fn read_account<S: Alter>(
     conn: &mut Connection<S>,
@@ -137,6 +141,10 @@ pub fn read_account<S: Alter>(
     requires idle { HasIdleTables (state S.Store conn.old) }
     ensures reads { Reads (λ trees o. o ≡ (rows_in trees account.now).head)
         (state S.Store conn.old) (state S.Store conn.new) result }
+    // A row that is as statements write it, and in the rules, is answered.
+    ensures refused { HasCleanDisk (state S.Store conn.new) → IfErr result (λ e.
+        e ≡ ReadFault.Rules → ArePlain (state S.Store conn.old).now.trees →
+        ¬ IfSome (rows_in (state S.Store conn.old).now.trees account.now).head IsRuledHead) }
 {
     let of_account = text(account.as_str());
     let rows = read(
@@ -162,6 +170,10 @@ pub fn read_account_within<S: Alter>(
     ensures same_reference { tx.new.conn.ghost_name ≡ tx.old.conn.ghost_name }
     ensures reads { ReadsWithin (λ trees o. o ≡ (rows_in trees account.now).head)
         (state S.Store tx.old.conn.now) (state S.Store tx.new.conn.now) result }
+    // A row that is as statements write it, and in the rules, is answered.
+    ensures refused { HasCleanDisk (state S.Store tx.new.conn.now) → IfErr result (λ e.
+        e ≡ ReadFault.Rules → ArePlain (state S.Store tx.old.conn.now).now.trees →
+        ¬ IfSome (rows_in (state S.Store tx.old.conn.now).now.trees account.now).head IsRuledHead) }
 {
     let of_account = text(account.as_str());
     let rows = read_within(
@@ -174,7 +186,9 @@ pub fn read_account_within<S: Alter>(
 }
 
 fn head_among(rows: &[Row]) -> Result<Option<HeadColumns>, ReadFault>
-    ensures { IfOk result (λ o. rows.now ≡ map head_cells (one_or_none o)) }
+    ensures { MatchResult result (λ o. rows.now ≡ map head_cells (one_or_none o))
+        (λ e. e ≡ ReadFault.Rules → (o : Option HeadColumns) →
+        rows.now ≡ map head_cells (one_or_none o) → ¬ IfSome o IsRuledHead) }
 {
     let row = one_of(rows)?;
     match row {
@@ -184,7 +198,9 @@ fn head_among(rows: &[Row]) -> Result<Option<HeadColumns>, ReadFault>
 }
 
 fn head_from(row: &Row) -> Result<HeadColumns, ReadFault>
-    ensures { IfOk result (λ h. row.now ≡ head_cells h) }
+    ensures { MatchResult result (λ h. row.now ≡ head_cells h)
+        (λ e. e ≡ ReadFault.Rules → (h : HeadColumns) → row.now ≡ head_cells h →
+        ¬ IsRuledHead h) }
 {
     has_columns(row, 4)?;
     let barred = flag_at(row, 0)?;
@@ -213,6 +229,9 @@ fn read_first_account<S: Alter>(
     ensures same_reference { tx.new.conn.ghost_name ≡ tx.old.conn.ghost_name }
     ensures reads { ReadsWithin (λ trees o. IsNextAccount (tables_content trees) None o)
         (state S.Store tx.old.conn.now) (state S.Store tx.new.conn.now) result }
+    ensures refused { HasCleanDisk (state S.Store tx.new.conn.now) → IfErr result (λ e.
+        e ≡ ReadFault.Rules →
+        ¬ AreRuledAccounts (tables_content (state S.Store tx.old.conn.now).now.trees)) }
 {
     let rows = read_within(
         tx,
@@ -238,6 +257,9 @@ fn read_account_after<S: Alter>(
     ensures reads { ReadsWithin
         (λ trees o. IsNextAccount (tables_content trees) (Some account.now) o)
         (state S.Store tx.old.conn.now) (state S.Store tx.new.conn.now) result }
+    ensures refused { HasCleanDisk (state S.Store tx.new.conn.now) → IfErr result (λ e.
+        e ≡ ReadFault.Rules →
+        ¬ AreRuledAccounts (tables_content (state S.Store tx.old.conn.now).now.trees)) }
 {
     let of_account = text(account.as_str());
     let rows = read_within(
@@ -253,7 +275,8 @@ fn read_account_after<S: Alter>(
 /// next meets each account once, and holds the number of one.
 ///
 /// # Errors
-/// As of `read_account`. Then nothing is committed.
+/// `Store` where the store failed, `Rules` only where an account is out of its rules, `Memory` where
+/// a growth was refused. Then nothing is committed.
 // rule: statements-of-tables.tables-content
 pub fn read_next_account<S: Alter>(
     tx: &mut Transaction<'_, S>,
@@ -266,6 +289,10 @@ pub fn read_next_account<S: Alter>(
     ensures reads { ReadsWithin
         (λ trees o. IsNextAccount (tables_content trees) (option_copied after.entry) o)
         (state S.Store tx.old.conn.now) (state S.Store tx.new.conn.now) result }
+    // A number that is in the rules is answered.
+    ensures refused { HasCleanDisk (state S.Store tx.new.conn.now) → IfErr result (λ e.
+        e ≡ ReadFault.Rules →
+        ¬ AreRuledAccounts (tables_content (state S.Store tx.old.conn.now).now.trees)) }
 {
     match after {
         None => read_first_account(tx, alloc),
@@ -274,7 +301,9 @@ pub fn read_next_account<S: Alter>(
 }
 
 fn account_among(alloc: Global, rows: &[Row]) -> Result<Option<AccountNumber>, ReadFault>
-    ensures { IfOk result (λ o. rows.now ≡ map head_key (one_or_none o)) }
+    ensures { MatchResult result (λ o. rows.now ≡ map head_key (one_or_none o))
+        (λ e. e ≡ ReadFault.Rules → (o : Option AccountName) →
+        rows.now ≡ map head_key (one_or_none o) → ¬ IfSome o IsRuledAccount) }
 {
     let row = one_of(rows)?;
     match row {
@@ -284,7 +313,9 @@ fn account_among(alloc: Global, rows: &[Row]) -> Result<Option<AccountNumber>, R
 }
 
 fn account_from(alloc: Global, row: &Row) -> Result<AccountNumber, ReadFault>
-    ensures { IfOk result (λ a. row.now ≡ head_key a) }
+    ensures { MatchResult result (λ a. row.now ≡ head_key a)
+        (λ e. e ≡ ReadFault.Rules → (a : AccountName) → row.now ≡ head_key a →
+        ¬ IsRuledAccount a) }
 {
     has_columns(row, 1)?;
     account_at(alloc, row, 0)

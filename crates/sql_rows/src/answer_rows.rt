@@ -1,13 +1,15 @@
 //! Rows of kept answers.
 
-ghost use Rattle.std.specs.Prelude.{◌≡◌, map, option_map, IfOk};
+ghost use Rattle.std.specs.Prelude.{◌≡◌, map, option_map, IfErr, IfSome, MatchResult, Option};
 ghost use Rattle.sql_rows.specs.Content.{rows_in, with_answer, with_rows};
-ghost use Rattle.sql_rows.specs.Values.{answer_cells};
+ghost use Rattle.sql_rows.specs.Values.{Kept, answer_cells};
 ghost use Rattle.sql_rows.specs.Texts.{kept_of};
 ghost use Rattle.sql_rows.specs.Makes.{Makes};
+ghost use Rattle.sql_rows.specs.Ruled.{IsRuledKept};
 ghost use Rattle.sql_tables.specs.Statements.{HasTables, HasIdleTables, Reads, AttemptsOver};
 ghost use Rattle.sql_tables.specs.Selects.{one_or_none};
 ghost use Rattle.sqlite.specs.Held.{state};
+ghost use Rattle.sqlite.specs.State.{HasCleanDisk};
 
 use crate::running::run;
 use identifiers::AccountNumber;
@@ -63,8 +65,8 @@ pub fn put_answer<S: Alter>(
 /// The texts that are kept of a command under its key, as `put_answer` has it.
 ///
 /// # Errors
-/// `Store` where the store failed, `Rules` where a row is out of its rules, `Memory` where a growth
-/// was refused. Nothing is changed then either.
+/// `Store` where the store failed, `Rules` only where the row is out of its rules, `Memory` where a
+/// growth was refused. Nothing is changed then either.
 // rule: answer-rows
 pub fn read_answer<S: Alter>(
     conn: &mut Connection<S>,
@@ -77,6 +79,11 @@ pub fn read_answer<S: Alter>(
     ensures reads { Reads (λ trees o.
         option_map kept_of o ≡ (rows_in trees account.now).answers kind name.now number)
         (state S.Store conn.old) (state S.Store conn.new) result }
+    // A row that is in the rules is answered.
+    ensures refused { HasCleanDisk (state S.Store conn.new) → IfErr result (λ e.
+        e ≡ ReadFault.Rules →
+        ¬ IfSome ((rows_in (state S.Store conn.old).now.trees account.now).answers kind name.now
+        number) IsRuledKept) }
 {
     let of_account = text(account.as_str());
     let of_kind = whole(kind);
@@ -92,7 +99,10 @@ pub fn read_answer<S: Alter>(
 }
 
 fn kept_among(rows: &[Row]) -> Result<Option<KeptTexts>, ReadFault>
-    ensures { IfOk result (λ o. rows.now ≡ map answer_cells (one_or_none (option_map kept_of o))) }
+    ensures { MatchResult result
+        (λ o. rows.now ≡ map answer_cells (one_or_none (option_map kept_of o)))
+        (λ e. e ≡ ReadFault.Rules → (o : Option Kept) →
+        rows.now ≡ map answer_cells (one_or_none o) → ¬ IfSome o IsRuledKept) }
 {
     let row = one_of(rows)?;
     match row {
@@ -102,7 +112,8 @@ fn kept_among(rows: &[Row]) -> Result<Option<KeptTexts>, ReadFault>
 }
 
 fn kept_from(row: &Row) -> Result<KeptTexts, ReadFault>
-    ensures { IfOk result (λ k. row.now ≡ answer_cells (kept_of k)) }
+    ensures { MatchResult result (λ k. row.now ≡ answer_cells (kept_of k))
+        (λ e. e ≡ ReadFault.Rules → (k : Kept) → row.now ≡ answer_cells k → ¬ IsRuledKept k) }
 {
     has_columns(row, 2)?;
     let content = text_at(row, 0)?;

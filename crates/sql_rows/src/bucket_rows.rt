@@ -1,11 +1,14 @@
 //! Rows of buckets.
 
-ghost use Rattle.std.specs.Prelude.{◌≡◌, map, filter, true, IsTrue, IfOk, OnOk, option_map};
+ghost use Rattle.std.specs.Prelude.{◌≡◌, ◌≤◌, length, map, filter, true, IsTrue, IfErr, IfOk};
+ghost use Rattle.std.specs.Prelude.{IfSome, MatchResult, OnOk, Option, option_map};
+ghost use Rattle.buckets.specs.Row.{BucketRow};
 ghost use Rattle.buckets.specs.declared.kind.BucketKind.TheVariants.{Money};
 ghost use Rattle.sql_rows.specs.Content.{has_bucket, rows_in, with_bucket, with_rows};
 ghost use Rattle.sql_rows.specs.Values.{AreColumnsFrom, bucket_cells, bucket_values, money_cells};
 ghost use Rattle.sql_rows.specs.Values.{plain_bucket};
 ghost use Rattle.sql_rows.specs.Lists.{BucketsRise, Rises, is_dead_bucket};
+ghost use Rattle.sql_rows.specs.Ruled.{IsRuledBucket};
 ghost use Rattle.sql_rows.specs.Texts.{ReadsBuckets, bucket_row};
 ghost use Rattle.sql_rows.specs.Each.{with_buckets};
 ghost use Rattle.sql_rows.specs.Makes.{Makes, MakesIfOpen, ReplacesIfSome};
@@ -13,7 +16,7 @@ ghost use Rattle.sql_tables.specs.Selects.{one_or_none};
 ghost use Rattle.sql_tables.specs.Statements.{HasTables, HasIdleTables, IsInside};
 ghost use Rattle.sql_tables.specs.Statements.{AttemptsOver, Reads};
 ghost use Rattle.sqlite.specs.Held.{state};
-ghost use Rattle.sqlite.specs.State.{ExecutesInside};
+ghost use Rattle.sqlite.specs.State.{ExecutesInside, HasCleanDisk};
 
 use crate::decoding::moment_at;
 use buckets::{Bucket, BucketKind, Columns as BucketColumns};
@@ -142,8 +145,8 @@ pub fn put_bucket<S: Alter>(
 /// tested yet, and it is given as one of money.
 ///
 /// # Errors
-/// `Store` where the store failed, `Rules` where the row is out of its rules. Nothing is changed
-/// then either.
+/// `Store` where the store failed, `Rules` only where the row is out of its rules. Nothing is
+/// changed then either.
 pub fn read_bucket<S: Alter>(
     conn: &mut Connection<S>,
     account: &AccountNumber,
@@ -153,6 +156,11 @@ pub fn read_bucket<S: Alter>(
     ensures reads { Reads (λ trees o.
         option_map bucket_row o ≡ (rows_in trees account.now).buckets number)
         (state S.Store conn.old) (state S.Store conn.new) result }
+    // A row that is in the rules is answered.
+    ensures refused { HasCleanDisk (state S.Store conn.new) → IfErr result (λ e.
+        e ≡ ReadFault.Rules →
+        ¬ IfSome ((rows_in (state S.Store conn.old).now.trees account.now).buckets number)
+        IsRuledBucket) }
 {
     let of_account = text(account.as_str());
     let of_number = whole(number);
@@ -166,8 +174,10 @@ pub fn read_bucket<S: Alter>(
 }
 
 fn bucket_among(rows: &[Row]) -> Result<Option<BucketColumns>, ReadFault>
-    ensures { IfOk result
-        (λ o. rows.now ≡ map bucket_cells (one_or_none (option_map bucket_row o))) }
+    ensures { MatchResult result
+        (λ o. rows.now ≡ map bucket_cells (one_or_none (option_map bucket_row o)))
+        (λ e. e ≡ ReadFault.Rules → (o : Option BucketRow) →
+        rows.now ≡ map money_cells (one_or_none o) → ¬ IfSome o IsRuledBucket) }
 {
     let row = one_of(rows)?;
     match row {
@@ -283,7 +293,9 @@ fn buckets_from(alloc: Global, rows: &[Row]) -> Result<Vec<BucketColumns>, ReadF
 }
 
 fn bucket_from(row: &Row) -> Result<BucketColumns, ReadFault>
-    ensures { IfOk result (λ b. row.now ≡ bucket_cells (bucket_row b)) }
+    ensures { MatchResult result (λ b. row.now ≡ bucket_cells (bucket_row b))
+        (λ e. e ≡ ReadFault.Rules → (b : BucketRow) → row.now ≡ money_cells b →
+        ¬ IsRuledBucket b) }
 {
     has_columns(row, 9)?;
     let columns = columns_from(row)?;
@@ -293,7 +305,9 @@ fn bucket_from(row: &Row) -> Result<BucketColumns, ReadFault>
 /// The columns of a bucket, with which a row begins.
 pub(crate) fn columns_from(row: &Row) -> Result<BucketColumns, ReadFault>
     ensures kind { IfOk result (λ b. b.kind ≡ Money) }
-    ensures cells { IfOk result (λ b. AreColumnsFrom 0 row.now (money_cells (bucket_row b))) }
+    ensures cells { MatchResult result (λ b. AreColumnsFrom 0 row.now (money_cells (bucket_row b)))
+        (λ e. e ≡ ReadFault.Rules → 9 ≤ length row.now → (b : BucketRow) →
+        AreColumnsFrom 0 row.now (money_cells b) → ¬ IsRuledBucket b) }
 {
     let number = small_at(row, 0)?;
     let from = moment_at(row, 1)?;

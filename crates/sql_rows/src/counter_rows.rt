@@ -1,15 +1,16 @@
 //! Rows of counters.
 
-ghost use Rattle.std.specs.Prelude.{◌≡◌, map, IfOk};
+ghost use Rattle.std.specs.Prelude.{◌≡◌, map, IfErr, IfSome, MatchResult, Option};
 ghost use Rattle.sql_rows.specs.Content.{has_counter, rows_in, with_counter_row, with_rows};
 ghost use Rattle.sql_rows.specs.Each.{with_counters};
 ghost use Rattle.sql_rows.specs.Values.{counter_cells, counter_values};
 ghost use Rattle.sql_rows.specs.Makes.{Makes, MakesIfOpen, ReplacesIfSome};
+ghost use Rattle.sql_rows.specs.Ruled.{IsRuledCounter};
 ghost use Rattle.sql_tables.specs.Statements.{HasTables, HasIdleTables, IsInside, Reads};
 ghost use Rattle.sql_tables.specs.Statements.{AttemptsOver};
 ghost use Rattle.sql_tables.specs.Selects.{one_or_none};
 ghost use Rattle.sqlite.specs.Held.{state};
-ghost use Rattle.sqlite.specs.State.{ExecutesInside};
+ghost use Rattle.sqlite.specs.State.{ExecutesInside, HasCleanDisk};
 
 use identifiers::AccountNumber;
 use reserving::Counter;
@@ -116,8 +117,8 @@ pub fn put_counter<S: Alter>(
 /// The counter of a rating group in a cycle.
 ///
 /// # Errors
-/// `Store` where the store failed, `Rules` where a row is out of its rules, `Memory` where a growth
-/// was refused. Nothing is changed then either.
+/// `Store` where the store failed, `Rules` only where the row is out of its rules, `Memory` where a
+/// growth was refused. Nothing is changed then either.
 pub fn read_counter<S: Alter>(
     conn: &mut Connection<S>,
     account: &AccountNumber,
@@ -127,6 +128,11 @@ pub fn read_counter<S: Alter>(
     requires idle { HasIdleTables (state S.Store conn.old) }
     ensures reads { Reads (λ trees o. o ≡ (rows_in trees account.now).counters group cycle)
         (state S.Store conn.old) (state S.Store conn.new) result }
+    // A row that is in the rules is answered.
+    ensures refused { HasCleanDisk (state S.Store conn.new) → IfErr result (λ e.
+        e ≡ ReadFault.Rules →
+        ¬ IfSome ((rows_in (state S.Store conn.old).now.trees account.now).counters group cycle)
+        IsRuledCounter) }
 {
     let of_account = text(account.as_str());
     let of_group = whole(group);
@@ -141,7 +147,9 @@ pub fn read_counter<S: Alter>(
 }
 
 fn counter_among(rows: &[Row]) -> Result<Option<Counter>, ReadFault>
-    ensures { IfOk result (λ o. rows.now ≡ map counter_cells (one_or_none o)) }
+    ensures { MatchResult result (λ o. rows.now ≡ map counter_cells (one_or_none o))
+        (λ e. e ≡ ReadFault.Rules → (o : Option Counter) →
+        rows.now ≡ map counter_cells (one_or_none o) → ¬ IfSome o IsRuledCounter) }
 {
     let row = one_of(rows)?;
     match row {
@@ -151,7 +159,9 @@ fn counter_among(rows: &[Row]) -> Result<Option<Counter>, ReadFault>
 }
 
 pub(crate) fn counter_from(row: &Row) -> Result<Counter, ReadFault>
-    ensures { IfOk result (λ k. row.now ≡ counter_cells k) }
+    ensures { MatchResult result (λ k. row.now ≡ counter_cells k)
+        (λ e. e ≡ ReadFault.Rules → (k : Counter) → row.now ≡ counter_cells k →
+        ¬ IsRuledCounter k) }
 {
     has_columns(row, 3)?;
     let group = small_at(row, 0)?;

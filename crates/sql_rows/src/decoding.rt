@@ -1,6 +1,7 @@
 //! Columns read as moments, flags and names.
 
-ghost use Rattle.std.specs.Prelude.{◌≡◌, ◌≤◌, ℕ, false, List, IfOk, IsTrue, MatchResult};
+ghost use Rattle.std.specs.Prelude.{◌≡◌, ◌<◌, ◌≤◌, ℕ, Bool, false, length, List, Option, IfSome};
+ghost use Rattle.std.specs.Prelude.{IsTrue, MatchResult};
 ghost use Rattle.units.specs.Words.{latest_moment};
 ghost use Rattle.identifiers.specs.Texts.{is_account_number, is_session_id};
 ghost use Rattle.sqlite.specs.Values.{or_null};
@@ -26,7 +27,8 @@ pub(crate) fn moment_at(row: &Row, at: usize) -> Result<Moment, ReadFault>
 
 /// The truth value in a column: 0 or 1.
 pub(crate) fn flag_at(row: &Row, at: usize) -> Result<bool, ReadFault>
-    ensures { IfOk result (λ b. column row.now at ≡ nat (flag_number b)) }
+    ensures { MatchResult result (λ b. column row.now at ≡ nat (flag_number b))
+        (λ e. e ≡ ReadFault.Rules → (b : Bool) → ¬ (column row.now at ≡ nat (flag_number b))) }
 {
     let number = small_at(row, at)?;
     match number {
@@ -92,11 +94,16 @@ pub(crate) fn redeemer_at(
     row: &Row,
     at: usize,
 ) -> Result<Option<AccountNumber>, ReadFault>
-    ensures { IfOk result (λ o. column row.now at ≡ or_null Text o) }
+    ensures { MatchResult result (λ o. column row.now at ≡ or_null Text o)
+        (λ e. e ≡ ReadFault.Rules → at < length row.now → (o : Option (List ℕ)) →
+        IfSome o (λ a. IsTrue (is_account_number a)) → ¬ (column row.now at ≡ or_null Text o)) }
 {
     match null_at(row, at) {
         Ok(()) => Ok(None),
-        Err(_) => Ok(Some(account_at(alloc, row, at)?)),
+        Err(fault) => {
+            is_none(fault)?;
+            Ok(Some(account_at(alloc, row, at)?))
+        }
     }
 }
 
@@ -112,7 +119,9 @@ pub(crate) fn account_at(alloc: Global, row: &Row, at: usize) -> Result<AccountN
 
 /// The state of a session in a column.
 pub(crate) fn state_at(row: &Row, at: usize) -> Result<SessionState, ReadFault>
-    ensures { IfOk result (λ s. column row.now at ≡ nat (state_number s)) }
+    ensures { MatchResult result (λ s. column row.now at ≡ nat (state_number s))
+        (λ e. e ≡ ReadFault.Rules → (s : SessionState) →
+        ¬ (column row.now at ≡ nat (state_number s))) }
 {
     let number = small_at(row, at)?;
     match number {
@@ -125,7 +134,8 @@ pub(crate) fn state_at(row: &Row, at: usize) -> Result<SessionState, ReadFault>
 
 /// Tests that a row of a selection of several parts is of the part of this number.
 pub(crate) fn is_of_part(row: &Row, part: u64) -> Result<(), ReadFault>
-    ensures { IfOk result (λ _. column row.now 0 ≡ nat part) }
+    ensures { MatchResult result (λ _. column row.now 0 ≡ nat part)
+        (λ e. e ≡ ReadFault.Rules → ¬ (column row.now 0 ≡ nat part)) }
 {
     if number_at(row, 0)? == part {
         Ok(())

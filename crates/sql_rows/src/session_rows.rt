@@ -1,12 +1,14 @@
 //! Rows of sessions.
 
-ghost use Rattle.std.specs.Prelude.{◌≡◌, map, None, IfOk};
+ghost use Rattle.std.specs.Prelude.{◌≡◌, map, None, IfErr, IfOk, IfSome, MatchResult, Option};
 ghost use Rattle.sql_rows.specs.Content.{has_session, rows_in, with_rows, with_session_row};
 ghost use Rattle.sql_rows.specs.Values.{session_cells, session_values, state_number};
 ghost use Rattle.sql_rows.specs.Lists.{AreSessions, Ascends, HasNoGroups};
 ghost use Rattle.reserving.specs.Sessions.{is_open, session_before};
 ghost use Rattle.sql_rows.specs.Each.{with_sessions};
 ghost use Rattle.sql_rows.specs.Makes.{Adds, Makes, MakesIfOpen};
+ghost use Rattle.sql_rows.specs.Plain.{ArePlain};
+ghost use Rattle.sql_rows.specs.Ruled.{IsRuledSession};
 ghost use Rattle.sql_tables.specs.Statements.{HasTables, HasIdleTables, HasRules, IsInside};
 ghost use Rattle.sql_tables.specs.Statements.{Reads, ReadsWithin, AttemptsOver};
 ghost use Rattle.sql_tables.specs.Selects.{one_or_none};
@@ -121,8 +123,8 @@ fn state_number(state: SessionState) -> u32
 /// of its rating groups either, since these have its name as a key.
 ///
 /// # Errors
-/// `Store` where the store failed, `Rules` where a row is out of its rules, `Memory` where a growth
-/// was refused. Nothing is changed then either.
+/// `Store` where the store failed, `Rules` only where the row is out of its rules or isn't as
+/// statements write it, `Memory` where a growth was refused. Nothing is changed then either.
 // rule: statements-of-tables.with-session-row
 pub fn read_session<S: Alter>(
     conn: &mut Connection<S>,
@@ -135,6 +137,11 @@ pub fn read_session<S: Alter>(
         (state S.Store conn.old) (state S.Store conn.new) result }
     ensures none { HasCleanDisk (state S.Store conn.new) → IfOk result (λ o. o ≡ None →
         HasNoGroups (rows_in (state S.Store conn.old).now.trees account.now) session.now) }
+    // A row that is as statements write it, and in the rules, is answered.
+    ensures refused { HasCleanDisk (state S.Store conn.new) → IfErr result (λ e.
+        e ≡ ReadFault.Rules → ArePlain (state S.Store conn.old).now.trees →
+        ¬ IfSome ((rows_in (state S.Store conn.old).now.trees account.now).sessions session.now)
+        IsRuledSession) }
 {
     let rows = read(
         conn,
@@ -146,7 +153,9 @@ pub fn read_session<S: Alter>(
 }
 
 fn session_among(alloc: Global, rows: &[Row]) -> Result<Option<Session>, ReadFault>
-    ensures { IfOk result (λ o. rows.now ≡ map session_cells (one_or_none o)) }
+    ensures { MatchResult result (λ o. rows.now ≡ map session_cells (one_or_none o))
+        (λ e. e ≡ ReadFault.Rules → (o : Option Session) →
+        rows.now ≡ map session_cells (one_or_none o) → ¬ IfSome o IsRuledSession) }
 {
     let row = one_of(rows)?;
     match row {
@@ -156,7 +165,8 @@ fn session_among(alloc: Global, rows: &[Row]) -> Result<Option<Session>, ReadFau
 }
 
 fn session_from(alloc: Global, row: &Row) -> Result<Session, ReadFault>
-    ensures { IfOk result (λ s. row.now ≡ session_cells s) }
+    ensures { MatchResult result (λ s. row.now ≡ session_cells s)
+        (λ e. e ≡ ReadFault.Rules → (s : Session) → row.now ≡ session_cells s → ¬ IsRuledSession s) }
 {
     has_columns(row, 4)?;
     let id = session_at(alloc, row, 0)?;

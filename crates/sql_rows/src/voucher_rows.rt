@@ -1,14 +1,16 @@
 //! Rows of vouchers.
 
-ghost use Rattle.std.specs.Prelude.{◌≡◌, map, option_copied, IfOk};
+ghost use Rattle.std.specs.Prelude.{◌≡◌, map, option_copied, IfErr, IfSome, MatchResult, Option};
 ghost use Rattle.sqlite_value.specs.Value.{owned};
 ghost use Rattle.sqlite_value.specs.declared.value.Value.TheVariants.{Text};
 ghost use Rattle.sql_rows.specs.Content.{tables_content, with_voucher_row};
 ghost use Rattle.sql_rows.specs.Values.{voucher_cells};
 ghost use Rattle.sql_rows.specs.Makes.{Makes};
+ghost use Rattle.sql_rows.specs.Ruled.{IsRuledVoucher};
 ghost use Rattle.sql_tables.specs.Statements.{HasTables, HasIdleTables, Reads, AttemptsOver};
 ghost use Rattle.sql_tables.specs.Selects.{one_or_none};
 ghost use Rattle.sqlite.specs.Held.{state};
+ghost use Rattle.sqlite.specs.State.{HasCleanDisk};
 ghost use Rattle.sqlite.specs.Values.{bound_value, or_null};
 
 use crate::decoding::redeemer_at;
@@ -85,8 +87,8 @@ pub fn put_voucher<S: Alter>(
 /// The voucher with the code.
 ///
 /// # Errors
-/// `Store` where the store failed, `Rules` where a row is out of its rules, `Memory` where a growth
-/// was refused. Nothing is changed then either.
+/// `Store` where the store failed, `Rules` only where the row is out of its rules, `Memory` where a
+/// growth was refused. Nothing is changed then either.
 // rule: answer-rows
 pub fn read_voucher<S: Alter>(
     conn: &mut Connection<S>,
@@ -96,6 +98,11 @@ pub fn read_voucher<S: Alter>(
     requires idle { HasIdleTables (state S.Store conn.old) }
     ensures reads { Reads (λ trees o. o ≡ (tables_content trees).vouchers code.now)
         (state S.Store conn.old) (state S.Store conn.new) result }
+    // A row that is in the rules is answered.
+    ensures refused { HasCleanDisk (state S.Store conn.new) → IfErr result (λ e.
+        e ≡ ReadFault.Rules →
+        ¬ IfSome ((tables_content (state S.Store conn.old).now.trees).vouchers code.now)
+        IsRuledVoucher) }
 {
     let of_code = text(code);
     let rows = read(
@@ -107,7 +114,9 @@ pub fn read_voucher<S: Alter>(
 }
 
 fn voucher_among(alloc: Global, rows: &[Row]) -> Result<Option<VoucherColumns>, ReadFault>
-    ensures { IfOk result (λ o. rows.now ≡ map voucher_cells (one_or_none o)) }
+    ensures { MatchResult result (λ o. rows.now ≡ map voucher_cells (one_or_none o))
+        (λ e. e ≡ ReadFault.Rules → (o : Option VoucherColumns) →
+        rows.now ≡ map voucher_cells (one_or_none o) → ¬ IfSome o IsRuledVoucher) }
 {
     let row = one_of(rows)?;
     match row {
@@ -117,7 +126,9 @@ fn voucher_among(alloc: Global, rows: &[Row]) -> Result<Option<VoucherColumns>, 
 }
 
 fn voucher_from(alloc: Global, row: &Row) -> Result<VoucherColumns, ReadFault>
-    ensures { IfOk result (λ v. row.now ≡ voucher_cells v) }
+    ensures { MatchResult result (λ v. row.now ≡ voucher_cells v)
+        (λ e. e ≡ ReadFault.Rules → (v : VoucherColumns) → row.now ≡ voucher_cells v →
+        ¬ IsRuledVoucher v) }
 {
     has_columns(row, 4)?;
     let amount = number_at(row, 0)?;

@@ -59,7 +59,7 @@ read_account_plain = (refl, refl)
 abbrev pub columns : Row → Row
 columns r = column r 2 ∷ column r 3 ∷ column r 4 ∷ column r 5 ∷ []
 
-same_columns : (r : Row) → head_in (drop 1 r) ≡ head_in (Null ∷ columns r)
+pub same_columns : (r : Row) → head_in (drop 1 r) ≡ head_in (Null ∷ columns r)
 same_columns [] = refl
 same_columns (v ∷ vs) = refl
 
@@ -72,6 +72,15 @@ module _ (a : List ℕ) where
   unfolding first_key
   means r = agree_ties_at places r (0 ∷ []) (head_key a) (refl, tt)
 
+  pub account_selected : (old new : State) (rows : List Row)
+      → Answers read_account_text (head_key a) old new rows
+      → Selects (λ r. eq_by_cmp row_cmp (key_of places r) (head_key a)) columns
+      (old.now.trees 2) rows
+  account_selected old new rows got =
+      told read_account_text names 2 terms project [] text_is read_account_plain (head_key a)
+      (λ r. eq_by_cmp row_cmp (key_of places r) (head_key a)) columns
+      means (λ r. refl) old new rows got
+
   pub account_read : (old new : State) (rows : List Row) (o : Option HeadColumns) →
       Answers read_account_text (head_key a) old new rows
       → rows ≡ map head_cells (one_or_none o) → o ≡ (rows_in old.now.trees a).head
@@ -81,7 +90,4 @@ module _ (a : List ℕ) where
       (λ r. eq_by_cmp row_cmp (key_of places r) (head_key a)) (head_key a) (refl, tt)
       (λ x r m. back x r) (λ r. refl) o
       (subst (Selects (λ r. eq_by_cmp row_cmp (key_of places r) (head_key a)) columns
-      (old.now.trees 2)) is
-      (told read_account_text names 2 terms project [] text_is read_account_plain (head_key a)
-      (λ r. eq_by_cmp row_cmp (key_of places r) (head_key a)) columns
-      means (λ r. refl) old new rows got))
+      (old.now.trees 2)) is (account_selected old new rows got))

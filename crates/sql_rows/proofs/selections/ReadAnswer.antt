@@ -57,10 +57,10 @@ pub read_answer_plain : IsPlain (understood our_schema read_answer_text)
 unfolding understood everything
 read_answer_plain = (refl, refl)
 
-abbrev columns : Row → Row
+abbrev pub columns : Row → Row
 columns r = column r 5 ∷ column r 6 ∷ []
 
-same_columns : (r : Row) → answer_in_row (drop 1 r) ≡ answer_in_row
+pub same_columns : (r : Row) → answer_in_row (drop 1 r) ≡ answer_in_row
     (Null ∷ Null ∷ Null ∷ Null ∷ columns r)
 same_columns [] = refl
 same_columns (v ∷ vs) = refl
@@ -77,6 +77,16 @@ module _ (a : List ℕ) (kind : ℕ) (name : List ℕ) (number : ℕ) where
   means r = agree_ties_at places r (0 ∷ 1 ∷ 2 ∷ 3 ∷ []) (answer_key a kind name number)
       (refl, (refl, (refl, (refl, tt))))
 
+  pub answer_selected : (old new : State) (rows : List Row)
+      → Answers read_answer_text (answer_key a kind name number) old new rows
+      → Selects (λ r. eq_by_cmp row_cmp (key_of places r) (answer_key a kind name number)) columns
+      (old.now.trees 14) rows
+  answer_selected old new rows got =
+      told read_answer_text names 14 terms project [] text_is read_answer_plain
+      (answer_key a kind name number)
+      (λ r. eq_by_cmp row_cmp (key_of places r) (answer_key a kind name number)) columns means
+      (λ r. refl) old new rows got
+
   -- rule: answer-rows
   pub answer_read : (old new : State) (rows : List Row) (o : Option Kept) → Answers read_answer_text
       (answer_key a kind name number) old new rows
@@ -92,7 +102,4 @@ module _ (a : List ℕ) (kind : ℕ) (name : List ℕ) (number : ℕ) where
       (subst (Selects (λ r.
       eq_by_cmp row_cmp (key_of places r) (answer_key a kind name number)) columns
       (old.now.trees 14)) is
-      (told read_answer_text names 14 terms project [] text_is read_answer_plain
-      (answer_key a kind name number)
-      (λ r. eq_by_cmp row_cmp (key_of places r) (answer_key a kind name number)) columns
-      means (λ r. refl) old new rows got))
+      (answer_selected old new rows got))

@@ -57,6 +57,15 @@ module _ (a : List ℕ) (n : ℕ) where
   unfolding first_key
   means r = agree_ties_at places r (0 ∷ 1 ∷ []) (bucket_key a n) (refl, (refl, tt))
 
+  pub bucket_selected : (old new : State) (rows : List Row)
+      → Answers read_bucket_text (bucket_key a n) old new rows
+      → Selects (λ r. eq_by_cmp row_cmp (key_of places r) (bucket_key a n)) columns
+      (old.now.trees 4) rows
+  bucket_selected old new rows got =
+      told read_bucket_text names 4 terms project [] text_is read_bucket_plain (bucket_key a n)
+      (λ r. eq_by_cmp row_cmp (key_of places r) (bucket_key a n)) columns means (λ r. refl) old
+      new rows got
+
   pub bucket_read : (old new : State) (rows : List Row) (o : Option BucketRow)
       → Answers read_bucket_text (bucket_key a n) old new rows
       → rows ≡ map bucket_cells (one_or_none o) → o ≡ (rows_in old.now.trees a).buckets n
@@ -67,6 +76,4 @@ module _ (a : List ℕ) (n : ℕ) where
       (refl, (refl, tt)) (λ x r m. back x r) (λ r. refl) o
       (subst (Selects (λ r. eq_by_cmp row_cmp (key_of places r) (bucket_key a n)) columns
       (old.now.trees 4)) is
-      (told read_bucket_text names 4 terms project [] text_is read_bucket_plain (bucket_key a n)
-      (λ r. eq_by_cmp row_cmp (key_of places r) (bucket_key a n)) columns means (λ r. refl)
-      old new rows got))
+      (bucket_selected old new rows got))

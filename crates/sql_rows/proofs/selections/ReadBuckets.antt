@@ -48,7 +48,7 @@ columns r = column r 2 ∷ column r 3 ∷ column r 4 ∷ column r 5 ∷ column r
     ∷ column r 9 ∷
     column r 10 ∷ []
 
-same_columns : (r : Row) → bucket_in_row (drop 1 r) ≡ bucket_in_row (Null ∷ columns r)
+pub same_columns : (r : Row) → bucket_in_row (drop 1 r) ≡ bucket_in_row (Null ∷ columns r)
 same_columns [] = refl
 same_columns (v ∷ vs) = refl
 

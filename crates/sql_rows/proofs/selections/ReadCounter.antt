@@ -60,7 +60,7 @@ read_counter_plain = (refl, refl)
 abbrev pub columns : Row → Row
 columns r = column r 2 ∷ column r 3 ∷ column r 4 ∷ []
 
-same_columns : (r : Row) → counter_in_row (drop 1 r) ≡ counter_in_row (Null ∷ columns r)
+pub same_columns : (r : Row) → counter_in_row (drop 1 r) ≡ counter_in_row (Null ∷ columns r)
 same_columns [] = refl
 same_columns (v ∷ vs) = refl
 
@@ -74,6 +74,15 @@ module _ (a : List ℕ) (g y : ℕ) where
   unfolding first_key
   means r = agree_ties_at places r (0 ∷ 1 ∷ 2 ∷ []) (counter_key a g y) (refl, (refl, (refl, tt)))
 
+  pub counter_selected : (old new : State) (rows : List Row)
+      → Answers read_counter_text (counter_key a g y) old new rows
+      → Selects (λ r. eq_by_cmp row_cmp (key_of places r) (counter_key a g y)) columns
+      (old.now.trees 6) rows
+  counter_selected old new rows got =
+      told read_counter_text names 6 terms project [] text_is read_counter_plain
+      (counter_key a g y) (λ r. eq_by_cmp row_cmp (key_of places r) (counter_key a g y)) columns
+      means (λ r. refl) old new rows got
+
   pub counter_read : (old new : State) (rows : List Row) (o : Option Counter) →
       Answers read_counter_text (counter_key a g y) old new rows
       → rows ≡ map counter_cells (one_or_none o) → o ≡ (rows_in old.now.trees a).counters g y
@@ -85,7 +94,4 @@ module _ (a : List ℕ) (g y : ℕ) where
       (refl, (refl, (refl, tt)))
       (λ x r m. back x r) (λ r. refl) o
       (subst (Selects (λ r. eq_by_cmp row_cmp (key_of places r) (counter_key a g y)) columns
-      (old.now.trees 6)) is (told read_counter_text names 6 terms project [] text_is
-      read_counter_plain (counter_key a g y)
-      (λ r. eq_by_cmp row_cmp (key_of places r) (counter_key a g y)) columns
-      means (λ r. refl) old new rows got))
+      (old.now.trees 6)) is (counter_selected old new rows got))

@@ -73,7 +73,7 @@ project = col 1 1 ∷ []
 abbrev names : List (List ℕ)
 names = codes "account" ∷ []
 
-abbrev order : List (Term × Key)
+abbrev pub order : List (Term × Key)
 order = (col 1 1, record { collation = Binary; descending = false }) ∷ []
 
 abbrev pub read_first_text : List ℕ
@@ -109,7 +109,7 @@ read_after_plain = (refl, refl)
 -- ---- the account that is read follows
 
 -- the test of a stored row
-abbrev is_after : Option (List ℕ) → Row → Bool
+abbrev pub is_after : Option (List ℕ) → Row → Bool
 is_after None r = true
 is_after (Some a) r = is_beyond (column r 1) (Text a)
 
@@ -150,7 +150,7 @@ module _ (trees : Trees) (fits : Fits our_schema trees) (stored : IsStored (tree
           )
 
   -- and the account of a stored row
-  has_row : (a : List ℕ) (r : Row) → Has (trees 2) r → column r 1 ≡ Text a
+  pub has_row : (a : List ℕ) (r : Row) → Has (trees 2) r → column r 1 ≡ Text a
       → is_some (look accounts trees (head_key a)) ≡ true
   has_row a r h is =
       ap is_some (stands_under our_schema accounts (inr (inl refl)) (key_index accounts)
@@ -186,19 +186,30 @@ module _ (trees : Trees) (fits : Fits our_schema trees) (stored : IsStored (tree
       name : column it.row 1 ≡ Text x
       name = ap (λ (w : Row). column w 0) (sym it.is)
 
+pub first_selected : (old new : State) (rows : List Row) → Answers read_first_text [] old new rows
+    → IsFirstOf (is_after None) (sorts_before order columns) columns (old.now.trees 2) rows
+first_selected old new rows got =
+    first_told read_first_text names 2 [] project order first_is read_first_plain []
+    (is_after None) columns columns (λ r. refl) (λ r. refl) (λ r. refl) old new rows got
+
 pub first_read : (old new : State) (rows : List Row) (o : Option (List ℕ))
     → Answers read_first_text [] old new rows → rows ≡ map head_key (one_or_none o)
     → IsNextAccount (tables_content old.now.trees) None o
 first_read old new rows o got is =
     follows old.now.trees got.fits got.book.stored.1.0 None rows o is
-    (first_told read_first_text names 2 [] project order first_is read_first_plain []
-    (is_after None) columns columns (λ r. refl) (λ r. refl) (λ r. refl) old new rows got)
+    (first_selected old new rows got)
+
+pub after_selected : (x : List ℕ) (old new : State) (rows : List Row)
+    → Answers read_after_text (Text x ∷ []) old new rows
+    → IsFirstOf (is_after (Some x)) (sorts_before order columns) columns (old.now.trees 2) rows
+after_selected x old new rows got =
+    first_told read_after_text names 2 after_terms project order after_is read_after_plain
+    (Text x ∷ []) (is_after (Some x)) columns columns
+    (λ r. and_true (is_beyond (column r 1) (Text x))) (λ r. refl) (λ r. refl) old new rows got
 
 pub after_read : (x : List ℕ) (old new : State) (rows : List Row) (o : Option (List ℕ))
     → Answers read_after_text (Text x ∷ []) old new rows → rows ≡ map head_key (one_or_none o)
     → IsNextAccount (tables_content old.now.trees) (Some x) o
 after_read x old new rows o got is =
     follows old.now.trees got.fits got.book.stored.1.0 (Some x) rows o is
-    (first_told read_after_text names 2 after_terms project order after_is read_after_plain
-    (Text x ∷ []) (is_after (Some x)) columns columns
-    (λ r. and_true (is_beyond (column r 1) (Text x))) (λ r. refl) (λ r. refl) old new rows got)
+    (after_selected x old new rows got)

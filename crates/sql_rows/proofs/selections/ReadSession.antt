@@ -70,7 +70,7 @@ read_session_plain = (refl, refl)
 abbrev pub columns : Row → Row
 columns r = column r 2 ∷ column r 3 ∷ column r 4 ∷ column r 5 ∷ []
 
-same_columns : (r : Row) → session_in_row (drop 1 r) ≡ session_in_row (Null ∷ columns r)
+pub same_columns : (r : Row) → session_in_row (drop 1 r) ≡ session_in_row (Null ∷ columns r)
 same_columns [] = refl
 same_columns (v ∷ vs) = refl
 
@@ -84,6 +84,15 @@ module _ (a s : List ℕ) where
   unfolding first_key
   means r = agree_ties_at places r (0 ∷ 1 ∷ []) (session_key a s) (refl, (refl, tt))
 
+  pub session_selected : (old new : State) (rows : List Row)
+      → Answers read_session_text (session_key a s) old new rows
+      → Selects (λ r. eq_by_cmp row_cmp (key_of places r) (session_key a s)) columns
+      (old.now.trees 8) rows
+  session_selected old new rows got =
+      told read_session_text names 8 terms project [] text_is read_session_plain (session_key a s)
+      (λ r. eq_by_cmp row_cmp (key_of places r) (session_key a s)) columns means (λ r. refl) old
+      new rows got
+
   -- rule: statements-of-tables.with-session-row
   pub session_read : (old new : State) (rows : List Row) (o : Option Session) →
       Answers read_session_text (session_key a s) old new rows
@@ -96,9 +105,7 @@ module _ (a s : List ℕ) where
       (refl, (refl, tt)) (λ x r m. back x r) (λ r. refl) o
       (subst (Selects (λ r. eq_by_cmp row_cmp (key_of places r) (session_key a s)) columns
       (old.now.trees 8)) is
-      (told read_session_text names 8 terms project [] text_is read_session_plain (session_key a s)
-      (λ r. eq_by_cmp row_cmp (key_of places r) (session_key a s)) columns
-      means (λ r. refl) old new rows got))
+      (session_selected old new rows got))
 
 -- ---- where there is none
 

@@ -54,10 +54,10 @@ pub read_voucher_plain : IsPlain (understood our_schema read_voucher_text)
 unfolding understood everything
 read_voucher_plain = (refl, refl)
 
-abbrev columns : Row → Row
+abbrev pub columns : Row → Row
 columns r = column r 2 ∷ column r 3 ∷ column r 4 ∷ column r 5 ∷ []
 
-same_columns : (r : Row) → voucher_in_row (drop 1 r) ≡ voucher_in_row (Null ∷ columns r)
+pub same_columns : (r : Row) → voucher_in_row (drop 1 r) ≡ voucher_in_row (Null ∷ columns r)
 same_columns [] = refl
 same_columns (v ∷ vs) = refl
 
@@ -73,6 +73,14 @@ module _ (code : List ℕ) where
   abbrev test : Row → Bool
   test r = eq_by_cmp row_cmp (key_of places r) (voucher_key code)
 
+  pub voucher_selected : (old new : State) (rows : List Row)
+      → Answers read_voucher_text (voucher_key code) old new rows
+      → Selects (λ r. eq_by_cmp row_cmp (key_of places r) (voucher_key code)) columns
+      (old.now.trees 16) rows
+  voucher_selected old new rows got =
+      told read_voucher_text names 16 terms project [] text_is read_voucher_plain
+      (voucher_key code) test columns means (λ r. refl) old new rows got
+
   pub voucher_read : (old new : State) (rows : List Row) (o : Option VoucherColumns)
       → Answers read_voucher_text (voucher_key code) old new rows
       → rows ≡ map voucher_cells (one_or_none o) → o ≡ (tables_content old.now.trees).vouchers code
@@ -82,5 +90,4 @@ module _ (code : List ℕ) where
       (got.book.stored.1.1.1.1.1.1.1.1.0) voucher_in_row voucher_cells columns test
       (voucher_key code) (refl, tt) (λ x r m. back x r) (λ r. refl) o
       (subst (Selects test columns (old.now.trees 16)) is
-      (told read_voucher_text names 16 terms project [] text_is read_voucher_plain
-      (voucher_key code) test columns means (λ r. refl) old new rows got))
+      (voucher_selected old new rows got))
