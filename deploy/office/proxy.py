@@ -42,12 +42,14 @@ def put(path: pathlib.Path, text: str) -> bool:
 def accepts(path: pathlib.Path) -> None:
     """Refuses a configuration that HAProxy doesn't take, with what it says."""
     try:
-        asked = ["haproxy", "-c", "-q", "-f", str(path)]
+        asked = ["haproxy", "-c", "-f", str(path)]
         ended = subprocess.run(asked, capture_output=True, text=True, check=False)
     except OSError as fault:
         raise Refused(f"haproxy: {fault.strerror}") from fault
     if ended.returncode:
-        raise Refused(f"haproxy doesn't take it: {ended.stderr.strip()[:600]}")
+        lines = ended.stderr.splitlines()
+        told = [line.partition(" : ")[2] for line in lines if line.startswith("[ALERT]")]
+        raise Refused(f"haproxy doesn't take it: {'; '.join(told or lines)[:600]}")
 
 
 def read_again(settings: Settings) -> str:

@@ -1,6 +1,7 @@
 """The words `check` and `status`; `up` is tried under systemd by tools/play lines."""
 from __future__ import annotations
 
+import re
 import time
 
 from support.world import World
@@ -22,6 +23,17 @@ def test_check_says_what_is_missing(world: World) -> None:
         world.file.write_text(text.replace('role = "operator"', 'role = "operator"\ntls = true'))
         told = world.office("check")
         assert (told.returncode, "`office certificate office" in told.stderr) == (1, True)
+    finally:
+        world.file.write_text(text)
+
+
+def test_check_says_what_haproxy_refuses(world: World) -> None:
+    text = world.file.read_text()
+    try:
+        world.file.write_text(re.sub(r'at = "127.0.0.1:\d+"', 'at = "127.0.0.1:99999"', text))
+        told = world.office("check")
+        assert told.returncode == 1 and "[ALERT]" not in told.stderr
+        assert "haproxy doesn't take it: config : parsing" in told.stderr
     finally:
         world.file.write_text(text)
 
