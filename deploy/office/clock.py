@@ -10,6 +10,7 @@ import ctypes
 import pathlib
 import time
 
+from office import disk
 from office.faults import Refused
 from office.settings import Settings
 from office.shards import Shard
@@ -40,21 +41,16 @@ def fault(settings: Settings, shard: Shard, now: int | None = None) -> str:
 def mean(shard: Shard, now: int | None = None) -> None:
     """Keeps, beside the database, that the clock is right now: for a day a start is let be."""
     moment = int(time.time()) if now is None else now
-    path = mark(shard)
-    made = path.with_name(path.name + ".new")
-    made.write_text(f"{moment}\n", encoding="ascii")
-    made.replace(path)
+    disk.write(mark(shard), f"{moment}\n")
 
 
 def meant(shard: Shard) -> int:
-    """When an operator said last that the clock is right; 0 where none did."""
+    """When an operator said last that the clock is right; 0 where none did, or nothing can be read of
+    it: then the clock is looked at."""
     try:
-        text = mark(shard).read_text(encoding="ascii").strip()
-    except FileNotFoundError:
+        return int(mark(shard).read_bytes())
+    except (FileNotFoundError, ValueError):
         return 0
-    if not text.isdigit():
-        raise Refused(f"{mark(shard)} has no moment")
-    return int(text)
 
 
 def mark(shard: Shard) -> pathlib.Path:

@@ -21,7 +21,7 @@ import sys
 import time
 from collections.abc import Iterable, Iterator
 
-from office import program, units
+from office import disk, program, units
 from office.faults import Refused
 from office.machines import second
 from office.progress import shown
@@ -54,7 +54,7 @@ def copy(
         make_whole(place / "copy.db", whole)
         program.give(settings, whole)
         os.replace(whole, file)
-        sync(file.parent)
+        disk.sync(file.parent)
 
 
 @contextlib.contextmanager
@@ -168,13 +168,4 @@ def make_whole(copied: pathlib.Path, whole: pathlib.Path) -> None:
         raise Refused(f"the copy isn't whole: {fault}") from fault
     if told != "ok":
         raise Refused(f"the copy isn't whole: {told}")
-    sync(whole)
-
-
-def sync(path: pathlib.Path) -> None:
-    """Sees that what a path has is on the disk."""
-    opened = os.open(path, os.O_RDONLY)
-    try:
-        os.fsync(opened)
-    finally:
-        os.close(opened)
+    disk.sync(whole)

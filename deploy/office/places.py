@@ -12,7 +12,7 @@ import pathlib
 import re
 import time
 
-from office import copies, program, units
+from office import copies, disk, program, units
 from office.settings import Settings
 from office.shards import Shard
 
@@ -44,7 +44,7 @@ def ready(settings: Settings, shard: Shard, made: pathlib.Path) -> None:
         os.replace(part, path)
     finally:
         discard(part)
-    copies.sync(path.parent)
+    disk.sync(path.parent)
 
 
 def swap(shard: Shard, keep: pathlib.Path | None) -> None:
@@ -63,7 +63,7 @@ def swap(shard: Shard, keep: pathlib.Path | None) -> None:
                 os.replace(log, keep.with_name(keep.name + end))
             log.unlink(missing_ok=True)
         os.replace(next_of(shard), old)
-        copies.sync(old.parent)
+        disk.sync(old.parent)
 
 
 def discard(database: pathlib.Path) -> None:

@@ -5,14 +5,13 @@ from __future__ import annotations
 
 import csv
 import io
-import os
 import pathlib
 import socket
 import subprocess
 import tempfile
 import time
 
-from office import units
+from office import disk, units
 from office.faults import Refused
 from office.settings import Settings
 
@@ -26,26 +25,21 @@ def put(path: pathlib.Path, text: str) -> bool:
     another. One that it doesn't take is refused, and the one before stays."""
     if path.exists() and path.read_text(encoding="utf-8") == text:
         return False
-    with tempfile.NamedTemporaryFile(
-        "w", dir=path.parent, prefix=".haproxy-", delete=False
-    ) as made:
-        made.write(text)
-    try:
-        accepts(pathlib.Path(made.name))
-        os.chmod(made.name, 0o644 if "userlist" not in text else 0o600)
-        os.replace(made.name, path)
-    finally:
-        pathlib.Path(made.name).unlink(missing_ok=True)
+    accepts(text)
+    disk.write(path, text, 0o644 if "userlist" not in text else 0o600)
     return True
 
 
-def accepts(path: pathlib.Path) -> None:
+def accepts(text: str) -> None:
     """Refuses a configuration that HAProxy doesn't take, with what it says."""
-    try:
-        asked = ["haproxy", "-c", "-f", str(path)]
-        ended = subprocess.run(asked, capture_output=True, text=True, check=False)
-    except OSError as fault:
-        raise Refused(f"haproxy: {fault.strerror}") from fault
+    with tempfile.NamedTemporaryFile("w", prefix="haproxy-") as file:
+        file.write(text)
+        file.flush()
+        try:
+            asked = ["haproxy", "-c", "-f", file.name]
+            ended = subprocess.run(asked, capture_output=True, text=True, check=False)
+        except OSError as fault:
+            raise Refused(f"haproxy: {fault.strerror}") from fault
     if ended.returncode:
         lines = ended.stderr.splitlines()
         told = [line.partition(" : ")[2] for line in lines if line.startswith("[ALERT]")]

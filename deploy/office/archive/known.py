@@ -10,14 +10,13 @@ for each shard whose requests wait for its turn; doors/known.lua looks at it fiv
 from __future__ import annotations
 
 import contextlib
-import os
 import pathlib
 import socket
 import time
 import zlib
 from collections.abc import Iterable, Iterator
 
-from office import copies, proxy
+from office import disk, proxy
 from office.archive import past
 from office.faults import Refused
 from office.settings import Settings
@@ -79,7 +78,7 @@ def put(settings: Settings, name: str, made: Filter) -> None:
     """Puts an archive in force, and sees that HAProxy goes by it. Archives that are too old go."""
     folder = folder_of(settings)
     drop(settings, name)
-    write(folder / f"{name}.filter", bytes(made.content))
+    disk.write(folder / f"{name}.filter", bytes(made.content))
     oldest = time.time() - DAY * settings.archive.days
     kept = [one for one in named(settings) if past.moment_of(one) >= oldest]
     told(settings, [*kept, name])
@@ -105,7 +104,7 @@ def told(settings: Settings, names: Iterable[str]) -> None:
     """Writes the index, and waits until HAProxy has read it. An index without a name says that there
     are archives, for statements."""
     text = "".join(f"{name}\n" for name in names) or "\n"
-    write(folder_of(settings) / "index", text.encode())
+    disk.write(folder_of(settings) / "index", text)
     seen(settings)
 
 
@@ -204,17 +203,3 @@ def folder_of(settings: Settings) -> pathlib.Path:
     path = pathlib.Path(settings.archive.known)
     path.mkdir(mode=0o755, parents=True, exist_ok=True)
     return path
-
-
-def write(path: pathlib.Path, content: bytes) -> None:
-    """Writes a file whole."""
-    part = path.with_name(f".{path.name}")
-    try:
-        part.write_bytes(content)
-        os.chmod(part, 0o644)
-        copies.sync(part)
-        os.replace(part, path)
-        copies.sync(path.parent)
-    except OSError as fault:
-        part.unlink(missing_ok=True)
-        raise Refused(f"{path}: {fault.strerror}") from fault

@@ -199,7 +199,7 @@ def archive(settings: Settings, database: Database, note: Note) -> None:
         copies.make_whole(made, path)
     os.chmod(path, 0o440)
     program.give(settings, path)
-    copies.sync(folder)
+    disk.sync(folder)
 
 
 def archive_of(settings: Settings, note: Note) -> pathlib.Path:
@@ -217,7 +217,7 @@ def in_force(settings: Settings, note: Note) -> None:
             with opened(path, is_still=True) as database:
                 known.put(settings, note.archive, known.of_copy(database))
             os.replace(path, made)
-            copies.sync(made.parent)
+            disk.sync(made.parent)
         if note.process != proxy.process(settings):
             raise Refused(RELOADED)
         runtime.write(settings, note.accounts, note.target)
@@ -265,12 +265,7 @@ def account_of(request: Request) -> str:
 
 def write(settings: Settings, note: Note) -> None:
     """Writes the note, whole."""
-    path = note_of(settings)
-    part = path.with_name(path.name + ".part")
-    part.write_text(json.dumps(dataclasses.asdict(note)), encoding="utf-8")
-    copies.sync(part)
-    os.replace(part, path)
-    copies.sync(path.parent)
+    disk.write(note_of(settings), json.dumps(dataclasses.asdict(note)), 0o600)
 
 
 def carry_out(settings: Settings, client: Client, note: Note) -> None:

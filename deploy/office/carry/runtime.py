@@ -4,12 +4,10 @@
 lives in one shard. A command at HAProxy's socket is a round trip; the file is written whole."""
 from __future__ import annotations
 
-import os
 import pathlib
-import tempfile
 from collections.abc import Iterable
 
-from office import copies, proxy
+from office import disk, proxy
 from office.faults import Refused
 from office.settings import Settings
 from office.shards import Homes
@@ -57,9 +55,4 @@ def write(settings: Settings, accounts: Iterable[str], target: str) -> None:
     lines = path.read_text(encoding="utf-8").splitlines() if path.exists() else []
     kept = [line for line in lines if not line.split() or line.split()[0] not in those]
     kept += [f"{one} {target}" for one in sorted(those) if str(homes.hashed(one)) != target]
-    with tempfile.NamedTemporaryFile("w", dir=path.parent, delete=False) as made:
-        made.write("".join(f"{line}\n" for line in kept))
-    os.chmod(made.name, 0o644)
-    copies.sync(pathlib.Path(made.name))
-    os.replace(made.name, path)
-    copies.sync(path.parent)
+    disk.write(path, "".join(f"{line}\n" for line in kept))

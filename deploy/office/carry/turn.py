@@ -12,7 +12,7 @@ import tempfile
 import time
 from collections.abc import Iterator
 
-from office import copies, operate, places, program, shards, spare
+from office import copies, disk, operate, places, program, shards, spare
 from office.alone import alone, held, settle
 from office.archive import known
 from office.audit import reckoned, strays
@@ -168,5 +168,5 @@ def archive(settings: Settings, one: Shard, at: int) -> str:
         os.chmod(made, 0o440)
         program.give(settings, made)
         os.replace(made, path)
-    copies.sync(folder)
+    disk.sync(folder)
     return name

@@ -5,9 +5,8 @@ from __future__ import annotations
 
 import os
 import pathlib
-import tempfile
 
-from office import shards
+from office import disk, shards
 from office.cluster import Machine
 from office.faults import Unread
 from office.machines import mirror, resources, ring
@@ -71,11 +70,4 @@ def is_there(path: pathlib.Path, text: str) -> bool:
 def put(path: pathlib.Path, text: str) -> None:
     """Writes a file over the one before; fencing's words are for root alone."""
     path.parent.mkdir(parents=True, exist_ok=True)
-    with tempfile.NamedTemporaryFile(
-        "w", dir=path.parent, prefix=f".{path.name}-", delete=False, encoding="utf-8"
-    ) as made:
-        made.write(text)
-        made.flush()
-        os.fsync(made.fileno())
-    os.chmod(made.name, 0o600 if path.name == pathlib.Path(CLUSTER).name else 0o644)
-    os.replace(made.name, path)
+    disk.write(path, text, 0o600 if path.name == pathlib.Path(CLUSTER).name else 0o644)

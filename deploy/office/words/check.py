@@ -13,7 +13,6 @@ from __future__ import annotations
 import argparse
 import pathlib
 import sys
-import tempfile
 import time
 
 from office import clock, proxy, shards
@@ -110,11 +109,8 @@ def ending(path: str, words: tuple[str, ...]) -> list[str]:
 
 def refused(settings: Settings) -> list[str]:
     """Why HAProxy doesn't take its configuration."""
-    with tempfile.NamedTemporaryFile("w") as file:
-        try:
-            file.write(configuration.text(settings))
-            file.flush()
-            proxy.accepts(pathlib.Path(file.name))
-        except Fault as fault:
-            return [str(fault)]
+    try:
+        proxy.accepts(configuration.text(settings))
+    except Fault as fault:
+        return [str(fault)]
     return []

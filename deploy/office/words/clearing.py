@@ -11,7 +11,7 @@ from __future__ import annotations
 import argparse
 import pathlib
 
-from office import options, shards
+from office import disk, options, shards
 from office.client import Client
 from office.faults import Refused
 from office.settings import Settings
@@ -35,10 +35,7 @@ def run(settings: Settings, arguments: argparse.Namespace) -> int:
                 open_in(client, shard, number)
     text = "".join(f"{number}\n" for number in found.values())
     if arguments.write and not arguments.dry_run:
-        path = pathlib.Path(settings.office.clearing)
-        made = path.with_name(path.name + ".new")
-        made.write_text(text, encoding="utf-8")
-        made.replace(path)
+        disk.write(pathlib.Path(settings.office.clearing), text)
     print(text, end="")
     return 0
 

@@ -13,11 +13,9 @@ from __future__ import annotations
 
 import argparse
 import json
-import os
 import pathlib
 
-from office import books, copies, kinds, options, shards
-from office.faults import Refused
+from office import books, copies, disk, kinds, options, shards
 from office.settings import Settings
 from office.tables import opened
 
@@ -38,7 +36,7 @@ def run(settings: Settings, arguments: argparse.Namespace) -> int:
     for group, kind in made.items():
         print(group, kind)
     if not arguments.dry_run and not (file.is_file() and file.read_text() == text):
-        written(file, text)
+        disk.write(file, text)
     return 0
 
 
@@ -47,14 +45,3 @@ def kept(settings: Settings, number: str) -> list[books.Book]:
     with copies.made(settings, [shards.named(settings, number)]) as [copy]:
         with opened(copy) as database:
             return books.shelf(database)
-
-
-def written(file: pathlib.Path, text: str) -> None:
-    """Writes a file in one step."""
-    beside = file.with_name(f".{file.name}.new")
-    try:
-        beside.write_text(text, encoding="utf-8")
-        os.chmod(beside, 0o644)
-        os.replace(beside, file)
-    except OSError as fault:
-        raise Refused(f"{file}: {fault.strerror}") from fault

@@ -8,7 +8,6 @@ import sqlite3
 import pytest
 
 from office import clock, settings, shards
-from office.faults import Refused
 from office.keeping import Keeping
 
 LAST, DAY, HOUR = 1_800_000_000, clock.DAY, 3600
@@ -51,9 +50,9 @@ def test_what_an_operator_means_holds_for_a_day(told: settings.Settings) -> None
     assert clock.fault(told, shard, now) == ""
     assert clock.fault(told, shard, now + DAY) == ""
     assert clock.fault(told, shard, now + DAY + 1)
-    clock.mark(shard).write_text("tomorrow")
-    with pytest.raises(Refused, match="has no moment"):
-        clock.fault(told, shard, now)
+    for text in ("tomorrow", ""):
+        clock.mark(shard).write_text(text)
+        assert clock.fault(told, shard, now)
 
 
 def test_a_database_without_a_command_starts(told: settings.Settings) -> None:
