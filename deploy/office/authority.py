@@ -7,16 +7,20 @@ from __future__ import annotations
 
 import contextlib
 import fcntl
-import os
 import pathlib
 import re
 import subprocess
 from collections.abc import Iterator, Sequence
 
+from office import disk
 from office.faults import Refused
 
 CURVE = ("-algorithm", "EC", "-pkeyopt", "ec_paramgen_curve:P-256")
 YEARS = 3650
+# What openssl begins with.
+FIRST = {"index": "", "serial": "1000\n", "crlnumber": "01\n"}
+# Of a file that its owner alone may read.
+SECRET = 0o600
 SETTINGS = """\
 [ca]
 default_ca = office
@@ -67,18 +71,25 @@ class Authority:
         return self.revoked.exists()
 
     def make(self) -> None:
-        """Makes it: a key, its certificate and an empty list; begun before, it is begun anew."""
+        """Makes what isn't there of it: a key, its certificate, a list. What is there stays, since with
+        another key nobody gets in whom this one has signed."""
         self.folder.mkdir(mode=0o700, parents=True, exist_ok=True)
         with self.alone():
             (self.folder / "signed").mkdir(exist_ok=True)
-            (self.folder / "index").write_text("")
-            (self.folder / "serial").write_text("1000\n")
-            (self.folder / "crlnumber").write_text("01\n")
+            for name, text in FIRST.items():
+                if not (self.folder / name).exists():
+                    disk.write(self.folder / name, text)
             secret = self.folder / "clients.key"
-            write_secret(secret, openssl("genpkey", *CURVE))
-            words = ["-x509", "-days", YEARS, "-extensions", "as-authority", "-key", secret]
-            name = ["-subj", "/CN=Clients of the office"]
-            openssl("req", "-new", *words, *name, *self.settings(), "-out", self.certificate)
+            if not secret.exists():
+                if self.certificate.exists():
+                    raise Refused(f"{secret} isn't there, which {self.certificate} is of: bring it")
+                disk.write(secret, openssl("genpkey", *CURVE), SECRET)
+            if not self.certificate.exists():
+                words = ["-x509", "-days", YEARS, "-extensions", "as-authority", "-key", secret]
+                subject = ["-subj", "/CN=Clients of the office"]
+                disk.write(
+                    self.certificate, openssl("req", "-new", *words, *subject, *self.settings())
+                )
             self.list_revoked()
 
     def sign(self, role: str, name: str, hosts: Sequence[str] = (), days: int = 397) -> None:
@@ -86,7 +97,7 @@ class Authority:
         those of that name. With hosts it is a server's."""
         with self.alone():
             secret = self.folder / f"{name}.key.new"
-            write_secret(secret, openssl("genpkey", *CURVE))
+            disk.write(secret, openssl("genpkey", *CURVE), SECRET)
             request = self.folder / f"{name}.csr"
             openssl(
                 "req", "-new", "-subj", "/CN=-", "-key", secret, *self.settings(), "-out", request
@@ -163,12 +174,3 @@ def openssl(*words: object) -> str:
     if ended.returncode:
         raise Refused(f"openssl {words[0]}: {ended.stderr.strip()[-300:]}")
     return ended.stdout
-
-
-def write_secret(path: pathlib.Path, text: str) -> None:
-    """Writes a file that its owner alone may read, in the place of one that was there."""
-    made = path.with_name(path.name + ".part")
-    made.unlink(missing_ok=True)
-    with open(os.open(made, os.O_CREAT | os.O_WRONLY | os.O_EXCL, 0o600), "w") as out:
-        out.write(text)
-    made.replace(path)

@@ -15,8 +15,8 @@ import argparse
 import pathlib
 import re
 
-from office import options, proxy
-from office.authority import Authority, write_secret
+from office import disk, options, proxy
+from office.authority import SECRET, Authority
 from office.faults import Unread
 from office.settings import HOST, NAME, Settings
 
@@ -81,7 +81,7 @@ def of_office(settings: Settings, authority: Authority, arguments: argparse.Name
         (tls.revoked, authority.revoked.read_text()),
     ):
         pathlib.Path(path).parent.mkdir(parents=True, exist_ok=True)
-        write_secret(pathlib.Path(path), text)
+        disk.write(pathlib.Path(path), text, SECRET)
         print(path)
     print(proxy.read_again(settings))
     return 0

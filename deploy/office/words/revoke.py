@@ -9,8 +9,8 @@ from __future__ import annotations
 import argparse
 import pathlib
 
-from office import options, proxy
-from office.authority import Authority, write_secret
+from office import disk, options, proxy
+from office.authority import SECRET, Authority
 from office.faults import Refused
 from office.settings import Settings
 
@@ -34,7 +34,7 @@ def run(settings: Settings, arguments: argparse.Namespace) -> int:
     if not found and not is_listed:
         raise Refused(f"{authority.folder}: there is no certificate of {arguments.name}")
     authority.revoke(arguments.name)
-    write_secret(pathlib.Path(settings.tls.revoked), authority.revoked.read_text())
+    disk.write(pathlib.Path(settings.tls.revoked), authority.revoked.read_text(), SECRET)
     print(f"{found} certificates of {arguments.name} are taken back: {settings.tls.revoked}")
     print(proxy.read_again(settings))
     return 0
