@@ -156,15 +156,17 @@ def wait_until_still(process: int) -> None:
 
 
 def make_whole(copied: pathlib.Path, whole: pathlib.Path) -> None:
-    """Makes one file of a copy and its log, and sees that it is whole."""
+    """Makes one file of a copy and its log, and sees that it is whole. Its owner alone may read it, for
+    it has the codes of vouchers."""
     try:
+        whole.touch(0o600)
         with (
             contextlib.closing(sqlite3.connect(copied)) as source,
             contextlib.closing(sqlite3.connect(whole)) as target,
         ):
             source.backup(target)
             told = target.execute("PRAGMA integrity_check").fetchone()[0]
-    except sqlite3.Error as fault:
+    except (OSError, sqlite3.Error) as fault:
         raise Refused(f"the copy isn't whole: {fault}") from fault
     if told != "ok":
         raise Refused(f"the copy isn't whole: {told}")

@@ -58,30 +58,29 @@ def as_owner(settings: Settings) -> AsUser:
 
 def give(settings: Settings, path: pathlib.Path) -> None:
     """Gives a file or a folder to the databases' owner, where the command may."""
-    if not os.geteuid() and settings.office.owner:
-        shutil.chown(path, settings.office.owner, settings.office.owner)
+    if owner := as_owner(settings):
+        shutil.chown(path, owner["user"], owner["group"])
 
 
 @contextlib.contextmanager
-def readable(path: pathlib.Path) -> Iterator[pathlib.Path]:
+def readable(settings: Settings, path: pathlib.Path) -> Iterator[pathlib.Path]:
     """A copy of a file that the databases' owner may read; it goes in the end."""
     try:
         content = path.read_bytes()
     except OSError as fault:
         raise Refused(f"{path}: {fault.strerror}") from fault
-    with tempfile.TemporaryDirectory() as folder:
-        os.chmod(folder, 0o755)
-        made = pathlib.Path(folder) / path.name
-        made.write_bytes(content)
-        os.chmod(made, 0o644)
+    with handed(settings, path.name, content) as made:
         yield made
 
 
 @contextlib.contextmanager
-def written(text: str) -> Iterator[pathlib.Path]:
-    """A file with a text, which the databases' owner may read."""
+def handed(settings: Settings, name: str, content: bytes) -> Iterator[pathlib.Path]:
+    """A file that the databases' owner alone may read: codes of vouchers are money. It goes in the
+    end."""
     with tempfile.TemporaryDirectory() as folder:
-        path = pathlib.Path(folder) / "file"
-        path.write_text(text, encoding="utf-8")
-        with readable(path) as made:
-            yield made
+        made = pathlib.Path(folder) / name
+        made.write_bytes(content)
+        made.chmod(0o600)
+        give(settings, made)
+        give(settings, made.parent)
+        yield made

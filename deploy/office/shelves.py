@@ -66,8 +66,8 @@ def has(database: pathlib.Path, book: Later) -> bool:
 
 def judged(settings: Settings, copy: pathlib.Path, book: Later) -> str:
     """What the program says of the book over a copy, to which it adds it; empty if it may follow."""
-    with program.readable(book.file) as readable:
-        ended = program.run(settings, "book", copy, readable, "--from", book.moment)
+    with program.handed(settings, "book", book.text.encode()) as made:
+        ended = program.run(settings, "book", copy, made, "--from", book.moment)
     told = (ended.stdout + ended.stderr).strip()
     if told == "ok":
         return ""

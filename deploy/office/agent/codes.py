@@ -71,7 +71,7 @@ def chosen(copies: list[Copy], having: dict[str, set[str]]) -> str:
 def by_program(office: Office, shard: str, file: pathlib.Path) -> tuple[Body, list[Body]]:
     """What the program's word says over a copy of the shard: its counts, or its first fault."""
     with office.kept.twin(shards.named(office.settings, shard)) as (twin, _):
-        with program.readable(file) as readable:
+        with program.readable(office.settings, file) as readable:
             ended = program.run(office.settings, "import", twin, readable)
     told = (ended.stdout + ended.stderr).strip()
     counts = COUNTS.fullmatch(told)
@@ -105,7 +105,7 @@ def elsewhere(having: dict[str, set[str]], shard: str) -> Iterator[Body]:
 def archived(office: Office, codes: set[str]) -> Iterator[Body]:
     """Codes that an archive has as spent."""
     for path in vouchers.archives(office.settings):
-        with opened(path) as database:
+        with opened(path, is_still=True) as database:
             spent = [code for code, by in vouchers.there(database, codes).items() if by]
         for code in sorted(spent):
             yield fault_of(code, f"{path.name} has it as spent: it could be spent again")

@@ -128,7 +128,7 @@ def extract(
 ) -> None:
     """Makes a database of some accounts of another one, with their rows as they are there."""
     books = source.books()
-    with program.written(books[0][0]) as book:
+    with program.handed(settings, "book", books[0][0].encode()) as book:
         program.done(settings, "init", made, book)
     try:
         with contextlib.closing(sqlite3.connect(made)) as store, store:

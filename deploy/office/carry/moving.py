@@ -197,7 +197,7 @@ def archive(settings: Settings, database: Database, note: Note) -> None:
         made = place / "rows.db"
         past.extract(settings, database, note.accounts, made)
         copies.make_whole(made, path)
-    os.chmod(path, 0o440)
+    os.chmod(path, 0o400)
     program.give(settings, path)
     disk.sync(folder)
 

@@ -136,7 +136,7 @@ def turned(settings: Settings, one: Shard, may_wait: bool, keys: known.Filter, s
 def make(settings: Settings, plan: Plan, new: pathlib.Path) -> None:
     """Makes a database of a plan: books, accounts, vouchers, bars."""
     for book in plan.books:
-        with program.written(book.text) as file:
+        with program.handed(settings, "book", book.text.encode()) as file:
             if book is plan.books[0]:
                 program.done(settings, "init", new, file)
             else:
@@ -148,7 +148,7 @@ def make(settings: Settings, plan: Plan, new: pathlib.Path) -> None:
                 raise Refused(f"{method} {path} {compact(body or {})}: {compact(answer)}")
     at = ("--at", plan.at)
     if plan.vouchers:
-        with program.written(rows(plan.vouchers)) as file:
+        with program.handed(settings, "vouchers", rows(plan.vouchers).encode()) as file:
             program.done(settings, "import", new, file, *at)
     for account in (account for account, is_barred in plan.accounts.items() if is_barred):
         program.done(settings, "bar", new, account, *at)
@@ -165,7 +165,7 @@ def archive(settings: Settings, one: Shard, at: int) -> str:
     with scratch(folder, ".carry-") as place:
         made = place / path.name
         copies.make_whole(one.database, made)
-        os.chmod(made, 0o440)
+        os.chmod(made, 0o400)
         program.give(settings, made)
         os.replace(made, path)
     disk.sync(folder)

@@ -48,7 +48,7 @@ def run(settings: Settings, arguments: argparse.Namespace) -> int:
 
 def added(settings: Settings, shard: Shard, file: pathlib.Path) -> int:
     """Adds the file to a shard that is stopped; 1 where not all of it is there now."""
-    with program.readable(file) as readable, alone(settings, shard):
+    with program.readable(settings, file) as readable, alone(settings, shard):
         operate.is_now(shard, operate.last_moment(shard))
         ended = program.run(settings, "import", shard.database, readable)
         told = (ended.stdout + ended.stderr).strip()
