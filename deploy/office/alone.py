@@ -57,13 +57,16 @@ def alone(settings: Settings, shard: Shard, *, is_held: bool = False) -> Iterato
         )
     with held(settings, shard) as lock:
         settle(settings, shard)
+        if units.is_serving(shard):
+            # It is up, so it may come up again, by whatever clock this is.
+            clock.mean(shard)
+        else:
+            clock.is_let(settings, shard)
         pause = Pause()
         if not units.is_active(shard):
             with known.held(settings, shard) if is_held else contextlib.nullcontext():
                 yield pause
             return
-        # It is up, so it may come up again, by whatever clock this is.
-        clock.mean(shard)
         guard = set_guard(settings, shard, lock)
         begun = time.monotonic()
         try:

@@ -38,6 +38,20 @@ def fault(settings: Settings, shard: Shard, now: int | None = None) -> str:
     return ""
 
 
+def is_let(settings: Settings, shard: Shard) -> None:
+    """Refuses what would be done by the clock to a shard that may not start by it: what is done has its
+    moment for good. A shard that is ahead of the clock gets none later than it has."""
+    why = fault(settings, shard)
+    if why and last_moment(shard) <= time.time():
+        raise Refused(f"shard {shard} isn't up, and {why}. {remedy(shard)}")
+
+
+def remedy(shard: Shard) -> str:
+    """What an operator does where the clock is right."""
+    now = shown(int(time.time()))
+    return f"If this machine's clock ({now}) is right: office check --start {shard} --meant"
+
+
 def mean(shard: Shard, now: int | None = None) -> None:
     """Keeps, beside the database, that the clock is right now: for a day a start is let be."""
     moment = int(time.time()) if now is None else now

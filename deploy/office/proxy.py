@@ -92,7 +92,7 @@ def is_left(settings: Settings, here: str) -> bool:
 
 def state() -> str:
     """What systemd says of the unit: while it is reloaded a new process reads the files."""
-    return units.systemctl("show", "--property", "ActiveState", "--value", UNIT).strip()
+    return units.state(UNIT)
 
 
 def replaced(settings: Settings, here: str) -> None:

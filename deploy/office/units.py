@@ -1,6 +1,6 @@
-"""The units of systemd that serve the shards.
+"""The units of systemd that serve the shards, and systemd's words.
 
-Words that need a database to themselves wrap their work in `stopped`."""
+A word that needs a database to itself wraps its work in `alone.alone`."""
 from __future__ import annotations
 
 import contextlib
@@ -30,15 +30,24 @@ def run(*words: str) -> str:
     return ended.stdout
 
 
+def state(unit: str) -> str:
+    """What systemd says of a unit: `active`; `activating` also where it is to be started again."""
+    return systemctl("show", "--property", "ActiveState", "--value", unit).strip()
+
+
 def is_active(shard: Shard) -> bool:
     """Whether a shard's unit is up or on its way."""
     return is_up(shard.unit)
 
 
+def is_serving(shard: Shard) -> bool:
+    """Whether a shard's process was started; one that is refused at each start is `activating`."""
+    return state(shard.unit) == "active"
+
+
 def is_up(unit: str) -> bool:
     """Whether a unit is up or on its way."""
-    told = systemctl("show", "--property", "ActiveState", "--value", unit).strip()
-    return told in ("active", "activating", "reloading")
+    return state(unit) in ("active", "activating", "reloading")
 
 
 def process(shard: Shard) -> int:
@@ -54,18 +63,3 @@ def undisturbed() -> Iterator[None]:
         yield
     finally:
         signal.pthread_sigmask(signal.SIG_SETMASK, before)
-
-
-@contextlib.contextmanager
-def stopped(shard: Shard) -> Iterator[None]:
-    """A shard's unit is stopped meanwhile, and started again whatever happens; a shard that wasn't
-    up stays so. Its requests wait in HAProxy."""
-    if not is_active(shard):
-        yield
-        return
-    try:
-        systemctl("stop", shard.unit)
-        yield
-    finally:
-        with undisturbed():
-            systemctl("start", shard.unit)

@@ -54,7 +54,7 @@ def of_shard(office: Office, shard: Shard, clearing: dict[str, str]) -> Body:
 def unit_of(shard: Shard) -> str | None:
     """The state of a shard's unit; none where there is no systemd."""
     try:
-        return units.systemctl("show", "--property", "ActiveState", "--value", shard.unit).strip()
+        return units.state(shard.unit)
     except Fault:
         return None
 

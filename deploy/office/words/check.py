@@ -53,10 +53,7 @@ def start(settings: Settings, shard: shards.Shard, is_meant: bool) -> int:
         clock.mean(shard)
     fault = clock.fault(settings, shard)
     if fault:
-        raise Refused(
-            f"shard {shard} isn't to start: {fault}. If this machine's clock "
-            f"({clock.shown(int(time.time()))}) is right: office check --start {shard} --meant"
-        )
+        raise Refused(f"shard {shard} isn't to start: {fault}. {clock.remedy(shard)}")
     print(starts.described(shard))
     return 0
 

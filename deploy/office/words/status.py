@@ -87,7 +87,7 @@ def asked(client: Client, shard: Shard, account: str) -> tuple[str, int]:
 def unit_state(shard: Shard) -> str:
     """The state of a shard's unit; `-` where there is no systemd."""
     try:
-        return units.systemctl("show", "--property", "ActiveState", "--value", shard.unit).strip()
+        return units.state(shard.unit)
     except Refused:
         return NONE
 

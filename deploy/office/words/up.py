@@ -14,7 +14,7 @@ import argparse
 import pathlib
 import sys
 import time
-from collections.abc import Callable, Iterable
+from collections.abc import Callable
 
 from office import alone, clock, options, proxy, units
 from office.client import Client
@@ -44,13 +44,13 @@ def run(settings: Settings, arguments: argparse.Namespace) -> int:
         return plan([] if settings.machines else chosen, text, path)
     is_changed = proxy.put(path, text)
     print(f"{path}: {'written' if is_changed else 'as before'}")
-    failed = each("start", chosen, lambda shard: started(settings, shard, arguments.meant))
+    up = each("start", chosen, lambda shard: started(settings, shard, arguments.meant))
     print(proxy.up(settings, is_changed), flush=True)
     if settings.machines and not units.is_up(pacemaker.UNIT):
         print("Pacemaker isn't up on this machine: no shard is asked")
-        return failed
+        return 0 if up == chosen else 1
     with Client(settings, patience=PATIENCE) as client:
-        return failed | each("ask", chosen, lambda shard: answers(client, shard))
+        return 0 if each("ask", up, lambda shard: answers(client, shard)) == chosen else 1
 
 
 def plan(chosen: list[Shard], text: str, path: pathlib.Path) -> int:
@@ -58,26 +58,26 @@ def plan(chosen: list[Shard], text: str, path: pathlib.Path) -> int:
     is_same = path.exists() and path.read_text(encoding="utf-8") == text
     print(f"{path} would be {'as before' if is_same else 'written'}")
     for shard in chosen:
-        if not units.is_active(shard):
+        if not units.is_serving(shard):
             print(f"{shard.unit} would be started")
     return 0
 
 
-def each(what: str, chosen: Iterable[Shard], step: Callable[[Shard], str]) -> int:
-    """Takes a step for each shard, and prints what it says; 1 where one was refused."""
-    failed = 0
+def each(what: str, chosen: list[Shard], step: Callable[[Shard], str]) -> list[Shard]:
+    """Takes a step for each shard, and prints what it says; the shards for which none was refused."""
+    done = []
     for shard in shown(what, chosen):
         try:
             print(f"{shard} {step(shard)}", flush=True)
         except Refused as fault:
             print(f"{shard} {fault}", file=sys.stderr)
-            failed = 1
-    return failed
+            done.append(shard)
+    return done
 
 
 def started(settings: Settings, shard: Shard, is_meant: bool) -> str:
     """Starts a shard that isn't up, now and at each boot, and waits until it listens."""
-    if units.is_active(shard):
+    if units.is_serving(shard) or (settings.machines and units.is_active(shard)):
         return "is up"
     if settings.machines:
         return "isn't up here: Pacemaker starts it where its disk is"

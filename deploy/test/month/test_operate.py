@@ -6,7 +6,7 @@ from collections.abc import Iterator
 import pytest
 
 from month.machine import wait_until
-from month.stand import Stand, now, stand
+from month.stand import BOOK, Stand, now, stand
 
 DONE = '{"Result-Code":2001}'
 
@@ -113,6 +113,25 @@ def test_two_words_never_have_one_shard(office: Stand) -> None:
     assert office.is_up(home)
     assert office.ask("GET", "/accounts/49151")["Barred"] is True
     office.run("office unbar 49151")
+
+
+def test_a_shard_that_rested_starts_once_that_is_meant(office: Stand) -> None:
+    long_ago = now() - 3 * 86_400
+    office.run(
+        f"systemctl stop ocs@03; rm /var/lib/ocs/03.*; cd /; run='runuser -u ocs -- ocs'; "
+        f"$run init /var/lib/ocs/03.db /srv/ocs/{BOOK}; "
+        f"$run open /var/lib/ocs/03.db 1 --at {long_ago}; systemctl start ocs@03",
+        None,
+    )
+    told = office.machine.run("office up", 1)
+    assert "03 isn't started: the clock is 3 days ahead" in told.stderr
+    assert not [line for line in told.stdout.splitlines() if line.startswith("03 ")]
+    # What a word would do has the clock's moment for good.
+    why = "shard 03 isn't up, and the clock is 3 days ahead"
+    assert why in office.machine.run("office migrate --shard 03", 1).stderr
+    assert why in office.machine.run("systemctl stop ocs@03; office migrate --shard 03", 1).stderr
+    told = office.machine.run("systemctl start ocs@03; office up --meant")
+    assert "03 is started\n" in told.stdout and "03 answers\n" in told.stdout
 
 
 def test_a_shard_ahead_of_the_clock_is_refused_before_it_is_stopped(office: Stand) -> None:
