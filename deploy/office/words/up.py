@@ -16,7 +16,7 @@ import sys
 import time
 from collections.abc import Callable
 
-from office import alone, clock, options, proxy, units
+from office import alone, clock, options, proxy, shards, units
 from office.client import Client
 from office.doors import configuration
 from office.faults import Refused, TurnedAway
@@ -42,6 +42,8 @@ def run(settings: Settings, arguments: argparse.Namespace) -> int:
     text, path = configuration.text(settings), pathlib.Path(settings.haproxy.file)
     if arguments.dry_run:
         return plan([] if settings.machines else chosen, text, path)
+    for shard in shards.of(settings):
+        fits(shard)
     is_changed = proxy.put(path, text)
     print(f"{path}: {'written' if is_changed else 'as before'}")
     up = each("start", chosen, lambda shard: started(settings, shard, arguments.meant))
@@ -69,9 +71,9 @@ def each(what: str, chosen: list[Shard], step: Callable[[Shard], str]) -> list[S
     for shard in shown(what, chosen):
         try:
             print(f"{shard} {step(shard)}", flush=True)
+            done.append(shard)
         except Refused as fault:
             print(f"{shard} {fault}", file=sys.stderr)
-            done.append(shard)
     return done
 
 
@@ -91,6 +93,14 @@ def started(settings: Settings, shard: Shard, is_meant: bool) -> str:
     units.systemctl("enable", "--quiet", "--now", shard.unit)
     alone.wait_until_up(shard)
     return "is started"
+
+
+def fits(shard: Shard) -> None:
+    """Refuses a unit that doesn't serve what the office's file says."""
+    told = units.systemctl("show", "--property", "ExecStart", "--value", shard.unit)
+    for words in (f"serve {shard.database}", f"--port {shard.port}"):
+        if told.strip() and f" {words} " not in told:
+            raise Refused(f"{shard.unit} lacks `{words}`, which the office's file says")
 
 
 def answers(client: Client, shard: Shard) -> str:

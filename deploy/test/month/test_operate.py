@@ -134,6 +134,15 @@ def test_a_shard_that_rested_starts_once_that_is_meant(office: Stand) -> None:
     assert "03 is started\n" in told.stdout and "03 answers\n" in told.stdout
 
 
+def test_a_unit_that_serves_something_else_changes_nothing(office: Stand) -> None:
+    before = office.run("cat /etc/haproxy/haproxy.cfg")
+    office.run("cp /etc/ocs/office.toml /tmp/; echo 'first-port = 9100' >> /etc/ocs/office.toml")
+    told = office.machine.run("office up", 1)
+    office.run("cp /tmp/office.toml /etc/ocs/office.toml")
+    assert (told.stdout, "ocs@01 lacks `--port 9101`" in told.stderr) == ("", True)
+    assert office.run("cat /etc/haproxy/haproxy.cfg") == before
+
+
 def test_a_shard_ahead_of_the_clock_is_refused_before_it_is_stopped(office: Stand) -> None:
     home = office.home("49151")
     later = now() + 3_000_000
