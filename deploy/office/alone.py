@@ -8,22 +8,21 @@ from __future__ import annotations
 
 import contextlib
 import dataclasses
-import fcntl
 import os
 import pathlib
 import sys
 import time
 from collections.abc import Iterator
 
-from office import clock, places, units
+from office import clock, locks, places, units
 from office.archive import known
 from office.faults import Refused
 from office.machines import pacemaker
 from office.settings import Settings
 from office.shards import Shard
 
-# Seconds: for another word's end, for a start that reads many rows, between two looks.
-PATIENCE, START, EACH = 15.0, 900.0, 0.02
+# Seconds: for a start that reads many rows, between two looks.
+START, EACH = 900.0, 0.02
 # What the guard does with the lock: a database that was about to take the shard's place takes it,
 # if the old one has gone already, and the unit is started.
 GUARD = """\
@@ -57,12 +56,12 @@ def alone(settings: Settings, shard: Shard, *, is_held: bool = False) -> Iterato
         )
     with held(settings, shard) as lock:
         settle(settings, shard)
+        pause = Pause()
         if units.is_serving(shard):
             # It is up, so it may come up again, by whatever clock this is.
             clock.mean(shard)
         else:
             clock.is_let(settings, shard)
-        pause = Pause()
         if not units.is_active(shard):
             with known.held(settings, shard) if is_held else contextlib.nullcontext():
                 yield pause
@@ -92,34 +91,11 @@ def settle(settings: Settings, shard: Shard) -> None:
         known.drop(settings, name)
 
 
-@contextlib.contextmanager
-def held(settings: Settings, shard: Shard) -> Iterator[pathlib.Path]:
+def held(settings: Settings, shard: Shard) -> contextlib.AbstractContextManager[pathlib.Path]:
     """The lock of a shard; refused where another word keeps it."""
-    folder = pathlib.Path(settings.keeping.locks)
-    try:
-        folder.mkdir(mode=0o755, parents=True, exist_ok=True)
-        path = folder / f"{shard}.lock"
-        lock = os.open(path, os.O_RDWR | os.O_CREAT, 0o600)
-    except OSError as fault:
-        raise Refused(f"{folder}: {fault.strerror}") from fault
-    try:
-        take(lock, shard)
-        yield path
-    finally:
-        os.close(lock)
-
-
-def take(lock: int, shard: Shard) -> None:
-    """Takes a lock within some seconds."""
-    end = time.monotonic() + PATIENCE
-    while True:
-        try:
-            fcntl.flock(lock, fcntl.LOCK_EX | fcntl.LOCK_NB)
-            return
-        except BlockingIOError as fault:
-            if time.monotonic() > end:
-                raise Refused(f"another word of office has shard {shard} to itself") from fault
-        time.sleep(EACH)
+    return locks.held(
+        settings, f"{shard}.lock", f"another word of office has shard {shard} to itself"
+    )
 
 
 def set_guard(settings: Settings, shard: Shard, lock: pathlib.Path) -> str:

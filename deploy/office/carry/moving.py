@@ -13,14 +13,13 @@ from __future__ import annotations
 import argparse
 import contextlib
 import dataclasses
-import fcntl
 import json
 import os
 import pathlib
 import time
 from collections.abc import Iterator
 
-from office import copies, operate, places, program, proxy, units
+from office import copies, disk, locks, operate, places, program, proxy, units
 from office.alone import alone
 from office.archive import known, past
 from office.carry import runtime
@@ -36,8 +35,8 @@ from office.tables import Database, opened
 THERE, DONE = {"Refusal": "O1"}, 2001
 RELOADED = "HAProxy was reloaded meanwhile: the accounts stay where they were"
 PATIENCE = 60.0
-# Seconds: for another move's end, and between two looks at a queue.
-WAIT, EACH = 15.0, 0.005
+# Seconds between two looks at a queue.
+EACH = 0.005
 
 
 @dataclasses.dataclass(frozen=True)
@@ -59,25 +58,9 @@ def note_of(settings: Settings) -> pathlib.Path:
     return pathlib.Path(settings.office.databases) / "move.json"
 
 
-@contextlib.contextmanager
-def under_way(settings: Settings) -> Iterator[pathlib.Path]:
+def under_way(settings: Settings) -> contextlib.AbstractContextManager[pathlib.Path]:
     """One move at a time; the lock's file."""
-    folder = pathlib.Path(settings.keeping.locks)
-    folder.mkdir(mode=0o755, parents=True, exist_ok=True)
-    path = folder / "move.lock"
-    lock, end = os.open(path, os.O_RDWR | os.O_CREAT, 0o600), time.monotonic() + WAIT
-    try:
-        while True:
-            try:
-                fcntl.flock(lock, fcntl.LOCK_EX | fcntl.LOCK_NB)
-                break
-            except BlockingIOError as fault:
-                if time.monotonic() > end:
-                    raise Refused("accounts are moving already") from fault
-            time.sleep(0.05)
-        yield path
-    finally:
-        os.close(lock)
+    return locks.held(settings, "move.lock", "accounts are moving already")
 
 
 @contextlib.contextmanager

@@ -11,14 +11,13 @@ volume is slower, for which each answer waits."""
 from __future__ import annotations
 
 import contextlib
-import fcntl
 import os
 import pathlib
 import subprocess
 import time
 from collections.abc import Iterator
 
-from office import units
+from office import locks, units
 from office.cluster import of_disks
 from office.faults import Refused
 from office.machines import files, mirror, watched
@@ -28,6 +27,8 @@ from office.shards import Shard
 # Seconds in which DRBD has noticed a link that is away: `ping-int` and `ping-timeout` of its file are
 # six together.
 NOTICED = 10.0
+# Seconds for the end of another word's copy.
+WAIT = 3600.0
 OPTIONS = {"xfs": "noatime,nouuid", "ext4": "noatime"}
 # Kind, options, device, an empty folder, the database's name, and the file that it is copied to.
 READ = """\
@@ -107,17 +108,9 @@ def done(*words: str) -> str:
     return ended.stdout
 
 
-@contextlib.contextmanager
-def one_at_a_time(settings: Settings, shard: Shard) -> Iterator[None]:
+def one_at_a_time(
+    settings: Settings, shard: Shard
+) -> contextlib.AbstractContextManager[pathlib.Path]:
     """Another word that takes a snapshot of this shard is waited for."""
-    folder = pathlib.Path(settings.keeping.locks)
-    try:
-        folder.mkdir(mode=0o755, parents=True, exist_ok=True)
-        lock = os.open(folder / f"{shard}.snapshot", os.O_RDWR | os.O_CREAT, 0o600)
-    except OSError as fault:
-        raise Refused(f"{folder}: {fault.strerror}") from fault
-    try:
-        fcntl.flock(lock, fcntl.LOCK_EX)
-        yield
-    finally:
-        os.close(lock)
+    why = f"another word of office copies shard {shard} from a snapshot"
+    return locks.held(settings, f"{shard}.snapshot", why, WAIT)

@@ -15,7 +15,7 @@ from __future__ import annotations
 import argparse
 import pathlib
 
-from office import nights, options
+from office import locks, nights, options
 from office.settings import Settings
 
 
@@ -32,7 +32,13 @@ def run(settings: Settings, arguments: argparse.Namespace) -> int:
     if arguments.dry_run:
         print(f"{settings.keeping.copies} would get copies of all shards")
         return 0
-    print(nights.make(settings))
+    with locks.held(settings, "backups.lock", "copies of the night are made already"):
+        return made(settings)
+
+
+def made(settings: Settings) -> int:
+    """Makes the night's copies, while nobody else does."""
+    print(nights.make(settings), flush=True)
     places = [settings.keeping.copies]
     if settings.keeping.elsewhere:
         for name in nights.send(settings):

@@ -27,6 +27,7 @@ from collections.abc import Iterator
 from office import (
     alone,
     copies,
+    locks,
     lost,
     nights,
     operate,
@@ -64,21 +65,29 @@ def run(settings: Settings, arguments: argparse.Namespace) -> int:
     if arguments.dry_run:
         print(f"{shard} would start from {night / f'{shard}.db'}")
         return 0
+    with locks.held(settings, "restore.lock", "another restore or drill is under way"):
+        restored(settings, arguments, shard, night)
+    return 0
+
+
+def restored(
+    settings: Settings, arguments: argparse.Namespace, shard: Shard, night: pathlib.Path
+) -> None:
+    """Does both, while nobody else restores."""
     work = shard.database.with_name(f"{shard}.restore.db")
     try:
         tried(settings, arguments, shard, night, work)
         if arguments.drill:
             print(f"{shard} could start from {night}")
-            return 0
+            return
         keep = shard.database.with_name(f"{shard.database.name}.before-{int(time.time())}")
         with alone.alone(settings, shard):
             places.ready(settings, shard, work)
             places.swap(shard, keep)
+            print(f"{shard} starts from {night}; what was there is {keep}", flush=True)
             overtaken(settings, shard, nights.moment(night))
     finally:
         places.discard(work)
-    print(f"{shard} starts from {night}; what was there is {keep}")
-    return 0
 
 
 def overtaken(settings: Settings, shard: Shard, night: float) -> None:
