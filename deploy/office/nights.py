@@ -5,6 +5,7 @@ costs the disk's copy of each shard, and a second copy to the other place."""
 from __future__ import annotations
 
 import calendar
+import contextlib
 import hashlib
 import os
 import pathlib
@@ -14,7 +15,7 @@ import sys
 import time
 from collections.abc import Iterator
 
-from office import copies, shards
+from office import copies, disk, shards
 from office.faults import Refused
 from office.progress import shown
 from office.settings import Settings
@@ -28,21 +29,36 @@ DAY, HOUR = 86_400, 3600
 def make(settings: Settings) -> pathlib.Path:
     """Copies each shard into a new folder, which takes its name when it is whole."""
     place = pathlib.Path(settings.keeping.copies)
-    sweep_parts(place)
-    made = place / time.strftime(FORM, time.gmtime())
-    part = place / f".{made.name}.part"
-    part.mkdir(mode=0o700, parents=True)
-    for shard in shown("copy", shards.of(settings)):
-        copies.copy(settings, shard, part / f"{shard}.db", is_only_read=True)
-    write_sums(part)
-    os.replace(part, made)
+    while (made := place / time.strftime(FORM, time.gmtime())).exists():
+        time.sleep(0.1)
+    with whole(made) as part:
+        for shard in shown("copy", shards.of(settings)):
+            copies.copy(settings, shard, part / f"{shard}.db", is_only_read=True)
+        write_sums(part)
     return made
+
+
+@contextlib.contextmanager
+def whole(night: pathlib.Path) -> Iterator[pathlib.Path]:
+    """A folder that takes a night's name when it is whole. Where it isn't ended it goes, since the disk
+    may be full; one that a run left which was killed goes before."""
+    part = night.with_name(f".{night.name}.part")
+    for left in night.parent.glob(".*.part"):
+        shutil.rmtree(left)
+    try:
+        part.mkdir(mode=0o700, parents=True)
+        yield part
+        os.replace(part, night)
+        disk.sync(night.parent)
+    except BaseException:
+        shutil.rmtree(part, ignore_errors=True)
+        raise
 
 
 def write_sums(folder: pathlib.Path) -> None:
     """The SHA-256 of each copy, as `sha256sum --check` reads them."""
     lines = [f"{sum_of(path)}  {path.name}\n" for path in sorted(folder.glob("*.db"))]
-    (folder / SUMS).write_text("".join(lines), encoding="ascii")
+    disk.write(folder / SUMS, "".join(lines))
 
 
 def sum_of(path: pathlib.Path) -> str:
@@ -66,24 +82,16 @@ def send(settings: Settings) -> list[str]:
     elsewhere = pathlib.Path(settings.keeping.elsewhere)
     if not elsewhere.is_dir():
         raise Refused(f"{elsewhere} isn't there: the copies are on this machine alone")
-    sweep_parts(elsewhere)
     sent = []
     for night in list(nights(pathlib.Path(settings.keeping.copies))):
         if (elsewhere / night.name).exists():
             continue
-        part = elsewhere / f".{night.name}.part"
-        shutil.copytree(night, part)
-        if not is_whole(part):
-            raise Refused(f"{part} isn't what {night} is: the other place's disk")
-        os.replace(part, elsewhere / night.name)
+        with whole(elsewhere / night.name) as part:
+            shutil.copytree(night, part, dirs_exist_ok=True)
+            if not is_whole(part):
+                raise Refused(f"{part} isn't what {night} is: the other place's disk")
         sent.append(night.name)
     return sent
-
-
-def sweep_parts(place: pathlib.Path) -> None:
-    """Removes what a run that was stopped left behind."""
-    for part in place.glob(".*.part"):
-        shutil.rmtree(part)
 
 
 def drop(settings: Settings, place: pathlib.Path) -> list[str]:
@@ -101,9 +109,15 @@ def nights(place: pathlib.Path) -> Iterator[pathlib.Path]:
         yield from sorted(each for each in place.iterdir() if NAME.fullmatch(each.name))
 
 
+def past(place: pathlib.Path) -> Iterator[pathlib.Path]:
+    """Those that aren't ahead of the clock: a night that was made by a wrong one isn't the last."""
+    now = time.time()
+    yield from (night for night in nights(place) if moment(night) <= now)
+
+
 def last(settings: Settings) -> pathlib.Path:
     """The last night's folder."""
-    found = list(nights(pathlib.Path(settings.keeping.copies)))
+    found = list(past(pathlib.Path(settings.keeping.copies)))
     if not found:
         raise Refused(f"{settings.keeping.copies} has no copies: `office backups` makes them")
     return found[-1]
@@ -119,7 +133,7 @@ def ages(settings: Settings) -> dict[str, float | None]:
     places = [settings.keeping.copies, settings.keeping.elsewhere]
     found: dict[str, float | None] = {}
     for place in filter(None, places):
-        there = list(nights(pathlib.Path(place)))
+        there = list(past(pathlib.Path(place)))
         found[place] = time.time() - moment(there[-1]) if there else None
     return found
 

@@ -69,6 +69,32 @@ def test_a_place_that_is_away_is_told(office: Stand) -> None:
     assert office.machine.run("office backups").stdout.count("/srv/elsewhere/") == 2
 
 
+def test_a_full_disk_keeps_nothing_half_made(office: Stand) -> None:
+    copies, here = "/var/lib/ocs/copies", "office backups --age"
+    office.run(f"mount -t tmpfs -o size=200k tmpfs {copies}")
+    told = office.machine.run("office backups", 1)
+    left = office.run(f"ls -A {copies}; umount {copies}")
+    assert (told.stdout, "No space left" in told.stderr or "full" in told.stderr) == ("", True)
+    assert left == ""
+    assert office.run(here)
+
+
+def test_two_runs_are_two_nights(office: Stand) -> None:
+    before = set(office.run("ls /var/lib/ocs/copies").split())
+    runs = [office.machine.started("office backups") for _ in range(2)]
+    told = [each.communicate(timeout=600)[0] for each in runs]
+    made = set(office.run("ls -A /var/lib/ocs/copies").split()) - before
+    assert len(made) == 2 and all(any(one in text for one in made) for text in told), told
+
+
+def test_a_night_ahead_of_the_clock_is_not_the_last(office: Stand) -> None:
+    last = office.run("ls /var/lib/ocs/copies | tail -n 1").strip()
+    office.run(f"cd /var/lib/ocs/copies; cp -r {last} 20990101T000000Z")
+    assert "copies 0.0 h" in office.machine.run("office backups --age").stdout
+    assert f"/{last}\n" in office.machine.run("office restore 01 --drill").stdout
+    office.run("rm -r /var/lib/ocs/copies/20990101T000000Z")
+
+
 def test_the_timer_is_one_that_systemd_takes(office: Stand) -> None:
     office.run("cp deploy/office-backups.* /etc/systemd/system/ && systemctl daemon-reload")
     office.run("systemd-analyze verify /etc/systemd/system/office-backups.timer")
