@@ -42,7 +42,9 @@ class Lost:
             return EVENTS if one.granted == NONE else "debit"
         if one.what.startswith("PUT "):
             return "account"
-        return "redemption" if one.what.startswith("POST /vouchers/") else "credit"
+        if one.what.startswith("POST /vouchers/"):
+            return "redemption"
+        return "allowance" if one.what.endswith("/allowances") else "credit"
 
     def __str__(self) -> str:
         one = self.line
@@ -52,27 +54,29 @@ class Lost:
 
 
 def since(settings: Settings, copy: pathlib.Path, shard: Shard, moment: float) -> Iterator[Lost]:
-    """What a copy lacks of what was answered from a moment on."""
-    kept, there = keys(copy)
+    """What a copy lacks of what was answered from a moment on; what was asked again, once."""
+    kept, opened_by = keys(copy)
+    told = set[tuple[str, str, str, int]]()
     for text in log.since(settings, f"@{moment:.0f}", f'"shard":"{shard}"'):
         line = log_line.read(text)
-        if isinstance(line, Answered) and line.shard == str(shard) and is_accepted(line):
-            found, is_kept = Lost(line), key(line) in kept or line.account in there.get(
-                line.what, ()
-            )
-            if found.ended() >= moment and not is_kept:
-                yield found
+        if not isinstance(line, Answered) or line.shard != str(shard) or not is_accepted(line):
+            continue
+        found, name = Lost(line), (line.what, *key(line))
+        is_kept = key(line) in kept or line.what in opened_by
+        if found.ended() >= moment and not is_kept and name not in told:
+            told.add(name)
+            yield found
 
 
-def keys(copy: pathlib.Path) -> tuple[set[tuple[str, str, int]], dict[str, set[str]]]:
-    """The keys of the answers that a copy keeps, and its accounts by how they were opened."""
+def keys(copy: pathlib.Path) -> tuple[set[tuple[str, str, int]], set[str]]:
+    """The keys of the answers that a copy keeps, and the requests that opened its accounts."""
     with opened(copy) as database:
         kept = {
             (row["account"], row["name"], row["number"])
             for row in database.rows("SELECT account, name, number FROM answers")
         }
-        accounts = [row["account"] for row in database.rows("SELECT account FROM accounts")]
-    return kept, {f"PUT /accounts/{account}": {account} for account in accounts}
+        accounts = database.rows("SELECT account FROM accounts")
+        return kept, {f"PUT /accounts/{row['account']}" for row in accounts}
 
 
 def key(line: Answered) -> tuple[str, str, int]:
@@ -88,9 +92,14 @@ def is_accepted(line: Answered) -> bool:
     return line.status == 200 and line.code == DONE and not is_read
 
 
+def is_money(one: Lost) -> bool:
+    """Whether the log has an amount of it in micro-units."""
+    return one.kind() == "credit" and one.line.amount.isdigit()
+
+
 def summed(found: list[Lost]) -> str:
-    """How many of each kind, and the sum of the amounts that the log has."""
+    """How many of each kind, and the sum of the credits' amounts, in micro-units."""
     counts = collections.Counter(one.kind() for one in found)
     told = [f"{kind} {count}" for kind, count in sorted(counts.items())]
-    amounts = [int(one.line.amount) for one in found if one.line.amount.isdigit()]
+    amounts = [int(one.line.amount) for one in found if is_money(one)]
     return " ".join(["lost", *(told or ["nothing"]), f"amounts {sum(amounts)}"])

@@ -116,16 +116,20 @@ def test_a_copy_is_started_and_no_voucher_spent_twice(office: Stand) -> None:
     # in another shard: its code for the other's account, the other's code for its account.
     office.run(f"office redeem 000000000003 {own[1]}")
     office.run(f"office redeem 000000000004 {other[1]}; office redeem 000000000104 {own[1]}")
-    office.ask("POST", f"/accounts/{own[2]}/credits", {"Amount": 77, "Reference": "late"})
+    for _ in range(2):
+        office.ask("POST", f"/accounts/{own[2]}/credits", {"Amount": 77, "Reference": "late"})
+    given = {"Blocks": 9, "Scope": 10, "Reference": "given"}
+    office.ask("POST", f"/accounts/{own[2]}/allowances", given)
     office.ask("POST", "/ccr", request(own[2], "talk", 1, 0, 10, 600))
     office.logs('"session":"talk"')
     had = {account: office.available(account) for account in (*own, *other)}
     drill = office.machine.run("office restore 02 --drill").stdout
-    assert f"lost credit {own[2]} late 77\n" in drill
+    assert drill.count(f"lost credit {own[2]} late 77\n") == 1
+    assert f"lost allowance {own[2]} given 9\n" in drill
     assert f"lost session {own[2]} talk 0\n" in drill
     assert f"again 000000000004 is spent for {other[1]}\n" in drill
     assert f"again 000000000104 is credited to {own[1]}\n" in drill
-    assert "lost credit 1 redemption 1 session 1 amounts 77\n" in drill
+    assert "lost allowance 1 credit 1 redemption 1 session 1 amounts 77\n" in drill
     assert {account: office.available(account) for account in (*own, *other)} == had
     told = office.machine.run("office restore 02")
     assert "again 000000000004" in told.stdout and "requests waited" in told.stderr
