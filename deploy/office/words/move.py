@@ -66,7 +66,7 @@ def run(settings: Settings, arguments: argparse.Namespace) -> int:
         target = shards.named(settings, arguments.target)
         if source == target:
             raise Unread("--from and --to name two shards")
-        those = chosen(settings, arguments, source)
+        those = chosen(settings, arguments, source, target)
         if arguments.dry_run:
             print(f"{len(those)} accounts would move from {source} to {target}")
             return 0
@@ -81,8 +81,10 @@ def run(settings: Settings, arguments: argparse.Namespace) -> int:
     return 1 if stay else 0
 
 
-def chosen(settings: Settings, arguments: argparse.Namespace, source: Shard) -> list[str]:
-    """The accounts of the words that live in the shard."""
+def chosen(
+    settings: Settings, arguments: argparse.Namespace, source: Shard, target: Shard
+) -> list[str]:
+    """The accounts of the words that live in the shard; of its half those that didn't move before."""
     homes, clearing = shards.Homes(settings), set(clearing_accounts(settings))
     if not arguments.half and not arguments.all:
         told = operate.accounts(arguments)
@@ -92,9 +94,11 @@ def chosen(settings: Settings, arguments: argparse.Namespace, source: Shard) -> 
         return [account for account in told if homes.home(account) == source]
     with copies_made(settings, [source]) as copied, opened(copied[0]) as database:
         rows = database.rows("SELECT account FROM accounts ORDER BY account")
-        own = [row["account"] for row in rows if homes.home(row["account"]) == source]
-    own = [account for account in own if account not in clearing]
-    return own[1::2] if arguments.half else own
+        there = [row["account"] for row in rows if row["account"] not in clearing]
+    lives = {account: homes.home(account) for account in there}
+    own = [account for account in there if lives[account] == source]
+    moved = sum(lives[account] == target for account in there)
+    return own[1::2][: max(0, (len(own) + moved) // 2 - moved)] if arguments.half else own
 
 
 def clearing_accounts(settings: Settings) -> list[str]:

@@ -119,6 +119,7 @@ def test_half_a_shard_moves_while_all_are_asked(office: Stand) -> None:
         account: amount - 12 * PRICE for account, amount in before.items()
     }
     assert sorted(of_shard(office, "03") + own[1::2]) == sorted(own)
+    assert office.run("office move --from 03 --to 05 --half") == "moved 0 stay 0\n"
     office.run("office audit")
 
 
