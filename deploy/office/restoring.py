@@ -60,7 +60,7 @@ def of_others(copies: Iterable[pathlib.Path], shard: Shard) -> list[Used]:
     found: dict[tuple[str, str, bool], Used] = {}
     for copy in copies:
         if copy.stem.partition("-")[0] != str(shard):
-            with opened(copy) as database:
+            with opened(copy, is_still=True) as database:
                 for one in of_database(database):
                     found.setdefault((one.code, one.account, one.body is None), one)
     return list(found.values())
@@ -84,7 +84,7 @@ def again(
             (one.account, f"voucher-{one.code}") for one in used if one.body is None
         }
     for path in archives:
-        with opened(path) as database:
+        with opened(path, is_still=True) as database:
             have |= names(database)
     for one in used:
         if one.body is None and one.code in spent and not spent[one.code]:

@@ -77,7 +77,7 @@ def emptiest(copies: list[pathlib.Path]) -> str:
 def are_unspent(settings: Settings, codes: set[str]) -> None:
     """Refuses codes that an archive has as spent: added again they could be spent again."""
     for path in archives(settings):
-        with opened(path) as database:
+        with opened(path, is_still=True) as database:
             spent = {code for code, account in there(database, codes).items() if account}
         if spent:
             raise Refused(f"{path} has {few(spent)} as spent: added again it could be spent again")

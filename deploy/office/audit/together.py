@@ -79,7 +79,7 @@ def moved_from(archives: Sequence[pathlib.Path]) -> dict[str, set[str]]:
     for path in archives:
         told = NAME.fullmatch(path.stem)
         if told and told[3]:
-            with opened(path) as database:
+            with opened(path, is_still=True) as database:
                 found[told[1]] |= {row["account"] for row in database.rows(ACCOUNTS)}
     return found
 
@@ -121,7 +121,7 @@ def every(living: Living) -> Iterator[Database]:
     """The databases of all shards, and their archives, one after another."""
     yield from living.databases.values()
     for path in living.archives:
-        with opened(path) as database:
+        with opened(path, is_still=True) as database:
             yield database
 
 
@@ -168,7 +168,7 @@ def since(
     since, its archive has to have it."""
     with contextlib.ExitStack() as kept:
         turned = archive_since(shard, earlier, archives)
-        whole = kept.enter_context(opened(turned)) if turned else database
+        whole = kept.enter_context(opened(turned, is_still=True)) if turned else database
         with beside(whole, earlier):
             yield from gone(shard, whole)
         with beside(database, earlier):
@@ -181,7 +181,7 @@ def archive_since(
     shard: str, earlier: pathlib.Path, archives: Sequence[pathlib.Path]
 ) -> pathlib.Path | None:
     """The archive of a shard's first turn after an earlier copy. What a turn carries has its moment."""
-    with opened(earlier) as copy:
+    with opened(earlier, is_still=True) as copy:
         last = copy.last_moment
     for path in sorted(archives):
         told = NAME.fullmatch(path.stem)
