@@ -201,5 +201,6 @@ def state(settings: Settings) -> str:
 def folder_of(settings: Settings) -> pathlib.Path:
     """The folder, which HAProxy may read."""
     path = pathlib.Path(settings.archive.known)
-    path.mkdir(mode=0o755, parents=True, exist_ok=True)
+    path.mkdir(parents=True, exist_ok=True)
+    path.chmod(0o755)
     return path

@@ -32,7 +32,9 @@ def run(settings: Settings, arguments: argparse.Namespace) -> int:
     if arguments.dry_run:
         print(f"{shard.database} would be made")
         return 0
-    first = next(one for one in shards.of(settings) if one.database.exists())
+    first = next((one for one in shards.of(settings) if one.database.exists()), None)
+    if not first:
+        raise Refused("no shard has a database yet, whose books this one would have: `ocs init`")
     with copies.made(settings, [first]) as made, opened(made[0]) as database:
         plan = Plan(database, int(time.time()), lambda _: False)
     plan.vouchers = []
