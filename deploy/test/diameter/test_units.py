@@ -68,6 +68,7 @@ def peer() -> Iterator[Stand]:
     with stand() as office:
         office.run("install -d /usr/local/share/man/man8")
         office.run(steps())
+        office.run("chmod 600 /etc/ocs/office.toml")
         office.run(r"sed -i 's/^  %% groups => /  groups => /' /etc/ocs/diameter.config")
         office.run("/usr/lib/ocs-diameter/ocs-diameter --check /etc/ocs/diameter.config")
         office.run("systemctl daemon-reload && systemctl enable --now ocs-diameter ocs-credited")
