@@ -1,7 +1,7 @@
 """The command line: finds the words, reads the file, carries a word out.
 
 Every module of `office/words` is a word: `price_list.py` is `office price-list`. Its docstring is
-the word's help (the first line is the line of `office --help`), `add(parser)` adds its arguments,
+the word's help (the first paragraph is what `office --help` says of it), `add(parser)` adds its arguments,
 `run(settings, arguments)` carries it out and returns the exit status."""
 from __future__ import annotations
 
@@ -39,7 +39,7 @@ def main(arguments: list[str] | None = None) -> int:
     """Carries out a command line; the exit status."""
     words_of = sys.argv[1:] if arguments is None else arguments
     told = parser(found(words_of)).parse_args(words_of)
-    for each in (signal.SIGTERM, signal.SIGHUP):
+    for each in (signal.SIGINT, signal.SIGTERM, signal.SIGHUP):
         signal.signal(each, signal.default_int_handler)
     try:
         return int(told.run(settings.read(told.file), told))
@@ -84,7 +84,7 @@ def parser(each_word: list[Word]) -> argparse.ArgumentParser:
         text = (word.__doc__ or "").strip()
         part = below.add_parser(
             name,
-            help=text.partition("\n")[0].rstrip("."),
+            help=" ".join(text.partition("\n\n")[0].split()).rstrip("."),
             description=text,
             epilog=STATUS,
             formatter_class=plain,

@@ -2,6 +2,7 @@
 from __future__ import annotations
 
 import pathlib
+import signal
 import subprocess
 
 import pytest
@@ -23,6 +24,23 @@ def test_each_word_has_help(word: str) -> None:
     assert told.returncode == 0
     assert f"office {word}" in told.stdout
     assert "exit status" in told.stdout
+
+
+def test_each_word_is_told_in_whole_sentences() -> None:
+    told = " ".join(ran("--help").stdout.split())
+    for word in command.found():
+        first = (word.__doc__ or "").strip().partition("\n\n")[0]
+        assert " ".join(first.split()).rstrip(".") in told, word.__name__
+
+
+def test_a_stop_before_it_has_begun_says_nothing(tmp_path: pathlib.Path) -> None:
+    # In the place of a module that it imports.
+    (tmp_path / "argparse.py").write_text(
+        "import os, signal\nos.kill(os.getpid(), signal.SIGINT)\n"
+    )
+    more = {"PYTHONPATH": str(tmp_path)}
+    told = subprocess.run([str(OFFICE), "status"], capture_output=True, env=more, check=False)
+    assert (told.returncode, told.stdout, told.stderr) == (-signal.SIGINT, b"", b"")
 
 
 def test_wrong_words_are_status_2(tmp_path: pathlib.Path) -> None:
