@@ -6,7 +6,7 @@ import re
 from collections.abc import Callable
 
 from office.agent import accounts, bars, codes, prices, redeem, state, sums
-from office.agent.asked import Asked, Body, Office
+from office.agent.asked import Asked, Body
 from office.doors.routes import AGENT
 
 NUMBER = "/([0-9]{1,15})"

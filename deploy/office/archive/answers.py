@@ -18,7 +18,6 @@ import pathlib
 import re
 import threading
 import time
-from collections.abc import Iterator
 from typing import Any
 
 from office import copies, program, shards, spare

@@ -5,12 +5,9 @@ milliseconds a request of the plan. Stopped anywhere, -9 as well, the shard goes
 two, whole; the same word again begins anew, or puts the archive's name right."""
 from __future__ import annotations
 
-import contextlib
 import os
 import pathlib
-import tempfile
 import time
-from collections.abc import Iterator
 
 from office import copies, disk, operate, places, program, shards, spare
 from office.alone import alone, held, settle

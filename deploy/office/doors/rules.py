@@ -8,7 +8,7 @@ from __future__ import annotations
 from collections.abc import Iterable
 
 from office.doors import lines, page, routes
-from office.settings import Caller, Door, Gateway, Operator, Settings
+from office.settings import Door, Operator, Settings
 
 # Names on a line of HAProxy's, which takes 64 words.
 ROW = 16

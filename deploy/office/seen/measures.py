@@ -10,7 +10,6 @@ import contextlib
 import dataclasses
 import pathlib
 import re
-import time
 from collections.abc import Iterator
 
 from prometheus_client.core import CounterMetricFamily, GaugeMetricFamily, Metric

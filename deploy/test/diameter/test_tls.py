@@ -12,7 +12,6 @@ from typing import Any
 import pytest
 from diameter.bridge import Bridge, Stub
 from diameter.wire import PATIENCE, Gateway, ccr, seconds, service
-from support import ports
 from support.waiting import until
 from support.world import done
 

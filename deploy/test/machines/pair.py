@@ -19,7 +19,7 @@ from support.volatile import FATES, Disk
 from support.waiting import until
 from support.world import program
 
-from machines.office import TWO, file
+from machines.office import file
 from office import settings, shards
 from office.machines import mirror
 

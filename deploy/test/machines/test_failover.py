@@ -5,7 +5,6 @@ OFFICE_FAILOVERS has another number of failovers."""
 from __future__ import annotations
 
 import os
-import pathlib
 import time
 from collections.abc import Callable, Iterator
 

@@ -6,7 +6,7 @@ import pathlib
 import shutil
 
 from support.image import image
-from support.machine import SHARED, Machine, Network
+from support.machine import Machine, Network
 from support.served import BOOKS
 from support.turns import Turns
 from support.volatile import Disk

@@ -1,7 +1,6 @@
 """The office of the tests of words: the doors of a file that names none, over two shards."""
 from __future__ import annotations
 
-import pathlib
 from collections.abc import Iterator
 
 import pytest
