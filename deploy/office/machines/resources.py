@@ -81,11 +81,7 @@ def doors(settings: Settings, resources: Element, rules: Element) -> None:
     haproxy.set("type", "haproxy")
     steps(settings, haproxy, "haproxy", ("start", "stop"), {"": settings.cluster.look})
     moving(settings, resources, "office", settings.cluster.address)
-    SubElement(
-        rules,
-        "rsc_colocation",
-        {"id": "office-doors", "rsc": "office", "with-rsc": "doors", "score": "INFINITY"},
-    )
+    beside(rules, "office", "doors", {})
     only_with_disks(settings, rules, "doors")
     only_with_disks(settings, rules, "office")
 
@@ -101,13 +97,8 @@ def a_shard(settings: Settings, resources: Element, rules: Element, shard: Shard
         "fstype": settings.cluster.files,
     }
     agent(settings, made, f"files{shard}", "Filesystem", words)
-    bits = cluster.prefix(settings.cluster.shards_after)
-    moving(
-        settings,
-        made,
-        f"address{shard}",
-        f"{cluster.address(settings.cluster, shard.number)}/{bits}",
-    )
+    own, bits = settings.cluster, cluster.prefix(settings.cluster.shards_after)
+    moving(settings, made, f"address{shard}", f"{cluster.address(own, shard.number)}/{bits}")
     unit = SubElement(made, "primitive", {"id": f"ocs{shard}", "class": "systemd"})
     unit.set("type", shard.unit)
     steps(settings, unit, f"ocs{shard}", ("start", "stop"), {"": settings.cluster.look})
@@ -116,29 +107,9 @@ def a_shard(settings: Settings, resources: Element, rules: Element, shard: Shard
     for machine in settings.machines:
         if shard.number in machine.first:
             place(rules, group, machine, HOME)
-    SubElement(
-        rules,
-        "rsc_colocation",
-        {
-            "id": f"{group}-{disk}",
-            "rsc": group,
-            "with-rsc": disk,
-            "with-rsc-role": "Promoted",
-            "score": "INFINITY",
-        },
-    )
-    SubElement(
-        rules,
-        "rsc_order",
-        {
-            "id": f"{disk}-{group}",
-            "first": disk,
-            "first-action": "promote",
-            "then": group,
-            "then-action": "start",
-            "kind": "Mandatory",
-        },
-    )
+    beside(rules, group, disk, {"with-rsc-role": "Promoted"})
+    words = {"id": f"{disk}-{group}", "first": disk, "first-action": "promote", "then": group}
+    SubElement(rules, "rsc_order", words | {"then-action": "start", "kind": "Mandatory"})
 
 
 def a_disk(settings: Settings, resources: Element, shard: Shard) -> None:
@@ -193,6 +164,12 @@ def only_with_disks(settings: Settings, rules: Element, name: str) -> None:
     for machine in settings.machines:
         if machine not in disks:
             place(rules, name, machine, "-INFINITY").set("resource-discovery", "never")
+
+
+def beside(rules: Element, name: str, other: str, more: dict[str, str]) -> None:
+    """A resource is where another one is."""
+    words = {"id": f"{name}-{other}", "rsc": name, "with-rsc": other}
+    SubElement(rules, "rsc_colocation", words | more | {"score": "INFINITY"})
 
 
 def place(rules: Element, name: str, machine: Machine, score: str) -> Element:
