@@ -43,6 +43,11 @@ class Database:
         return [(first, 0), *((text, starts) for text, starts in later)]
 
 
+def uri(path: pathlib.Path, is_still: bool = False) -> str:
+    """The name by which SQLite only reads a file; of one that `is_still`, without a file beside it."""
+    return f"file:{urllib.parse.quote(str(path))}?mode=ro" + ("&immutable=1" if is_still else "")
+
+
 @contextlib.contextmanager
 def opened(path: pathlib.Path, *, is_still: bool = False) -> Iterator[Database]:
     """A database, read only. A fault of SQLite within is `Refused` with the file's name.
@@ -53,8 +58,7 @@ def opened(path: pathlib.Path, *, is_still: bool = False) -> Iterator[Database]:
         raise Refused(f"{path} isn't there")
     store = None
     try:
-        place = f"file:{urllib.parse.quote(str(path))}?mode=ro"
-        place += "&immutable=1" if is_still else ""
+        place = uri(path, is_still)
         store = sqlite3.connect(place, uri=True, timeout=0, check_same_thread=not is_still)
         store.row_factory = sqlite3.Row
         version, last = store.execute("SELECT version, last_moment FROM meta").fetchone()

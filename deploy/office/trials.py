@@ -18,7 +18,7 @@ from office.books import Book
 from office.faults import Refused, Unread
 from office.settings import Settings
 from office.shelves import Later
-from office.tables import opened
+from office.tables import opened, uri
 
 WEEK, MINUTE = 7 * 86_400, 60
 BLOCKS = "1,10,100,1000"
@@ -79,7 +79,7 @@ def twin(settings: Settings, copy: pathlib.Path) -> pathlib.Path:
     """A second copy beside the first."""
     made = copy.with_name("new.db")
     with (
-        contextlib.closing(sqlite3.connect(f"file:{copy}?mode=ro", uri=True)) as source,
+        contextlib.closing(sqlite3.connect(uri(copy), uri=True)) as source,
         contextlib.closing(sqlite3.connect(made)) as target,
     ):
         source.backup(target)

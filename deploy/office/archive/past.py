@@ -15,13 +15,12 @@ import pathlib
 import re
 import sqlite3
 import time
-import urllib.parse
 from collections.abc import Iterable, Iterator
 
 from office import places, program
 from office.faults import Refused
 from office.settings import Settings
-from office.tables import Database, opened
+from office.tables import Database, opened, uri
 
 NAME = re.compile(r"(\d\d)-(\d{8}T\d{6}Z)(?:-to-(\d\d)(?:-\d+)?)?")
 # Tables with the rows of accounts, but for vouchers: a code lives where it was imported.
@@ -132,8 +131,7 @@ def extract(
         program.done(settings, "init", made, book)
     try:
         with contextlib.closing(sqlite3.connect(made)) as store, store:
-            place = f"file:{urllib.parse.quote(str(source.path))}?mode=ro&immutable=1"
-            store.execute("ATTACH ? AS source", (place,))
+            store.execute("ATTACH ? AS source", (uri(source.path, True),))
             store.execute("CREATE TEMP TABLE those (account TEXT PRIMARY KEY)")
             store.executemany("INSERT INTO those VALUES (?)", ((one,) for one in accounts))
             store.execute("INSERT INTO main.books SELECT * FROM source.books")

@@ -16,7 +16,7 @@ from office.archive.past import NAME, moment_of
 from office.audit.findings import Finding
 from office.restoring import CLEARED, CREDITED
 from office.shards import Homes
-from office.tables import Database, opened
+from office.tables import Database, opened, uri
 
 Named = dict[str, Database]
 ACCOUNTS = "SELECT account FROM accounts"
@@ -193,7 +193,7 @@ def archive_since(
 @contextlib.contextmanager
 def beside(database: Database, earlier: pathlib.Path) -> Iterator[None]:
     """An earlier copy is `earlier` in the database's queries."""
-    database.store.execute("ATTACH ? AS earlier", (f"file:{earlier}?mode=ro",))
+    database.store.execute("ATTACH ? AS earlier", (uri(earlier),))
     try:
         yield
     finally:
