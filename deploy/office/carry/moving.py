@@ -68,22 +68,11 @@ def guarded(lock: pathlib.Path, arguments: argparse.Namespace) -> Iterator[None]
     """A unit of systemd's ends what was begun, where this process is killed."""
     name = f"office-guard-move-{os.getpid()}-{time.monotonic_ns()}.service"
     command = pathlib.Path(__file__).resolve().parents[2] / "bin/office"
-    again = [str(command), "--file", str(arguments.file), "move", "--finish"]
-    waits = ["flock", str(lock), "true"]
+    file = str(arguments.file.absolute())
+    again = [str(lock), str(command), "--file", file, "move", "--finish"]
     told = "--description=Ends a move of accounts when the word has ended"
-    script = f'{" ".join(waits)}; exec "$@"'
-    units.run(
-        "systemd-run",
-        "--quiet",
-        "--collect",
-        f"--unit={name}",
-        told,
-        "sh",
-        "-c",
-        script,
-        "sh",
-        *again,
-    )
+    waits = ["sh", "-c", 'flock "$1" true; shift; exec "$@"', "sh", *again]
+    units.run("systemd-run", "--quiet", "--collect", f"--unit={name}", told, *waits)
     try:
         yield
     finally:
