@@ -9,8 +9,9 @@ accounts of other shards are redeemed there again, or each could be spent twice;
 again what codes of other shards brought them since. It is held against the doors' log: what was
 answered in the day before it was made (since the shard was carried, where that is later) and isn't in
 it is told as lacking, and refuses it (--lacking takes it so), but for events without granted units, of
-which the log doesn't say whether they are refunds, or checks that nothing is kept of;
-what was accepted since is lost, and told: each credit, debit and session by its name, and the sums.
+which the log doesn't say whether they are refunds, or checks that nothing is kept of. A copy without
+accounts that moved to the shard since is refused too: their rows are in the archive of the move. What
+was accepted since is lost, and told: each credit, debit and session by its name, and the sums.
 Then it takes the shard's place. The database that was there stays beside it as NN.db.before-MOMENT.
 
 A drill ends with status 1 where the copy is refused. Run it each month: a copy that was never
@@ -39,7 +40,7 @@ from office import (
     spare,
     vouchers,
 )
-from office.archive import known
+from office.archive import known, past
 from office.faults import Refused, Unread
 from office.settings import Settings
 from office.shards import Shard
@@ -122,9 +123,14 @@ def tried(
     if not source.is_file():
         raise Refused(f"{source} isn't there")
     places.discard(work)
+    work.touch(0o600)
     shutil.copyfile(source, work)
     program.give(settings, work)
     operate.is_now(shard, last_moment(work))
+    gone = sorted(set(moved_here(settings, shard, work)))
+    if gone and not arguments.lacking:
+        few = ", ".join(gone[:3]) + (", .." if len(gone) > 3 else "")
+        raise Refused(f"{night}: {len(gone)} accounts that moved to shard {shard} since: {few}")
     print("\n".join(sums(work)))
     others = [each for each in shards.of(settings) if each != shard and each.database.exists()]
     with copies.made(settings, others) as made:
@@ -135,6 +141,18 @@ def tried(
         for line in restoring.again(settings, served, shard, source, used, own.values()):
             print(line)
     compare(settings, arguments, shard, night, work)
+
+
+def moved_here(settings: Settings, shard: Shard, copy: pathlib.Path) -> Iterator[str]:
+    """The accounts that live in a shard by their moves, and that a copy of it hasn't."""
+    asked, homes = "SELECT account FROM accounts", shards.Homes(settings)
+    with opened(copy) as read:
+        there = {row["account"] for row in read.rows(asked)}
+    for file in past.files(settings):
+        if file.target == str(shard):
+            with opened(file.path, is_still=True) as read:
+                those = {row["account"] for row in read.rows(asked)} - there
+            yield from (account for account in those if homes.home(account) == shard)
 
 
 def compare(

@@ -105,6 +105,18 @@ def at_the_gateways_door(office: Stand, account: str, waiting: int) -> subproces
     return asked
 
 
+def test_a_copy_without_accounts_that_moved_since_is_refused(office: Stand) -> None:
+    one = of_shard(office, "01")[0]
+    office.run("office backups")
+    assert office.run(f"office move --from 01 --to 05 {one}") == "moved 1 stay 0\n"
+    told = office.machine.run("office restore 05 --drill", 1)
+    assert f"1 accounts that moved to shard 05 since: {one}\n" in told.stderr
+    assert "05 could start" in office.run("office restore 05 --drill --lacking")
+    time.sleep(1)
+    office.run("office backups")
+    assert "05 could start" in office.run("office restore 05 --drill")
+
+
 @pytest.mark.slow
 def test_half_a_shard_moves_while_all_are_asked(office: Stand) -> None:
     everyone = list(map(str, range(FIRST, FIRST + COUNT)))
