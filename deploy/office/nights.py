@@ -95,12 +95,17 @@ def send(settings: Settings) -> list[str]:
 
 
 def drop(settings: Settings, place: pathlib.Path) -> list[str]:
-    """Removes the nights of a place that are older than the days; the last one stays."""
-    before = time.time() - settings.keeping.days * DAY
-    old = [night for night in list(nights(place))[:-1] if moment(night) < before]
-    for night in old:
+    """Removes the nights of a place that are older than the days; their names."""
+    gone = old(settings, place)
+    for night in gone:
         shutil.rmtree(night)
-    return [night.name for night in old]
+    return [night.name for night in gone]
+
+
+def old(settings: Settings, place: pathlib.Path) -> list[pathlib.Path]:
+    """The nights of a place that are older than the days; the last one isn't among them."""
+    before = time.time() - settings.keeping.days * DAY
+    return [night for night in list(nights(place))[:-1] if moment(night) < before]
 
 
 def nights(place: pathlib.Path) -> Iterator[pathlib.Path]:
@@ -128,11 +133,15 @@ def moment(night: pathlib.Path) -> float:
     return float(calendar.timegm(time.strptime(night.name, FORM)))
 
 
+def places(settings: Settings) -> list[str]:
+    """Where copies are kept: here, and elsewhere."""
+    return list(filter(None, (settings.keeping.copies, settings.keeping.elsewhere)))
+
+
 def ages(settings: Settings) -> dict[str, float | None]:
     """The age of the last night's copies in each place, in seconds; none where there are none."""
-    places = [settings.keeping.copies, settings.keeping.elsewhere]
     found: dict[str, float | None] = {}
-    for place in filter(None, places):
+    for place in places(settings):
         there = list(past(pathlib.Path(place)))
         found[place] = time.time() - moment(there[-1]) if there else None
     return found

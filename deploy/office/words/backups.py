@@ -30,8 +30,7 @@ def run(settings: Settings, arguments: argparse.Namespace) -> int:
     if arguments.age:
         return nights.report(settings)
     if arguments.dry_run:
-        print(f"{settings.keeping.copies} would get copies of all shards")
-        return 0
+        return plan(settings)
     with locks.held(settings, "backups.lock", "copies of the night are made already"):
         return made(settings)
 
@@ -39,12 +38,19 @@ def run(settings: Settings, arguments: argparse.Namespace) -> int:
 def made(settings: Settings) -> int:
     """Makes the night's copies, while nobody else does."""
     print(nights.make(settings), flush=True)
-    places = [settings.keeping.copies]
     if settings.keeping.elsewhere:
         for name in nights.send(settings):
             print(f"{settings.keeping.elsewhere}/{name}")
-        places.append(settings.keeping.elsewhere)
-    for place in places:
+    for place in nights.places(settings):
         for name in nights.drop(settings, pathlib.Path(place)):
             print(f"{place}/{name} dropped")
+    return 0
+
+
+def plan(settings: Settings) -> int:
+    """Says what would be done."""
+    for place in nights.places(settings):
+        print(f"{place} would get copies of all shards")
+        for night in nights.old(settings, pathlib.Path(place)):
+            print(f"{night} would be dropped")
     return 0

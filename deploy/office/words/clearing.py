@@ -10,6 +10,7 @@ from __future__ import annotations
 
 import argparse
 import pathlib
+import sys
 
 from office import disk, options, shards
 from office.client import Client
@@ -37,6 +38,8 @@ def run(settings: Settings, arguments: argparse.Namespace) -> int:
     if arguments.write and not arguments.dry_run:
         disk.write(pathlib.Path(settings.office.clearing), text)
     print(text, end="")
+    if arguments.dry_run:
+        print("clearing: none of them was opened, and nothing is written", file=sys.stderr)
     return 0
 
 

@@ -8,12 +8,14 @@ shard. The file that it writes is `groups` of `[diameter]`, whose name is in the
 configuration; `systemctl reload ocs-diameter` has them read it. Run it again with each later book,
 before the book begins.
 
-Prints a line a group: its number and its kind. The file is written where it changes."""
+Prints a line a group: its number and its kind. The file is written where it changes; standard error
+says so."""
 from __future__ import annotations
 
 import argparse
 import json
 import pathlib
+import sys
 
 from office import books, copies, disk, kinds, options, shards
 from office.settings import Settings
@@ -35,8 +37,11 @@ def run(settings: Settings, arguments: argparse.Namespace) -> int:
     text = json.dumps({str(group): kind for group, kind in made.items()}, indent=1) + "\n"
     for group, kind in made.items():
         print(group, kind)
-    if not arguments.dry_run and not (file.is_file() and file.read_text() == text):
+    is_same = file.is_file() and file.read_text() == text
+    if not is_same and not arguments.dry_run:
         disk.write(file, text)
+    becomes = "would be written" if arguments.dry_run else "written"
+    print(f"{file}: {'as before' if is_same else becomes}", file=sys.stderr)
     return 0
 
 

@@ -49,11 +49,13 @@ def test_kinds_of_groups(office: Office, units: dict[str, str], words: list[Any]
     told = office.office("diameter", *words, "--dry-run", env=units)
     assert told.returncode == 0, told.stderr
     assert set(PRINTED.splitlines()) <= set(told.stdout.splitlines()) and not file.exists()
-    assert office.office("diameter", *words, env=units).stdout == told.stdout
+    assert told.stderr == f"{file}: would be written\n"
+    done = office.office("diameter", *words, env=units)
+    assert (done.stdout, done.stderr) == (told.stdout, f"{file}: written\n")
     made = json.loads(file.read_text())
     assert {group: made[group] for group in KINDS} == KINDS
     before = file.stat().st_ino
-    office.office("diameter", *words, env=units)
+    assert office.office("diameter", *words, env=units).stderr == f"{file}: as before\n"
     assert file.stat().st_ino == before
 
 

@@ -49,6 +49,9 @@ def test_a_night_is_copied_sent_and_measured(office: Stand) -> None:
 
 def test_old_nights_go_and_the_last_one_stays(office: Stand) -> None:
     office.run("cd /var/lib/ocs/copies; cp -r 2* 20200101T000000Z; mkdir .20200102T000000Z.part")
+    plan = office.machine.run("office backups --dry-run").stdout
+    assert plan.count("would get copies") == 2
+    assert "/var/lib/ocs/copies/20200101T000000Z would be dropped" in plan
     time.sleep(1)
     told = office.machine.run("office backups").stdout
     assert "/var/lib/ocs/copies/20200101T000000Z dropped" in told

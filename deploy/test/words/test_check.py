@@ -4,6 +4,7 @@ from __future__ import annotations
 import re
 import time
 
+from support.callers import Caller
 from support.world import World
 
 
@@ -70,6 +71,13 @@ def test_status_of_a_shard_that_is_away(world: World) -> None:
         world.start(2)
         world.file.write_text(text)
         world.balance()
+
+
+def test_a_dry_run_of_clearing_opens_nothing(world: World, script: Caller) -> None:
+    told = world.office("clearing", "--write", "--dry-run")
+    assert told.returncode == 0 and "nothing is written" in told.stderr
+    account = told.stdout.split()[0]
+    assert "O2" in script.ask("GET", f"/accounts/{account}").text
 
 
 def test_status_says_that_a_shard_is_ahead(world: World) -> None:
