@@ -49,7 +49,7 @@ def test_a_dry_run_changes_nothing(office: Stand) -> None:
 
 
 def test_a_list_is_one_stop_a_shard(office: Stand) -> None:
-    those = [str(at) for at in range(49300, 49320)]
+    those = [str(at) for at in range(49300, 49308)]
     for account in those:
         office.open(account)
     office.machine.write("/tmp/list", "\n".join(those) + "\n")

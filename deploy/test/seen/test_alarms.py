@@ -4,6 +4,7 @@ from __future__ import annotations
 import pathlib
 import re
 
+import pytest
 from support.world import DEPLOY, done, ran
 
 ALARMS = DEPLOY / "alarms"
@@ -25,6 +26,7 @@ def test_each_alarm_is_on_and_off() -> None:
         assert re.search(rf"alertname: {name}, exp_alerts: \[\]", text), f"{name} is never off"
 
 
+@pytest.mark.slow
 def test_an_alarm_that_is_turned_round_is_found(tmp_path: pathlib.Path) -> None:
     rules = (ALARMS / "ocs.yml").read_text()
     (tmp_path / "test.yml").write_text((ALARMS / "test.yml").read_text())
