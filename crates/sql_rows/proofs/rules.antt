@@ -1,15 +1,22 @@
 -- Rows in their rules, as they are read and as they are stored.
 pub mod AccountRules
+pub mod AllowanceRules
 pub mod AnswerRules
 pub mod BookRules
 pub mod BucketRules
 pub mod BucketValues
 pub mod ChargeBlocks
 pub mod CounterRules
+pub mod CoveredRules
 pub mod FittingRows
+pub mod GrantBookRules
+pub mod HoldRules
 pub mod KeyRules
+pub mod ListRules
 pub mod MetaRules
 pub mod NextRules
+pub mod OpenRules
+pub mod OrderedRows
 pub mod PlainValues
 pub mod ReservedRules
 pub mod RowRules

@@ -7,14 +7,19 @@ use Rattle.units.specs.Words.{GroupId, BookNumber, latest_moment}
 use Rattle.identifiers.specs.Words.{SessionName, AccountName}
 use Rattle.identifiers.specs.Texts.{is_account_number, is_session_id}
 use Rattle.buckets.specs.Row.{BucketRow}
+use Rattle.buckets.specs.Words.{BucketAmount, BucketNumber}
+use Rattle.ledger.specs.Words.{ChargeNumber}
+use Rattle.reserving.specs.Sessions.{is_open}
 use Rattle.reserving.specs.declared.session.Counter.{Counter}
 use Rattle.reserving.specs.declared.session.Session.{Session}
 use Rattle.sql_tables.specs.Words.{TablesVersion}
-use Rattle.sql_rows.specs.Content.{TablesContent}
+use Rattle.sql_rows.specs.Content.{TableRows, TablesContent}
 use Rattle.sql_rows.specs.Lists.{BookAt, ReservedAt, has_reservation}
 use Rattle.sql_rows.specs.Texts.{meta_of}
 use Rattle.sql_rows.specs.Values.{BookRow, Kept, Meta}
+use Rattle.sql_rows.specs.declared.grant_book_rows.GrantBook.{GrantBook}
 use Rattle.sql_rows.specs.declared.head.HeadColumns.{HeadColumns}
+use Rattle.sql_rows.specs.declared.hold_rows.HeldColumns.{HeldColumns}
 use Rattle.sql_rows.specs.declared.meta_rows.MetaColumns.{MetaColumns}
 use Rattle.sql_rows.specs.declared.voucher_rows.VoucherColumns.{VoucherColumns}
 
@@ -89,6 +94,11 @@ pub record IsRuledSession (x : Session) : Type 0 where
   pub last_number : x.last_number < 2 ^ 32
   pub touched : x.touched ≤ latest_moment
 
+-- each session that is open is in the rules
+abbrev pub AreRuledOpen : TableRows → Type 0
+AreRuledOpen rows = (s : SessionName) (x : Session) → rows.sessions s ≡ Some x
+    → IsTrue (is_open x.state) → IsRuledSession x
+
 -- a bucket: its number and the rating group that it pays for are below 2^32, and its moments are in
 -- the range of moments
 pub record IsRuledBucket (b : BucketRow) : Type 0 where
@@ -113,3 +123,31 @@ pub record IsRuledVoucher (x : VoucherColumns) : Type 0 where
 pub record IsRuledKept (k : Kept) : Type 0 where
   pub content : IsUtf8 k.content
   pub answer : IsUtf8 k.answer
+
+-- the book of a reservation: its rating group and the book's number are below 2^32
+pub record IsRuledGrantBook (x : GrantBook) : Type 0 where
+  pub group : x.group < 2 ^ 32
+  pub book : x.book < 2 ^ 32
+
+-- each book of a reservation of the session is in the rules
+abbrev pub AreRuledGrantBooks : TableRows → SessionName → Type 0
+AreRuledGrantBooks rows s = (g : GroupId) (n : BookNumber) → rows.grant_books s g ≡ Some n
+    → IsRuledGrantBook (record { group = g; book = n })
+
+-- what a reservation holds: its rating group and its bucket's number are below 2^32
+pub record IsRuledHold (x : HeldColumns) : Type 0 where
+  pub group : x.group < 2 ^ 32
+  pub bucket : x.bucket < 2 ^ 32
+
+-- all that is held for the session is in the rules
+abbrev pub AreRuledHolds : TableRows → SessionName → Type 0
+AreRuledHolds rows s = (g : GroupId) (n : BucketNumber) (m : BucketAmount)
+    → rows.holds s g n ≡ Some m → IsRuledHold (record { group = g; bucket = n; amount = m })
+
+-- the number of each bucket that counts blocks is below 2^32
+abbrev pub AreRuledAllowances : TableRows → Type 0
+AreRuledAllowances rows = (n : BucketNumber) → IsTrue (rows.allowances n) → n < 2 ^ 32
+
+-- the blocks of a charge that were covered: its number is below 2^32
+abbrev pub AreRuledCovered : TableRows → Type 0
+AreRuledCovered rows = (n : ChargeNumber) → IsTrue (is_some (rows.covered n)) → n < 2 ^ 32

@@ -1,12 +1,16 @@
 //! Rows that say which buckets count blocks.
 
-ghost use Rattle.std.specs.Prelude.{◌≡◌, map, nat_lt, IfOk};
+ghost use Rattle.std.specs.Prelude.{◌≡◌, ◌<◌, ◌^◌, map, nat_lt, List, IfErr, IfOk, MatchResult};
+ghost use Rattle.std.specs.List.{AllByRecursion};
+ghost use Rattle.buckets.specs.Words.{BucketNumber};
 ghost use Rattle.sql_rows.specs.Content.{rows_in, with_allowance, with_rows, without_allowance};
 ghost use Rattle.sql_rows.specs.Lists.{AreAllowances, Ascends};
 ghost use Rattle.sql_rows.specs.Values.{number_cells};
 ghost use Rattle.sql_rows.specs.Makes.{Makes};
+ghost use Rattle.sql_rows.specs.Ruled.{AreRuledAllowances};
 ghost use Rattle.sql_tables.specs.Statements.{AttemptsOver, HasTables, HasIdleTables, Reads};
 ghost use Rattle.sqlite.specs.Held.{state};
+ghost use Rattle.sqlite.specs.State.{HasCleanDisk};
 
 use crate::ascending::{InOrder, do_ascend};
 use crate::running::run;
@@ -73,8 +77,8 @@ impl InOrder for u32 {
 /// The numbers of an account's buckets that count blocks, in order, each once.
 ///
 /// # Errors
-/// `Store` where the store failed, `Rules` where a row is out of its rules or the numbers don't
-/// rise, `Memory` where a growth was refused. Nothing is changed then either.
+/// `Store` where the store failed, `Rules` only where a row is out of its rules, `Memory` where a
+/// growth was refused. Nothing is changed then either.
 pub fn read_allowances<S: Alter>(
     conn: &mut Connection<S>,
     alloc: Global,
@@ -84,6 +88,10 @@ pub fn read_allowances<S: Alter>(
     ensures reads { Reads (λ trees xs. AreAllowances (rows_in trees account.now) xs.items)
         (state S.Store conn.old) (state S.Store conn.new) result }
     ensures order { IfOk result (λ xs. Ascends nat_lt xs.items) }
+    // Rows that are in the rules are answered.
+    ensures refused { HasCleanDisk (state S.Store conn.new) → IfErr result (λ e.
+        e ≡ ReadFault.Rules →
+        ¬ AreRuledAllowances (rows_in (state S.Store conn.old).now.trees account.now)) }
 {
     let rows = read(
         conn,
@@ -97,6 +105,9 @@ pub fn read_allowances<S: Alter>(
 fn numbers_from(alloc: Global, rows: &[Row]) -> Result<Vec<u32>, ReadFault>
     ensures cells { IfOk result (λ xs. map number_cells xs.items ≡ rows.now) }
     ensures order { IfOk result (λ xs. Ascends nat_lt xs.items) }
+    ensures refused { IfErr result (λ e. e ≡ ReadFault.Rules → (xs : List BucketNumber) →
+        rows.now ≡ map number_cells xs → Ascends nat_lt xs →
+        ¬ AllByRecursion (λ n. n < 2 ^ 32) xs) }
 {
     let mut numbers = Vec::new(alloc);
     'rows: for row in rows {
@@ -109,8 +120,11 @@ fn numbers_from(alloc: Global, rows: &[Row]) -> Result<Vec<u32>, ReadFault>
     Ok(numbers)
 }
 
+// rule: statements-of-tables.refused
 fn number_from(row: &Row) -> Result<u32, ReadFault>
-    ensures { IfOk result (λ n. row.now ≡ number_cells n) }
+    ensures { MatchResult result (λ n. row.now ≡ number_cells n)
+        (λ e. e ≡ ReadFault.Rules → (n : BucketNumber) → row.now ≡ number_cells n →
+        ¬ (n < 2 ^ 32)) }
 {
     has_columns(row, 1)?;
     let number = small_at(row, 0)?;

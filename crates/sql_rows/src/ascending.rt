@@ -15,7 +15,8 @@ pub(crate) trait InOrder {
 
 /// Whether each row is before the next.
 pub(crate) fn do_ascend<T: InOrder>(rows: &[T]) -> bool
-    ensures { IsTrue result → Ascends T.before rows.now }
+    ensures ascend { IsTrue result → Ascends T.before rows.now }
+    ensures fall { Ascends T.before rows.now → IsTrue result }
 {
     let mut last: Option<&T> = None;
     'rows: for row in rows {

@@ -1,12 +1,15 @@
 //! Rows of covered blocks.
 
-ghost use Rattle.std.specs.Prelude.{◌≡◌, map, IfOk};
+ghost use Rattle.std.specs.Prelude.{◌≡◌, ◌<◌, ◌^◌, map, List, IfErr, IfOk, MatchResult};
+ghost use Rattle.std.specs.List.{AllByRecursion};
 ghost use Rattle.sql_rows.specs.Content.{rows_in, with_covered, with_rows, without_covered};
 ghost use Rattle.sql_rows.specs.Lists.{AreCovered, Ascends, covered_before};
 ghost use Rattle.sql_rows.specs.Values.{covered_cells};
 ghost use Rattle.sql_rows.specs.Makes.{Makes};
+ghost use Rattle.sql_rows.specs.Ruled.{AreRuledCovered};
 ghost use Rattle.sql_tables.specs.Statements.{HasTables, HasIdleTables, Reads, AttemptsOver};
 ghost use Rattle.sqlite.specs.Held.{state};
+ghost use Rattle.sqlite.specs.State.{HasCleanDisk};
 
 use crate::ascending::{InOrder, do_ascend};
 use crate::running::run;
@@ -88,8 +91,8 @@ impl InOrder for CoveredColumns {
 /// their numbers, each once.
 ///
 /// # Errors
-/// `Store` where the store failed, `Rules` where a row is out of its rules or the numbers don't
-/// rise, `Memory` where a growth was refused. Nothing is changed then either.
+/// `Store` where the store failed, `Rules` only where a row is out of its rules, `Memory` where a
+/// growth was refused. Nothing is changed then either.
 // rule: block-rows
 pub fn read_covered_within<S: Alter>(
     conn: &mut Connection<S>,
@@ -103,6 +106,10 @@ pub fn read_covered_within<S: Alter>(
         AreCovered after last (rows_in trees account.now) xs.items)
         (state S.Store conn.old) (state S.Store conn.new) result }
     ensures order { IfOk result (λ xs. Ascends covered_before xs.items) }
+    // Rows that are in the rules are answered.
+    ensures refused { HasCleanDisk (state S.Store conn.new) → IfErr result (λ e.
+        e ≡ ReadFault.Rules →
+        ¬ AreRuledCovered (rows_in (state S.Store conn.old).now.trees account.now)) }
 {
     let of_account = text(account.as_str());
     let beyond = whole(after);
@@ -119,6 +126,9 @@ pub fn read_covered_within<S: Alter>(
 fn covered_rows_from(alloc: Global, rows: &[Row]) -> Result<Vec<CoveredColumns>, ReadFault>
     ensures cells { IfOk result (λ xs. map covered_cells xs.items ≡ rows.now) }
     ensures order { IfOk result (λ xs. Ascends covered_before xs.items) }
+    ensures refused { IfErr result (λ e. e ≡ ReadFault.Rules → (xs : List CoveredColumns) →
+        rows.now ≡ map covered_cells xs → Ascends covered_before xs →
+        ¬ AllByRecursion (λ x. x.number < 2 ^ 32) xs) }
 {
     let mut covered = Vec::new(alloc);
     'rows: for row in rows {
@@ -131,8 +141,11 @@ fn covered_rows_from(alloc: Global, rows: &[Row]) -> Result<Vec<CoveredColumns>,
     Ok(covered)
 }
 
+// rule: statements-of-tables.refused
 fn covered_from(row: &Row) -> Result<CoveredColumns, ReadFault>
-    ensures { IfOk result (λ x. row.now ≡ covered_cells x) }
+    ensures { MatchResult result (λ x. row.now ≡ covered_cells x)
+        (λ e. e ≡ ReadFault.Rules → (x : CoveredColumns) → row.now ≡ covered_cells x →
+        ¬ (x.number < 2 ^ 32)) }
 {
     has_columns(row, 2)?;
     let number = small_at(row, 0)?;

@@ -1,11 +1,14 @@
 //! Rows of the books of reservations.
 
-ghost use Rattle.std.specs.Prelude.{◌≡◌, map, IfOk};
+ghost use Rattle.std.specs.Prelude.{◌≡◌, map, List, IfErr, IfOk, MatchResult};
+ghost use Rattle.std.specs.List.{AllByRecursion};
 ghost use Rattle.sql_rows.specs.Content.{rows_in, with_grant_book, with_rows, without_grant_book};
 ghost use Rattle.sql_rows.specs.Lists.{AreGrantBooks, Ascends, grant_book_before, grant_book_cells};
 ghost use Rattle.sql_rows.specs.Makes.{Makes};
+ghost use Rattle.sql_rows.specs.Ruled.{AreRuledGrantBooks, IsRuledGrantBook};
 ghost use Rattle.sql_tables.specs.Statements.{HasTables, HasIdleTables, Reads, AttemptsOver};
 ghost use Rattle.sqlite.specs.Held.{state};
+ghost use Rattle.sqlite.specs.State.{HasCleanDisk};
 
 use crate::ascending::{InOrder, do_ascend};
 use crate::running::run;
@@ -90,8 +93,8 @@ impl InOrder for GrantBook {
 /// The books of a session's reservations, in the order of their rating groups, each once.
 ///
 /// # Errors
-/// `Store` where the store failed, `Rules` where a row is out of its rules or the groups don't
-/// rise, `Memory` where a growth was refused. Nothing is changed then either.
+/// `Store` where the store failed, `Rules` only where a row is out of its rules, `Memory` where a
+/// growth was refused. Nothing is changed then either.
 // rule: book-rows
 pub fn read_grant_books<S: Alter>(
     conn: &mut Connection<S>,
@@ -104,6 +107,10 @@ pub fn read_grant_books<S: Alter>(
         AreGrantBooks (rows_in trees account.now) session.now xs.items)
         (state S.Store conn.old) (state S.Store conn.new) result }
     ensures order { IfOk result (λ xs. Ascends grant_book_before xs.items) }
+    // Rows that are in the rules are answered.
+    ensures refused { HasCleanDisk (state S.Store conn.new) → IfErr result (λ e.
+        e ≡ ReadFault.Rules → ¬ AreRuledGrantBooks
+        (rows_in (state S.Store conn.old).now.trees account.now) session.now) }
 {
     let rows = read(
         conn,
@@ -117,6 +124,9 @@ pub fn read_grant_books<S: Alter>(
 fn grant_books_from(alloc: Global, rows: &[Row]) -> Result<Vec<GrantBook>, ReadFault>
     ensures cells { IfOk result (λ xs. map grant_book_cells xs.items ≡ rows.now) }
     ensures order { IfOk result (λ xs. Ascends grant_book_before xs.items) }
+    ensures refused { IfErr result (λ e. e ≡ ReadFault.Rules → (xs : List GrantBook) →
+        rows.now ≡ map grant_book_cells xs → Ascends grant_book_before xs →
+        ¬ AllByRecursion IsRuledGrantBook xs) }
 {
     let mut books = Vec::new(alloc);
     'rows: for row in rows {
@@ -129,8 +139,11 @@ fn grant_books_from(alloc: Global, rows: &[Row]) -> Result<Vec<GrantBook>, ReadF
     Ok(books)
 }
 
+// rule: statements-of-tables.refused
 fn grant_book_from(row: &Row) -> Result<GrantBook, ReadFault>
-    ensures { IfOk result (λ x. row.now ≡ grant_book_cells x) }
+    ensures { MatchResult result (λ x. row.now ≡ grant_book_cells x)
+        (λ e. e ≡ ReadFault.Rules → (x : GrantBook) → row.now ≡ grant_book_cells x →
+        ¬ IsRuledGrantBook x) }
 {
     has_columns(row, 2)?;
     let group = small_at(row, 0)?;

@@ -1,13 +1,16 @@
 //! Rows of holds.
 
-ghost use Rattle.std.specs.Prelude.{◌≡◌, map, IfOk};
+ghost use Rattle.std.specs.Prelude.{◌≡◌, map, List, IfErr, IfOk, MatchResult};
+ghost use Rattle.std.specs.List.{AllByRecursion};
 ghost use Rattle.sql_rows.specs.Content.{rows_in, with_hold_row, with_rows, without_holds};
 ghost use Rattle.sql_rows.specs.Each.{with_holds};
 ghost use Rattle.sql_rows.specs.Lists.{AreHolds, Ascends, hold_before, hold_cells};
 ghost use Rattle.sql_rows.specs.Makes.{Makes, MakesIfOpen};
+ghost use Rattle.sql_rows.specs.Ruled.{AreRuledHolds, IsRuledHold};
 ghost use Rattle.sql_tables.specs.Statements.{HasTables, HasIdleTables, IsInside, Reads};
 ghost use Rattle.sql_tables.specs.Statements.{AttemptsOver};
 ghost use Rattle.sqlite.specs.Held.{state};
+ghost use Rattle.sqlite.specs.State.{HasCleanDisk};
 
 use crate::ascending::{InOrder, do_ascend};
 use crate::running::run;
@@ -96,8 +99,8 @@ pub fn remove_holds<S: Alter>(
 /// What is held for a session, in the order of rating groups and of each one's buckets, each once.
 ///
 /// # Errors
-/// `Store` where the store failed, `Rules` where a row is out of its rules or the keys don't rise,
-/// `Memory` where a growth was refused. Nothing is changed then either.
+/// `Store` where the store failed, `Rules` only where a row is out of its rules, `Memory` where a
+/// growth was refused. Nothing is changed then either.
 // rule: statements-of-tables.with-session-row
 pub fn read_holds<S: Alter>(
     conn: &mut Connection<S>,
@@ -110,6 +113,10 @@ pub fn read_holds<S: Alter>(
         AreHolds (rows_in trees account.now) session.now xs.items)
         (state S.Store conn.old) (state S.Store conn.new) result }
     ensures order { IfOk result (λ xs. Ascends hold_before xs.items) }
+    // Rows that are in the rules are answered.
+    ensures refused { HasCleanDisk (state S.Store conn.new) → IfErr result (λ e.
+        e ≡ ReadFault.Rules →
+        ¬ AreRuledHolds (rows_in (state S.Store conn.old).now.trees account.now) session.now) }
 {
     let rows = read(
         conn,
@@ -123,6 +130,9 @@ pub fn read_holds<S: Alter>(
 fn helds_from(alloc: Global, rows: &[Row]) -> Result<Vec<HeldColumns>, ReadFault>
     ensures cells { IfOk result (λ xs. map hold_cells xs.items ≡ rows.now) }
     ensures order { IfOk result (λ xs. Ascends hold_before xs.items) }
+    ensures refused { IfErr result (λ e. e ≡ ReadFault.Rules → (xs : List HeldColumns) →
+        rows.now ≡ map hold_cells xs → Ascends hold_before xs →
+        ¬ AllByRecursion IsRuledHold xs) }
 {
     let mut helds = Vec::new(alloc);
     'rows: for row in rows {
@@ -135,8 +145,11 @@ fn helds_from(alloc: Global, rows: &[Row]) -> Result<Vec<HeldColumns>, ReadFault
     Ok(helds)
 }
 
+// rule: statements-of-tables.refused
 fn held_from(row: &Row) -> Result<HeldColumns, ReadFault>
-    ensures { IfOk result (λ h. row.now ≡ hold_cells h) }
+    ensures { MatchResult result (λ h. row.now ≡ hold_cells h)
+        (λ e. e ≡ ReadFault.Rules → (h : HeldColumns) → row.now ≡ hold_cells h →
+        ¬ IsRuledHold h) }
 {
     has_columns(row, 3)?;
     let group = small_at(row, 0)?;

@@ -1,6 +1,7 @@
 //! Rows of sessions.
 
-ghost use Rattle.std.specs.Prelude.{◌≡◌, map, None, IfErr, IfOk, IfSome, MatchResult, Option};
+ghost use Rattle.std.specs.Prelude.{◌≡◌, map, None, IfErr, IfOk, IfSome, List, MatchResult, Option};
+ghost use Rattle.std.specs.List.{AllByRecursion};
 ghost use Rattle.sql_rows.specs.Content.{has_session, rows_in, with_rows, with_session_row};
 ghost use Rattle.sql_rows.specs.Values.{session_cells, session_values, state_number};
 ghost use Rattle.sql_rows.specs.Lists.{AreSessions, Ascends, HasNoGroups};
@@ -8,7 +9,7 @@ ghost use Rattle.reserving.specs.Sessions.{is_open, session_before};
 ghost use Rattle.sql_rows.specs.Each.{with_sessions};
 ghost use Rattle.sql_rows.specs.Makes.{Adds, Makes, MakesIfOpen};
 ghost use Rattle.sql_rows.specs.Plain.{ArePlain};
-ghost use Rattle.sql_rows.specs.Ruled.{IsRuledSession};
+ghost use Rattle.sql_rows.specs.Ruled.{AreRuledOpen, IsRuledSession};
 ghost use Rattle.sql_tables.specs.Statements.{HasTables, HasIdleTables, HasRules, IsInside};
 ghost use Rattle.sql_tables.specs.Statements.{Reads, ReadsWithin, AttemptsOver};
 ghost use Rattle.sql_tables.specs.Selects.{one_or_none};
@@ -164,9 +165,11 @@ fn session_among(alloc: Global, rows: &[Row]) -> Result<Option<Session>, ReadFau
     }
 }
 
+// rule: statements-of-tables.refused
 fn session_from(alloc: Global, row: &Row) -> Result<Session, ReadFault>
     ensures { MatchResult result (λ s. row.now ≡ session_cells s)
-        (λ e. e ≡ ReadFault.Rules → (s : Session) → row.now ≡ session_cells s → ¬ IsRuledSession s) }
+        (λ e. e ≡ ReadFault.Rules → (s : Session) → row.now ≡ session_cells s →
+        ¬ IsRuledSession s) }
 {
     has_columns(row, 4)?;
     let id = session_at(alloc, row, 0)?;
@@ -185,8 +188,8 @@ fn session_from(alloc: Global, row: &Row) -> Result<Session, ReadFault>
 /// without its past ones.
 ///
 /// # Errors
-/// `Store` where the store failed, `Rules` where a row is out of its rules or the names don't rise,
-/// `Memory` where a growth was refused. Nothing is changed then either.
+/// `Store` where the store failed, `Rules` only where a row is out of its rules, `Memory` where a
+/// growth was refused. Nothing is changed then either.
 pub fn read_sessions_open<S: Alter>(
     conn: &mut Connection<S>,
     alloc: Global,
@@ -197,6 +200,10 @@ pub fn read_sessions_open<S: Alter>(
         AreSessions (λ x. is_open x.state) (rows_in trees account.now) xs.items)
         (state S.Store conn.old) (state S.Store conn.new) result }
     ensures order { IfOk result (λ xs. Ascends session_before xs.items) }
+    // Rows that are in the rules are answered.
+    ensures refused { HasCleanDisk (state S.Store conn.new) → IfErr result (λ e.
+        e ≡ ReadFault.Rules →
+        ¬ AreRuledOpen (rows_in (state S.Store conn.old).now.trees account.now)) }
 {
     let rows = read(
         conn,
@@ -224,6 +231,10 @@ pub fn read_sessions_open_within<S: Alter>(
         AreSessions (λ x. is_open x.state) (rows_in trees account.now) xs.items)
         (state S.Store tx.old.conn.now) (state S.Store tx.new.conn.now) result }
     ensures order { IfOk result (λ xs. Ascends session_before xs.items) }
+    // Rows that are in the rules are answered.
+    ensures refused { HasCleanDisk (state S.Store tx.new.conn.now) → IfErr result (λ e.
+        e ≡ ReadFault.Rules →
+        ¬ AreRuledOpen (rows_in (state S.Store tx.old.conn.now).now.trees account.now)) }
 {
     let rows = read_within(
         tx,
@@ -238,6 +249,9 @@ pub fn read_sessions_open_within<S: Alter>(
 fn sessions_from(alloc: Global, rows: &[Row]) -> Result<Vec<Session>, ReadFault>
     ensures cells { IfOk result (λ xs. map session_cells xs.items ≡ rows.now) }
     ensures order { IfOk result (λ xs. Ascends session_before xs.items) }
+    ensures refused { IfErr result (λ e. e ≡ ReadFault.Rules → (xs : List Session) →
+        rows.now ≡ map session_cells xs → Ascends session_before xs →
+        ¬ AllByRecursion IsRuledSession xs) }
 {
     let mut sessions = Vec::new(alloc);
     'rows: for row in rows {

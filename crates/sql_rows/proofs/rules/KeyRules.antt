@@ -58,6 +58,17 @@ refused_as P Q R sql held params old new rows slice r answers is same made tells
     (subst (λ l. Answers sql params old new l) (sym same)
     (subst (λ w. Answers sql w old new rows) is (answers clean))) said) made
 
+-- the same of a clause on errors alone
+pub refused_by : {V E : Type 0} (Q R : E → Type 0)
+    (sql : List ℕ) (held params : Row) (old new : State) (rows slice : List Row) (r : Result V E)
+    → (HasCleanDisk new → Answers sql held old new rows) → held ≡ params → slice ≡ rows
+    → IfErr r Q
+    → ((e : E) → Answers sql params old new slice → Q e → R e) → HasCleanDisk new → IfErr r R
+refused_by Q R sql held params old new rows slice (Ok x) answers is same made tells clean = tt
+refused_by Q R sql held params old new rows slice (Err e) answers is same made tells clean =
+    tells e (subst (λ l. Answers sql params old new l) (sym same)
+    (subst (λ w. Answers sql w old new rows) is (answers clean))) made
+
 module _ (table : Table) (tabled : Has our_schema.tables table)
     (listed : Has our_schema.indexes (key_index table)) (guarding : guards (key_index table) table
     ≡ true) (trees : Trees) (fits : Fits our_schema trees)
@@ -65,6 +76,7 @@ module _ (table : Table) (tabled : Has our_schema.tables table)
     (full : AllByRecursion (λ v. is_null v ≡ false) key) {X : Type 0} (of : Row → X)
     (cells : X → Row) (columns : Row → Row) where
   -- none, or one row that is in the order of its columns
+  -- rule: statements-of-tables.refused
   pub one_there : ((r : Row) → Has (trees table.tree) r → look table trees key ≡ Some (drop 1 r)
       → columns r ≡ cells (of (drop 1 r))) → (out : List Row)
       → Selects (λ r. eq_by_cmp row_cmp (key_of table.primary r) key) columns (trees table.tree) out

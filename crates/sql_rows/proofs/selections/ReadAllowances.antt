@@ -29,16 +29,16 @@ use Rattle.sql_rows.specs.Values.{nat, bucket_key, allowance_in, number_cells}
 use Rattle.sql_rows.specs.Content.{rows_in}
 use Rattle.sql_rows.specs.Lists.{AreAllowances}
 
-abbrev project : List Term
+abbrev pub project : List Term
 project = col 1 2 ∷ []
 
-abbrev names : List (List ℕ)
+abbrev pub names : List (List ℕ)
 names = codes "number" ∷ []
 
-abbrev columns : Row → Row
+abbrev pub columns : Row → Row
 columns r = column r 2 ∷ []
 
-same_columns : (r : Row) → allowance_in (drop 1 r) ≡ allowance_in (Null ∷ columns r)
+pub same_columns : (r : Row) → allowance_in (drop 1 r) ≡ allowance_in (Null ∷ columns r)
 same_columns [] = refl
 same_columns (v ∷ vs) = refl
 
@@ -49,13 +49,13 @@ abbrev pub read_allowances_text : List ℕ
 read_allowances_text =
     codes "SELECT number FROM allowance_buckets WHERE account = ?1 ORDER BY number"
 
-abbrev of_account : List Term
+abbrev pub of_account : List Term
 of_account = op2 (Compare Eq Binary) (col 1 1) (col 0 0) ∷ []
 
-abbrev order : List (Term × Key)
+abbrev pub order : List (Term × Key)
 order = (col 1 2, record { collation = Binary; descending = false }) ∷ []
 
-text_is : (command_of (understood our_schema read_allowances_text)
+pub text_is : (command_of (understood our_schema read_allowances_text)
     ≡ Select (record { lets = []; body = select_from 27 of_account project order }) names) ×
     (reads_listing our_schema read_allowances_text ≡ false)
 unfolding understood everything
@@ -66,13 +66,13 @@ unfolding understood everything
 read_allowances_plain = (refl, refl)
 
 module _ (a : List ℕ) where
-  abbrev front : Row → Bool
+  abbrev pub front : Row → Bool
   front r = equal Binary (column r 1) (Text a)
 
-  abbrev rest : ℕ → Row → Bool
+  abbrev pub rest : ℕ → Row → Bool
   rest n r = is_eq (value_cmp (nat n) (column r 2))
 
-  splits : (n : ℕ) (r : Row) → meets (1 ∷ 2 ∷ []) (bucket_key a n) r ≡ (front r && rest n r)
+  pub splits : (n : ℕ) (r : Row) → meets (1 ∷ 2 ∷ []) (bucket_key a n) r ≡ (front r && rest n r)
   splits n r =
       keys_split (Text a) (column r 1) (nat n ∷ []) (column r 2 ∷ [])
       ∙ ap₂ ◌&&◌ (sym (equal_turned (column r 1) (Text a) refl))
@@ -81,6 +81,14 @@ module _ (a : List ℕ) where
   wanted : (n x : ℕ) (r : Row) → number_cells x ≡ columns r → rest n r ≡ nat_eq x n
   wanted n x r is =
       ap (λ (w : Row). is_eq (value_cmp (nat n) (column w 0))) (sym is) ∙ int_tie x n
+
+  pub allowances_selected : (old new : State) (rows : List Row)
+      → Answers read_allowances_text (Text a ∷ []) old new rows
+      → Selects (λ r. front r && true) columns (old.now.trees 27) rows
+  allowances_selected old new rows got =
+      told read_allowances_text names 27 of_account project order text_is
+      read_allowances_plain (Text a ∷ [])
+      (λ r. front r && true) columns (λ r. refl) (λ r. refl) old new rows got
 
   pub allowances_read : (old new : State) (rows : List Row) (xs : List ℕ)
       → Answers read_allowances_text (Text a ∷ []) old new rows
@@ -96,7 +104,5 @@ module _ (a : List ℕ) where
       (λ x r m. back x r) (λ x. nat_eq x n) (λ x. true) front (rest n)
       (λ r. true) (λ r. refl) (splits n) (wanted n) (λ r m h. refl) (λ x r e same. refl) xs
       (subst (Selects (λ r. front r && true) columns (old.now.trees 27)) (sym is)
-      (told read_allowances_text names 27 of_account project order text_is
-      read_allowances_plain (Text a ∷ [])
-      (λ r. front r && true) columns (λ r. refl) (λ r. refl) old new rows got))
+      (allowances_selected old new rows got))
       ∙ only_all _)

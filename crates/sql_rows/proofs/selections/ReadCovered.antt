@@ -38,20 +38,20 @@ use Rattle.sql_rows.specs.Lists.{AreCovered}
 use Rattle.sql_rows.proofs.queries.Ranges.{is_beyond, is_up_to, lies_within, within_told}
 use Rattle.sql_rows.proofs.queries.Ranges.{tied_within}
 
-abbrev project : List Term
+abbrev pub project : List Term
 project = col 1 2 ∷ col 1 3 ∷ []
 
-abbrev names : List (List ℕ)
+abbrev pub names : List (List ℕ)
 names = codes "number" ∷ codes "blocks" ∷ []
 
-abbrev columns : Row → Row
+abbrev pub columns : Row → Row
 columns r = column r 2 ∷ column r 3 ∷ []
 
 -- a stored row as one of the list
-abbrev at_in : Row → CoveredColumns
+abbrev pub at_in : Row → CoveredColumns
 at_in v = record { number = nat_in (column v 1); blocks = covered_in_row v }
 
-same_columns : (r : Row) → at_in (drop 1 r) ≡ at_in (Null ∷ columns r)
+pub same_columns : (r : Row) → at_in (drop 1 r) ≡ at_in (Null ∷ columns r)
 same_columns [] = refl
 same_columns (v ∷ vs) = refl
 
@@ -69,16 +69,16 @@ read_covered_text =
     codes "SELECT number, blocks "
     ++ codes "FROM covered WHERE account = ?1 AND number > ?2 AND number <= ?3 ORDER BY number"
 
-abbrev covered_terms : List Term
+abbrev pub covered_terms : List Term
 covered_terms =
     op2 (Compare Eq Binary) (col 1 1) (col 0 0)
     ∷ op2 (Compare Gt Binary) (col 1 2) (col 0 1)
     ∷ op2 (Compare Le Binary) (col 1 2) (col 0 2) ∷ []
 
-abbrev order : List (Term × Key)
+abbrev pub order : List (Term × Key)
 order = (col 1 2, record { collation = Binary; descending = false }) ∷ []
 
-text_is : (command_of (understood our_schema read_covered_text)
+pub text_is : (command_of (understood our_schema read_covered_text)
     ≡ Select (record { lets = []; body = select_from 29 covered_terms project order }) names) ×
     (reads_listing our_schema read_covered_text ≡ false)
 unfolding understood everything
@@ -89,16 +89,16 @@ unfolding understood everything
 read_covered_plain = (refl, refl)
 
 module _ (a : List ℕ) (after last : ℕ) where
-  abbrev front : Row → Bool
+  abbrev pub front : Row → Bool
   front r = equal Binary (column r 1) (Text a)
 
-  abbrev rest : ℕ → Row → Bool
+  abbrev pub rest : ℕ → Row → Bool
   rest n r = is_eq (value_cmp (nat n) (column r 2))
 
-  abbrev extra : Row → Bool
+  abbrev pub extra : Row → Bool
   extra r = lies_within after last (column r 2)
 
-  splits : (n : ℕ) (r : Row) → meets (1 ∷ 2 ∷ []) (charge_key a n) r ≡ (front r && rest n r)
+  pub splits : (n : ℕ) (r : Row) → meets (1 ∷ 2 ∷ []) (charge_key a n) r ≡ (front r && rest n r)
   splits n r =
       keys_split (Text a) (column r 1) (nat n ∷ []) (column r 2 ∷ [])
       ∙ ap₂ ◌&&◌ (sym (equal_turned (column r 1) (Text a) refl))
@@ -146,6 +146,17 @@ module _ (a : List ℕ) (after last : ℕ) where
           subst (λ m. is_in m ≡ true) same (lies_told x it.0 both.1 it.3) in
           absurd (let no : true ≡ false = sym inside ∙ other in cc)
 
+  pub covered_selected : (old new : State) (rows : List Row)
+      → Answers read_covered_text (Text a ∷ nat after ∷ nat last ∷ []) old new rows
+      → Selects (λ r. front r && extra r) columns (old.now.trees 29) rows
+  covered_selected old new rows got =
+      told read_covered_text names 29 covered_terms project order text_is
+      read_covered_plain (Text a ∷ nat after ∷ nat last ∷ [])
+      (λ r. front r && extra r) columns
+      (λ r. ap (λ t. front r && t)
+      (and_last (is_beyond (column r 2) (nat after)) (is_up_to (column r 2) (nat last))))
+      (λ r. refl) old new rows got
+
   -- rule: block-rows
   pub covered_read : (old new : State) (rows : List Row) (xs : List CoveredColumns) →
       Answers read_covered_text (Text a ∷ nat after ∷ nat last ∷ []) old new rows
@@ -158,12 +169,7 @@ module _ (a : List ℕ) (after last : ℕ) where
     where
       selects : AreSelected (old.now.trees 29) xs
       selects = subst (Selects (λ r. front r && extra r) columns (old.now.trees 29)) (sym is)
-          (told read_covered_text names 29 covered_terms project order text_is
-          read_covered_plain (Text a ∷ nat after ∷ nat last ∷ [])
-          (λ r. front r && extra r) columns
-          (λ r. ap (λ t. front r && t)
-          (and_last (is_beyond (column r 2) (nat after)) (is_up_to (column r 2) (nat last))))
-          (λ r. refl) old new rows got)
+          (covered_selected old new rows got)
 
       at : is_in n ≡ true → find (λ x. nat_eq x.number n) xs
           ≡ option_map at_in (look covered old.now.trees (charge_key a n))

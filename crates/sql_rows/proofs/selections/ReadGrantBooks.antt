@@ -29,19 +29,19 @@ use Rattle.sql_rows.proofs.queries.OfSession.{of_session, by_group, is_of_sessio
 use Rattle.sql_rows.proofs.queries.OfSession.{splits}
 
 -- a stored row as one of the list
-abbrev at_in : Row → GrantBook
+abbrev pub at_in : Row → GrantBook
 at_in v = record { group = nat_in (column v 2); book = grant_book_in v }
 
-abbrev project : List Term
+abbrev pub project : List Term
 project = col 1 3 ∷ col 1 4 ∷ []
 
-abbrev names : List (List ℕ)
+abbrev pub names : List (List ℕ)
 names = codes "rating_group" ∷ codes "book" ∷ []
 
-abbrev columns : Row → Row
+abbrev pub columns : Row → Row
 columns r = column r 3 ∷ column r 4 ∷ []
 
-same_columns : (r : Row) → at_in (drop 1 r) ≡ at_in (Null ∷ Null ∷ columns r)
+pub same_columns : (r : Row) → at_in (drop 1 r) ≡ at_in (Null ∷ Null ∷ columns r)
 same_columns [] = refl
 same_columns (v ∷ vs) = refl
 
@@ -53,7 +53,7 @@ read_grant_books_text =
     codes "SELECT rating_group, book FROM grant_books WHERE account = ?1 AND session = ?2 "
     ++ codes "ORDER BY rating_group"
 
-text_is : (command_of (understood our_schema read_grant_books_text)
+pub text_is : (command_of (understood our_schema read_grant_books_text)
     ≡ Select (record { lets = []; body = select_from 24 of_session project by_group }) names) ×
     (reads_listing our_schema read_grant_books_text ≡ false)
 unfolding understood everything
@@ -74,6 +74,16 @@ module _ (a s : List ℕ) where
   wanted g x r is =
       ap (λ (w : Row). is_eq (value_cmp (nat g) (column w 0))) (sym is) ∙ int_tie x.group g
 
+  pub grant_books_selected : (old new : State) (rows : List Row)
+      → Answers read_grant_books_text (Text a ∷ Text s ∷ []) old new rows
+      → Selects (λ r. is_of_session a s r && true) columns (old.now.trees 24) rows
+  grant_books_selected old new rows got =
+      told read_grant_books_text names 24 of_session project by_group text_is
+      read_grant_books_plain (Text a ∷ Text s ∷ [])
+      (λ r. is_of_session a s r && true) columns
+      (λ r. and_apart (equal Binary (column r 1) (Text a)) (equal Binary (column r 2) (Text s))
+      true) (λ r. refl) old new rows got
+
   -- rule: book-rows
   pub grant_books_read : (old new : State) (rows : List Row) (xs : List GrantBook)
       → Answers read_grant_books_text (Text a ∷ Text s ∷ []) old new rows
@@ -88,10 +98,6 @@ module _ (a s : List ℕ) where
       (λ x r m. back x r) (λ x. nat_eq x.group g) (λ x. true) (is_of_session a s) (is_of_group g)
       (λ r. true) (λ r. refl) (splits a s g) (wanted g) (λ r m h. refl) (λ x r e same. refl) xs
       (subst (Selects (λ r. is_of_session a s r && true) columns (old.now.trees 24)) (sym is)
-      (told read_grant_books_text names 24 of_session project by_group text_is
-      read_grant_books_plain (Text a ∷ Text s ∷ [])
-      (λ r. is_of_session a s r && true) columns
-      (λ r. and_apart (equal Binary (column r 1) (Text a)) (equal Binary (column r 2) (Text s))
-      true) (λ r. refl) old new rows got))
+      (grant_books_selected old new rows got))
       ∙ only_all _)
       ∙ books_only _

@@ -32,19 +32,19 @@ use Rattle.sql_rows.specs.declared.hold_rows.HeldColumns.{HeldColumns}
 use Rattle.sql_rows.specs.Lists.{hold_cells, AreHolds}
 
 -- a stored row as one of the list
-abbrev at_in : Row → HeldColumns
+abbrev pub at_in : Row → HeldColumns
 at_in v = record { group = nat_in (column v 2); bucket = nat_in (column v 3); amount = hold_in v }
 
-abbrev project : List Term
+abbrev pub project : List Term
 project = col 1 3 ∷ col 1 4 ∷ col 1 5 ∷ []
 
-abbrev names : List (List ℕ)
+abbrev pub names : List (List ℕ)
 names = codes "rating_group" ∷ codes "bucket" ∷ codes "amount" ∷ []
 
-abbrev columns : Row → Row
+abbrev pub columns : Row → Row
 columns r = column r 3 ∷ column r 4 ∷ column r 5 ∷ []
 
-same_columns : (r : Row) → at_in (drop 1 r) ≡ at_in (Null ∷ Null ∷ columns r)
+pub same_columns : (r : Row) → at_in (drop 1 r) ≡ at_in (Null ∷ Null ∷ columns r)
 same_columns [] = refl
 same_columns (v ∷ vs) = refl
 
@@ -55,16 +55,16 @@ abbrev pub read_holds_text : List ℕ
 read_holds_text = codes "SELECT rating_group, bucket, amount "
     ++ codes "FROM holds WHERE account = ?1 AND session = ?2 ORDER BY rating_group, bucket"
 
-abbrev holds_terms : List Term
+abbrev pub holds_terms : List Term
 holds_terms =
     op2 (Compare Eq Binary) (col 1 1) (col 0 0)
     ∷ op2 (Compare Eq Binary) (col 1 2) (col 0 1) ∷ []
 
-abbrev holds_order : List (Term × Key)
+abbrev pub holds_order : List (Term × Key)
 holds_order = (col 1 3, record { collation = Binary; descending = false }) ∷
     (col 1 4, record { collation = Binary; descending = false }) ∷ []
 
-holds_is : (command_of (understood our_schema read_holds_text)
+pub holds_is : (command_of (understood our_schema read_holds_text)
     ≡ Select (record { lets = []; body = select_from 12 holds_terms project holds_order }) names) ×
     (reads_listing our_schema read_holds_text ≡ false)
 unfolding understood everything
@@ -80,13 +80,13 @@ amounts_only None = refl
 amounts_only (Some v) = refl
 
 module _ (a s : List ℕ) where
-  abbrev front : Row → Bool
+  abbrev pub front : Row → Bool
   front r = equal Binary (column r 1) (Text a) && equal Binary (column r 2) (Text s)
 
-  abbrev rest : ℕ → ℕ → Row → Bool
+  abbrev pub rest : ℕ → ℕ → Row → Bool
   rest g n r = is_eq (value_cmp (nat g) (column r 3)) && is_eq (value_cmp (nat n) (column r 4))
 
-  splits : (g n : ℕ) (r : Row) →
+  pub splits : (g n : ℕ) (r : Row) →
       meets (1 ∷ 2 ∷ 3 ∷ 4 ∷ []) (hold_key a s g n) r ≡ (front r && rest g n r)
   splits g n r =
       keys_split (Text a) (column r 1) (Text s ∷ nat g ∷ nat n ∷ [])
@@ -106,6 +106,15 @@ module _ (a s : List ℕ) where
       ∙ int_tie x.group g)
       (ap (λ (w : Row). is_eq (value_cmp (nat n) (column w 1))) (sym is) ∙ int_tie x.bucket n)
 
+  pub holds_selected : (old new : State) (rows : List Row)
+      → Answers read_holds_text (Text a ∷ Text s ∷ []) old new rows
+      → Selects (λ r. front r && true) columns (old.now.trees 12) rows
+  holds_selected old new rows got =
+      told read_holds_text names 12 holds_terms project holds_order holds_is read_holds_plain
+      (Text a ∷ Text s ∷ [])
+      (λ r. front r && true) columns (λ r. and_apart (equal Binary (column r 1) (Text a))
+      (equal Binary (column r 2) (Text s)) true) (λ r. refl) old new rows got
+
   -- rule: statements-of-tables.with-session-row
   pub holds_read : (old new : State) (rows : List Row) (xs : List HeldColumns) → Answers read_holds_text
       (Text a ∷ Text s ∷ []) old new rows
@@ -119,9 +128,6 @@ module _ (a s : List ℕ) where
       (λ x r m. back x r) (λ x. nat_eq x.group g && nat_eq x.bucket n) (λ x. true) front (rest g n)
       (λ r. true) (λ r. refl) (splits g n) (wanted g n) (λ r m h. refl) (λ x r e same. refl) xs
       (subst (Selects (λ r. front r && true) columns (old.now.trees 12)) (sym is)
-      (told read_holds_text names 12 holds_terms project holds_order holds_is read_holds_plain
-      (Text a ∷ Text s ∷ [])
-      (λ r. front r && true) columns (λ r. and_apart (equal Binary (column r 1) (Text a))
-      (equal Binary (column r 2) (Text s)) true) (λ r. refl) old new rows got))
+      (holds_selected old new rows got))
       ∙ only_all _)
       ∙ amounts_only _

@@ -38,15 +38,15 @@ abbrev pub read_sessions_open_text : List ℕ
 read_sessions_open_text = codes "SELECT session, last_number, touched, state "
     ++ codes "FROM sessions WHERE account = ?1 AND state = 1 ORDER BY session"
 
-abbrev sessions_open_terms : List Term
+abbrev pub sessions_open_terms : List Term
 sessions_open_terms =
     op2 (Compare Eq Binary) (col 1 1) (col 0 0)
     ∷ op2 (Compare Eq Binary) (col 1 5) (lit (Int (pos 1))) ∷ []
 
-abbrev sessions_open_order : List (Term × Key)
+abbrev pub sessions_open_order : List (Term × Key)
 sessions_open_order = (col 1 2, record { collation = Binary; descending = false }) ∷ []
 
-sessions_open_is : (command_of (understood our_schema read_sessions_open_text)
+pub sessions_open_is : (command_of (understood our_schema read_sessions_open_text)
     ≡ Select (record {
       lets = [];
       body = select_from 8 sessions_open_terms project sessions_open_order;
@@ -60,16 +60,16 @@ unfolding understood everything
 read_sessions_open_plain = (refl, refl)
 
 module _ (a : List ℕ) where
-  abbrev front : Row → Bool
+  abbrev pub front : Row → Bool
   front r = equal Binary (column r 1) (Text a)
 
-  abbrev rest : List ℕ → Row → Bool
+  abbrev pub rest : List ℕ → Row → Bool
   rest s r = is_eq (value_cmp (Text s) (column r 2))
 
-  abbrev extra : Row → Bool
+  abbrev pub extra : Row → Bool
   extra r = equal Binary (column r 5) (nat 1)
 
-  splits : (s : List ℕ) (r : Row) → meets (1 ∷ 2 ∷ []) (session_key a s) r ≡ (front r && rest s r)
+  pub splits : (s : List ℕ) (r : Row) → meets (1 ∷ 2 ∷ []) (session_key a s) r ≡ (front r && rest s r)
   splits s r =
       keys_split (Text a) (column r 1) (Text s ∷ []) (column r 2 ∷ [])
       ∙ ap₂ ◌&&◌ (sym (equal_turned (column r 1) (Text a) refl))
@@ -84,10 +84,19 @@ module _ (a : List ℕ) where
   lives [] h = absurd (cc)
   lives (v ∷ vs) h = open_tested (column vs 4) h
 
-  open_told : (x : Session) (r : Row) → extra r ≡ true → session_cells x ≡ columns r →
+  pub open_told : (x : Session) (r : Row) → extra r ≡ true → session_cells x ≡ columns r →
       is_open x.state ≡ true
   open_told x r e is =
       tested_open x.state (ap (λ (w : Row). equal Binary (column w 3) (nat 1)) is ∙ e)
+
+  pub open_selected : (old new : State) (rows : List Row)
+      → Answers read_sessions_open_text (Text a ∷ []) old new rows
+      → Selects (λ r. front r && extra r) columns (old.now.trees 8) rows
+  open_selected old new rows got =
+      told read_sessions_open_text names 8 sessions_open_terms project sessions_open_order
+      sessions_open_is read_sessions_open_plain (Text a ∷ [])
+      (λ r. front r && extra r) columns (λ r. and_last (front r) (extra r))
+      (λ r. refl) old new rows got
 
   pub open_read : (old new : State) (rows : List Row) (xs : List Session) →
       Answers read_sessions_open_text (Text a ∷ []) old new rows
@@ -101,7 +110,4 @@ module _ (a : List ℕ) where
       (λ x. same_name x.id s) (λ x. is_open x.state) front (rest s) extra (λ r. refl)
       (splits s) (wanted s) (λ r m. lives r) open_told xs
       (subst (Selects (λ r. front r && extra r) columns (old.now.trees 8)) (sym is)
-      (told read_sessions_open_text names 8 sessions_open_terms project sessions_open_order
-      sessions_open_is read_sessions_open_plain (Text a ∷ [])
-      (λ r. front r && extra r) columns (λ r. and_last (front r) (extra r))
-      (λ r. refl) old new rows got))
+      (open_selected old new rows got))

@@ -6,5 +6,7 @@ use Rattle.sql_rows.proofs.ascending.do_ascend.Given as goal
 
 abbrev pub invariant-rows : goal.invariant-rows
 invariant-rows g l =
-    AscendAfter g.T.InOrder.before (option_map (λ b. b.now) l.last) (drop l.row-index l.rows)
-    → Ascends g.T.InOrder.before l.rows
+    (AscendAfter g.T.InOrder.before (option_map (λ b. b.now) l.last) (drop l.row-index l.rows)
+    → Ascends g.T.InOrder.before l.rows)
+    × (Ascends g.T.InOrder.before l.rows
+    → AscendAfter g.T.InOrder.before (option_map (λ b. b.now) l.last) (drop l.row-index l.rows))

@@ -4,6 +4,8 @@ use Rattle.sqlite_value.specs.declared.value.Value.TheVariants.{Text}
 use Rattle.sql_tables.proofs.Telling.{reads_as}
 use Rattle.sql_rows.proofs.selections.ReadGrantBooks.{read_grant_books_text, read_grant_books_plain}
 use Rattle.sql_rows.proofs.selections.ReadGrantBooks.{grant_books_read}
+use Rattle.sql_rows.proofs.rules.GrantBookRules.{grant_books_refused}
+use Rattle.sql_rows.proofs.rules.KeyRules.{refused_by}
 use Rattle.sql_rows.proofs.grant_book_rows.read_grant_books.Goals as goal
 
 pub read-requires-clause-plain : goal.read-requires-clause-plain
@@ -17,3 +19,13 @@ returns-clause-reads g c =
     (c.text-2.ensures ∙ ap Text c.as_str-2.ensures.value) i ∷ []))
     c.deref.ensures.value c.grant_books_from.ensures.cells
     (λ xs. grant_books_read c.args.account.now c.args.session.now _ _ _ xs.items)
+
+pub returns-clause-refused : goal.returns-clause-refused
+returns-clause-refused g c =
+    refused_by _ _ read_grant_books_text _ _ _ _ _ _ c.grant_books_from.result
+    c.in_ok-rows.ensures.answers
+    (λ i. map bound_value ((c.text.ensures ∙ ap Text c.as_str.ensures.value) i ∷
+    (c.text-2.ensures ∙ ap Text c.as_str-2.ensures.value) i ∷ []))
+    c.deref.ensures.value c.grant_books_from.ensures.refused
+    (λ e got refused is. grant_books_refused c.args.account.now c.args.session.now _ _ _ got
+    (refused is))
