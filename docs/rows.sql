@@ -62,7 +62,6 @@ SELECT 'accounts: the next numbers are 1 to 4294967296' AS rule, account, next_b
 -- ---- buckets
 SELECT 'buckets: a number from 1 on' AS rule, account, number
   FROM buckets WHERE number NOT BETWEEN 1 AND 4294967295;
--- not at an opening
 SELECT 'buckets: the number is below next_bucket' AS rule, account, number, next_bucket
   FROM buckets JOIN accounts USING (account) WHERE number >= next_bucket;
 SELECT 'buckets: starts is before 2100' AS rule, account, number, starts

@@ -233,27 +233,29 @@ ROWS = [
         RULES,
         "buckets: a number from 1 on",
     ),
-    (of("accounts", 49152, "next_bucket = 1"), OPENED, "buckets: the number is below next_bucket"),
+    (of("accounts", 49152, "next_bucket = 1"), RULES, "buckets: the number is below next_bucket"),
+    (of("accounts", 49152, "next_bucket = 2"), OPENED, None),
+    (of("accounts", 49152, "next_bucket = 10"), OPENED, None),
     (
         of("accounts", 49152, "next_bucket = 1")
         + ";"
         + of("buckets", 49152, "available = 0, charged = 500000"),
-        OPENED,
+        RULES,
         "buckets: the number is below next_bucket",
     ),
     (
         "INSERT INTO buckets VALUES ('49152', 2, 0, 4102444800, NULL, 900, 900, 0, 0, 0)",
-        OPENED,
+        RULES,
         "buckets: the number is below next_bucket",
     ),
     (
         "INSERT INTO buckets VALUES ('49152', 2, 0, 4102444800, NULL, 900, 0, 0, 900, 0)",
-        OPENED,
+        RULES,
         "buckets: the number is below next_bucket",
     ),
     (
         "INSERT INTO buckets VALUES ('49152', 4294967295, 0, 4102444800, NULL, 900, 900, 0, 0, 0)",
-        OPENED,
+        RULES,
         "buckets: the number is below next_bucket",
     ),
     # reservations and holds

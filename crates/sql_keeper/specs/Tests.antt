@@ -1,12 +1,14 @@
 -- What is tested of a change before it is written, so that what is written reads as the change.
 -- Source: profile.
 use Rattle.std.specs.Prelude.{◌≡◌, ◌⊎◌, ℕ, ◌+◌, ◌==◌, ◌||◌, Bool, true, not, List, [], ◌∷◌, Option}
-use Rattle.std.specs.Prelude.{Some, None, IsTrue, is_some}
+use Rattle.std.specs.Prelude.{Some, None, IsTrue, is_some, nat_le, nat_lt, ◌&&◌}
 use Rattle.std.specs.List.{list_all}
 use Rattle.std.specs.Prelude.{if◌then◌else◌}
 use Rattle.units.specs.Words.{GroupId}
 use Rattle.identifiers.specs.Words.{SessionName}
 use Rattle.ledger.specs.Words.{ChargeNumber}
+use Rattle.buckets.specs.Row.{BucketRow}
+use Rattle.buckets.specs.Words.{BucketNumber}
 use Rattle.calendar.specs.declared.week.Period.{Period}
 use Rattle.tariffs.specs.Names.{period_named}
 use Rattle.buckets.specs.Holding.{AreHolds}
@@ -17,6 +19,7 @@ use Rattle.reserving.specs.declared.session.Reservation.{Reservation}
 use Rattle.reserving.specs.Sessions.{is_open, session_in, group_in}
 use Rattle.ledger.specs.Lists.{EachIn}
 use Rattle.reserving.specs.Left.{first_of, is_open_row}
+use Rattle.reserving.specs.Stored.{StoredRows}
 use Rattle.keepers.specs.declared.loaded.Change.{Change}
 use Rattle.sql_rows.specs.declared.head.HeadColumns.{HeadColumns}
 use Rattle.sql_rows.specs.Values.{Group}
@@ -61,6 +64,14 @@ AreNumbered from next (c ∷ cs) = (c.number ≡ from) × AreNumbered (from + 1)
 abbrev pub first_number : Option HeadColumns → ChargeNumber
 first_number None = 1
 first_number (Some h) = if h.next_charge == 0 then 1 else h.next_charge
+
+-- the number of an account's next bucket doesn't fall below this one, and each bucket that is named
+-- is below it
+-- rule: database-writes.writable
+abbrev pub are_buckets_numbered : BucketNumber → StoredRows → Bool
+are_buckets_numbered first w =
+    nat_le first w.next_bucket
+    && list_all (λ (b : BucketRow). nat_lt b.number w.next_bucket) w.buckets
 
 -- ---- sessions that a change opens or ends
 
@@ -130,6 +141,7 @@ AreNewGroups r groups = EachIn (λ (x : SessionGroup). HasNoGroups r x.session) 
 pub record MayBeMade (names : Names) (change : Change) (r : TableRows) : Type 0 where
   pub reservations : AreWritable names change.rows.sessions change.rows.groups
   pub numbers : AreNumbered (first_number r.head) change.rows.next_charge change.charges.items
+  pub buckets : IsTrue (are_buckets_numbered (first_bucket r.head) change.rows)
   pub settled : EachIn (IsSettled change.rows.groups r) change.rows.sessions
   pub ruled : IsTrue (is_ruled_change names change)
 

@@ -18,7 +18,7 @@ use sql_tables::ReadFault;
 use sqlite::{Alter, Connection};
 
 /// The number of an account's next bucket. Of an account that isn't there yet each bucket is new.
-fn first_bucket(head: &Option<HeadColumns>) -> u64
+pub(crate) fn first_bucket(head: &Option<HeadColumns>) -> u64
     ensures { result ≡ first_bucket head.now }
 {
     match head {

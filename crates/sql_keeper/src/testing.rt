@@ -1,19 +1,24 @@
 //! What is tested of a change before it is written, so that what is written reads as the change.
 
-ghost use Rattle.std.specs.Prelude.{◌≡◌, IsTrue};
+ghost use Rattle.std.specs.Prelude.{◌≡◌, IsTrue, nat_lt};
+ghost use Rattle.std.specs.List.{list_all};
+ghost use Rattle.buckets.specs.Row.{BucketRow};
 ghost use Rattle.reserving.specs.Sessions.{session_in};
 ghost use Rattle.reserving.specs.Left.{is_open_row};
 ghost use Rattle.sql_keeper.specs.Content.{names_numbered, shelf_names};
+ghost use Rattle.sql_keeper.specs.Numbers.{first_bucket};
 ghost use Rattle.sql_keeper.specs.RuledRows.{is_ruled_change};
 ghost use Rattle.sql_keeper.specs.Tests.{AreNumbered, AreWritable, IsPeriodNamed, IsWritable};
 ghost use Rattle.sql_keeper.specs.Tests.{MayStand};
-ghost use Rattle.sql_keeper.specs.Tests.{first_number};
+ghost use Rattle.sql_keeper.specs.Tests.{are_buckets_numbered, first_number};
 
 use crate::among::session_among;
+use crate::bucket_numbers::first_bucket;
 use crate::ruling::is_ruled_change;
+use buckets::Bucket;
 use calendar::Period;
 use identifiers::SessionId;
-use keepers::Change;
+use keepers::{Change, NamedRows};
 use ledger::{ChargeRow, Terms};
 use reserving::{Reservation, Session, SessionGroup, SessionState};
 use shelves::TariffShelf;
@@ -42,6 +47,26 @@ pub(crate) fn are_numbered(charges: &[ChargeRow], from: u64, next: u64) -> bool
         number = charge.number as u64 + 1;
     }
     number == next
+}
+
+fn is_below(bucket: &Bucket, next: u64) -> bool
+    ensures { result ≡ nat_lt bucket.now.number next }
+{
+    (bucket.number() as u64) < next
+}
+
+fn are_below(buckets: &[Bucket], next: u64) -> bool
+    ensures { result ≡ list_all (λ (b : BucketRow). nat_lt b.number next) buckets.now }
+{
+    buckets.iter().all(|bucket| is_below(bucket, next))
+}
+
+/// Whether the number of an account's next bucket doesn't fall below this one, and each bucket that
+/// is named is below it.
+fn are_buckets_numbered(rows: &NamedRows, first: u64) -> bool
+    ensures { result ≡ are_buckets_numbered first rows.now }
+{
+    first <= rows.next_bucket() && are_below(rows.buckets(), rows.next_bucket())
 }
 
 /// Whether a session is open by the rows.
@@ -120,23 +145,27 @@ pub(crate) fn are_writable(
 
 /// Whether a change may be written over an account with this head, so that what is written reads as
 /// the change: each reservation is in an open session that is named with it, with periods that
-/// have names in its book, the charges are numbered on, and each row is in the rules of its table.
-/// It may exactly then.
+/// have names in its book, the charges are numbered on, the buckets are below the next number, which
+/// doesn't fall, and each row is in the rules of its table. It may exactly then.
 // rule: database-writes.writable
 pub fn may_be_written(books: &TariffShelf, head: &Option<HeadColumns>, change: &Change) -> bool
     ensures reservations { IsTrue result →
         AreWritable (shelf_names books.now) change.now.rows.sessions change.now.rows.groups }
     ensures numbers { IsTrue result →
         AreNumbered (first_number head.now) change.now.rows.next_charge change.now.charges.items }
+    ensures buckets { IsTrue result →
+        IsTrue (are_buckets_numbered (first_bucket head.now) change.now.rows) }
     ensures rules { IsTrue result →
         IsTrue (is_ruled_change (shelf_names books.now) change.now) }
     ensures back { AreWritable (shelf_names books.now) change.now.rows.sessions
         change.now.rows.groups →
         AreNumbered (first_number head.now) change.now.rows.next_charge change.now.charges.items →
+        IsTrue (are_buckets_numbered (first_bucket head.now) change.now.rows) →
         IsTrue (is_ruled_change (shelf_names books.now) change.now) → IsTrue result }
 {
     let rows = &change.rows;
     are_writable(books, rows.sessions(), rows.groups())
         && are_numbered(&change.charges, first_number(head), rows.next_charge())
+        && are_buckets_numbered(rows, first_bucket(head))
         && is_ruled_change(books, change)
 }

@@ -14,8 +14,9 @@ use Rattle.sqlite_rules.specs.Lists.{Has}
 use Rattle.sqlite_rules.proofs.ListLemmas.{has_either, has_left, has_right}
 use Rattle.sqlite_schema.specs.declared.schema.Table.{Table}
 use Rattle.sql_tables.proofs.Steps.{and_true, bare, mapped_from, mapped_to, permuted}
-use Rattle.sql_rules.specs.Beside.{NoneWrong, differs, is_ahead, is_equal, is_from, lacks_open_session}
-use Rattle.sql_rules.proofs.BesideTexts.{ahead_terms, over_terms, pair_query}
+use Rattle.sql_rules.specs.Beside.{NoneWrong, differs, is_ahead, is_bucket_ahead, is_equal, is_from}
+use Rattle.sql_rules.specs.Beside.{lacks_open_session}
+use Rattle.sql_rules.proofs.BesideTexts.{ahead_terms, bucket_ahead_terms, over_terms, pair_query}
 
 -- ---- lists of lists
 
@@ -148,6 +149,11 @@ last_four false c d e = refl
 pub ahead_tests : (r s : Row) → list_all (holds ([] ∷ r ∷ s ∷ [])) ahead_terms ≡ is_ahead r s
 ahead_tests r s = last_true (is_equal (column s 1) (column r 1))
     (is_from (column s 2) (column r 5))
+
+pub bucket_ahead_tests : (r s : Row) → list_all (holds ([] ∷ r ∷ s ∷ [])) bucket_ahead_terms
+    ≡ is_bucket_ahead r s
+bucket_ahead_tests r s = last_true (is_equal (column s 1) (column r 1))
+    (is_from (column s 2) (column r 4))
 
 pub over_tests : (r s : Row) → list_all (holds ([] ∷ r ∷ s ∷ [])) over_terms ≡ lacks_open_session r s
 over_tests r s = last_four (is_equal (column r 5) (Int (pos 1)))

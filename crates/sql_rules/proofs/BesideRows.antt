@@ -1,5 +1,5 @@
 -- What rows say that are wrong beside no row of another table.
-use Rattle.std.proofs.Common.{◌≡◌, ◌&&◌, ℕ, suc, pos, List, [], ◌∷◌, Bool, true, false, not, drop, inl, inr}
+use Rattle.std.proofs.Common.{◌≡◌, ◌&&◌, ℕ, suc, pos, List, [], ◌∷◌, Bool, true, false, not, drop}
 use Rattle.std.proofs.Common.{Some, None, Option, cond, Less, Equal, Greater, is_eq, refl, sym, ap}
 use Rattle.std.proofs.Common.{subst, ◌∙◌, arith, nat_eq, nat_le, nat_lt}
 use Rattle.std.specs.Prelude.{codes, is_some, ◌||◌, if◌then◌else◌}
@@ -26,13 +26,13 @@ use Rattle.sqlite_sql.specs.declared.ops.BinaryOp.TheVariants.{Compare}
 use Rattle.sqlite_sql.specs.declared.ops.CompareOp.{CompareOp}
 use Rattle.sqlite_sql.specs.Ops.{binary, from_truth, is_null, is_true, test}
 use Rattle.sql_tables.specs.Keyed.{entries_of, look}
-use Rattle.sql_tables.specs.Schema.{accounts, belongs, charges, our_schema, session_groups, sessions}
+use Rattle.sql_tables.specs.Schema.{accounts, belongs, our_schema, session_groups, sessions}
 use Rattle.sql_tables.proofs.Keys.{int_tie, keys_split, text_tie}
 use Rattle.sql_tables.proofs.Parents.{parent_there, session_of_group}
 use Rattle.sql_tables.proofs.Selections.{full_key, meets, met_some}
 use Rattle.sql_tables.proofs.Steps.{truth_told}
 use Rattle.sql_tables.proofs.Ties.{equal_present}
-use Rattle.sql_rules.specs.Beside.{NoneWrong, differs, is_ahead, is_equal, is_from, lacks_open_session}
+use Rattle.sql_rules.specs.Beside.{NoneWrong, differs, is_equal, is_from, lacks_open_session}
 
 -- ---- what SQL's tests say
 
@@ -109,9 +109,9 @@ pub behind : (r : Row) (k : ℕ) → column (drop 1 r) k ≡ column r (suc k)
 behind [] k = refl
 behind (v ∷ cells) k = refl
 
--- ---- charges beside their account
+-- ---- rows beside their account
 
-abbrev to_account : Reference
+abbrev pub to_account : Reference
 to_account = belongs (1 ∷ []) (codes "accounts") (codes "account" ∷ [])
 
 points_to_account : parent_key our_schema.tables to_account ≡
@@ -145,17 +145,37 @@ some_of (Some x) e = (x, refl)
 abbrev pub AreNumbers : List Row → ℕ → Type 0
 AreNumbers rows k = (r : Row) → Has rows r → (n : ℕ) × (column r k ≡ Int (pos n))
 
--- the number of a charge is below the next one of its account
-pub record IsBelow (trees : Trees) (a : List ℕ) (n : ℕ) : Type 0 where
+-- a row of an account, and the account's own
+pub record IsOfAccount (table : Table) (trees : Trees) (a : List ℕ) (w : Value) (v : Row) : Type 0
+  where
+    pub own : Row
+    pub has : Has (trees table.tree) own
+    pub met : meets (1 ∷ 2 ∷ []) (Text a ∷ w ∷ []) own ≡ true
+    pub is : v ≡ drop 1 own
+    pub up : Row
+    pub there : Has (trees accounts.tree) up
+    pub found : look accounts trees (Text a ∷ []) ≡ Some (drop 1 up)
+    pub same : is_equal (column own 1) (column up 1) ≡ true
+
+-- the number of a row is below the next one that its account has in this column
+pub record IsBelow (table : Table) (next : ℕ) (trees : Trees) (a : List ℕ) (n : ℕ) : Type 0 where
   pub row : Row
   pub found : look accounts trees (Text a ∷ []) ≡ Some row
-  pub next : ℕ
-  pub is : column row 4 ≡ Int (pos next)
-  pub below : nat_lt n next ≡ true
-  -- the charge itself
-  pub charge : Row
-  pub has : Has (trees charges.tree) charge
-  pub number : column charge 2 ≡ Int (pos n)
+  pub bound : ℕ
+  pub is : column row next ≡ Int (pos bound)
+  pub below : nat_lt n bound ≡ true
+  -- the row itself
+  pub own : Row
+  pub has : Has (trees table.tree) own
+  pub number : column own 2 ≡ Int (pos n)
+
+-- a row of this account has the number in this column or a greater one
+abbrev pub ahead_of : ℕ → Row → Row → Bool
+ahead_of next account row =
+    is_equal (column row 1) (column account 1) && is_from (column row 2) (column account next)
+
+number_is : (n m : ℕ) → is_eq (value_cmp (Int (pos n)) (Int (pos m))) ≡ true → n ≡ m
+number_is n m e = let t : nat_eq m n ≡ true = sym (int_tie m n) ∙ e in grind (arith, nat_tests, t)
 
 not_from : (n k : ℕ) → nat_le k n ≡ false → nat_lt n k ≡ true
 not_from n k e = grind (arith, nat_tests, e)
@@ -171,54 +191,68 @@ module _ (trees : Trees) (keeps : Keeps ForeignKey our_schema trees) where
       met_some table.primary key v (trees table.tree)
       (sym (get-from_entries row_cmp_total (entries_of table.primary (trees table.tree)) key) ∙ e)
 
-  -- rule: rows-ruled.beside
-  pub numbered_below : NoneWrong is_ahead accounts charges trees
-      → AreNumbers (trees charges.tree) 2 → AreNumbers (trees accounts.tree) 5
-      → (a : List ℕ) (n : ℕ) (v : Row)
-      → look charges trees (Text a ∷ Int (pos n) ∷ []) ≡ Some v → IsBelow trees a n
-  numbered_below none own next a n v e =
-      let key : Row = Text a ∷ Int (pos n) ∷ [] in
-      let it = found_row charges key v e in
-      let r : Row = it.0 in
-      let there = some_of (look accounts trees (Text a ∷ []))
-      (parent_there our_schema charges
-      (inr (inr (inr (inr (inr (inr (inr (inr (inr (inl refl)))))))))) to_account (inl refl)
-      accounts points_to_account trees keeps key v (Text a ∷ []) e
-      (λ x m. (
-        ((full_key (1 ∷ 2 ∷ []) key x (refl, (refl, tt)) m).0, tt),
-        as_key (Text a) (column x 1) (first_of (Text a) (Int (pos n)) (column x 1) (column x 2) m),
-      ))) in
-      let up = found_row accounts (Text a ∷ []) there.0 there.1 in
-      let s : Row = up.0 in
-      let number = own r it.1 in
-      let above = next s up.1 in
-      let name : column r 1 ≡ Text a = text_only a (column r 1)
-      (first_of (Text a) (Int (pos n)) (column r 1) (column r 2) it.2) in
-      let named : column s 1 ≡ Text a = text_only a (column s 1) (last_of (Text a) (column s 1) up.2) in
-      let same : is_equal (column r 1) (column s 1) ≡ true =
-      subst (λ w. is_equal w (column s 1) ≡ true) (sym name)
-      (subst (λ w. is_equal (Text a) w ≡ true) (sym named) (text_equals a)) in
-      let is : n ≡ number.0 =
-      number_is n number.0 (subst (λ w. is_eq (value_cmp (Int (pos n)) w) ≡ true) number.1
-      (second_of (Text a) (Int (pos n)) (column r 1) (column r 2) it.2)) in
-      let not : is_from (column r 2) (column s 5) ≡ false =
-      true_then _ _ same (none s r up.1 it.1) in
-      record {
-        row = there.0;
-        found = there.1;
-        next = above.0;
-        is = ap (λ w. column w 4) up.3 ∙ behind s 4 ∙ above.1;
-        charge = r;
-        has = it.1;
-        number = number.1 ∙ ap (λ m. Int (pos m)) (sym is);
-        below = subst (λ m. nat_lt m above.0 ≡ true) (sym is) (not_from number.0 above.0
-            (sym (from_told number.0 above.0)
-            ∙ subst (λ w. is_from (Int (pos number.0)) w ≡ false) above.1
-            (subst (λ w. is_from w (column s 5) ≡ false) number.1 not)));
-      }
-    where
-      number_is : (n m : ℕ) → is_eq (value_cmp (Int (pos n)) (Int (pos m))) ≡ true → n ≡ m
-      number_is n m e = let t : nat_eq m n ≡ true = sym (int_tie m n) ∙ e in grind (arith, nat_tests, t)
+  -- of a table whose rows are an account's, each under its account and one column more
+  module _ (table : Table) (tabled : Has our_schema.tables table)
+      (refers : Has table.references to_account) (keyed : table.primary ≡ 1 ∷ 2 ∷ []) where
+    pub of_account : (a : List ℕ) (w : Value) (v : Row) → is_null w ≡ false
+        → look table trees (Text a ∷ w ∷ []) ≡ Some v → IsOfAccount table trees a w v
+    of_account a w v some e =
+        let key : Row = Text a ∷ w ∷ [] in
+        let by : (x : Row) → meets table.primary key x ≡ true → meets (1 ∷ 2 ∷ []) key x ≡ true =
+        λ x m. subst (λ p. meets p key x ≡ true) keyed m in
+        let it = found_row table key v e in
+        let met = by it.0 it.2 in
+        let there = some_of (look accounts trees (Text a ∷ []))
+        (parent_there our_schema table tabled to_account refers accounts points_to_account trees
+        keeps key v (Text a ∷ []) e
+        (λ x m. (
+          ((full_key (1 ∷ 2 ∷ []) key x (refl, (some, tt)) (by x m)).0, tt),
+          as_key (Text a) (column x 1) (first_of (Text a) w (column x 1) (column x 2) (by x m)),
+        ))) in
+        let up = found_row accounts (Text a ∷ []) there.0 there.1 in
+        let name : column it.0 1 ≡ Text a = text_only a (column it.0 1)
+        (first_of (Text a) w (column it.0 1) (column it.0 2) met) in
+        let named : column up.0 1 ≡ Text a =
+        text_only a (column up.0 1) (last_of (Text a) (column up.0 1) up.2) in
+        record {
+          own = it.0;
+          has = it.1;
+          met = met;
+          is = it.3;
+          up = up.0;
+          there = up.1;
+          found = there.1 ∙ ap Some up.3;
+          same = subst (λ x. is_equal x (column up.0 1) ≡ true) (sym name)
+              (subst (λ x. is_equal (Text a) x ≡ true) (sym named) (text_equals a));
+        }
+
+    -- rule: rows-ruled.beside
+    pub numbered_below : (next : ℕ) → NoneWrong (ahead_of (suc next)) accounts table trees
+        → AreNumbers (trees table.tree) 2 → AreNumbers (trees accounts.tree) (suc next)
+        → (a : List ℕ) (n : ℕ) (v : Row)
+        → look table trees (Text a ∷ Int (pos n) ∷ []) ≡ Some v → IsBelow table next trees a n
+    numbered_below next none own above a n v e =
+        let it = of_account a (Int (pos n)) v refl e in
+        let number = own it.own it.has in
+        let bound = above it.up it.there in
+        let is : n ≡ number.0 =
+        number_is n number.0 (subst (λ w. is_eq (value_cmp (Int (pos n)) w) ≡ true) number.1
+        (second_of (Text a) (Int (pos n)) (column it.own 1) (column it.own 2) it.met)) in
+        let not : is_from (column it.own 2) (column it.up (suc next)) ≡ false =
+        true_then _ _ it.same (none it.up it.own it.there it.has) in
+        record {
+          row = drop 1 it.up;
+          found = it.found;
+          bound = bound.0;
+          is = behind it.up next ∙ bound.1;
+          own = it.own;
+          has = it.has;
+          number = number.1 ∙ ap (λ m. Int (pos m)) (sym is);
+          below = subst (λ m. nat_lt m bound.0 ≡ true) (sym is) (not_from number.0 bound.0
+              (sym (from_told number.0 bound.0)
+              ∙ subst (λ w. is_from (Int (pos number.0)) w ≡ false) bound.1
+              (subst (λ w. is_from w (column it.up (suc next)) ≡ false) number.1 not)));
+        }
 
   -- a reservation's session is there, and its state is that of an open one
   -- rule: rows-ruled.beside

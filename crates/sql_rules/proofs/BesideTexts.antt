@@ -14,13 +14,17 @@ use Rattle.sqlite.specs.Given.{IsPlain}
 use Rattle.sqlite.specs.Listing.{understood, reads_listing}
 use Rattle.sqlite.proofs.Callers.{command_of}
 use Rattle.sql_tables.specs.Opens.{IsVersion}
-use Rattle.sql_tables.specs.Schema.{accounts, charges, schema_at, session_groups, sessions}
+use Rattle.sql_tables.specs.Schema.{accounts, buckets, charges, schema_at, session_groups, sessions}
 
 -- ---- the queries
 
 abbrev pub ahead_terms : List Term
 ahead_terms =
     op2 (Compare Eq Binary) (col 2 1) (col 1 1) ∷ op2 (Compare Ge Binary) (col 2 2) (col 1 5) ∷ []
+
+abbrev pub bucket_ahead_terms : List Term
+bucket_ahead_terms =
+    op2 (Compare Eq Binary) (col 2 1) (col 1 1) ∷ op2 (Compare Ge Binary) (col 2 2) (col 1 4) ∷ []
 
 abbrev pub over_terms : List Term
 over_terms =
@@ -58,6 +62,11 @@ ahead_text =
     codes "SELECT 1 FROM accounts, charges WHERE charges.account = accounts.account "
     ++ codes "AND charges.number >= accounts.next_charge LIMIT 1"
 
+abbrev pub bucket_ahead_text : List ℕ
+bucket_ahead_text =
+    codes "SELECT 1 FROM accounts, buckets WHERE buckets.account = accounts.account "
+    ++ codes "AND buckets.number >= accounts.next_bucket LIMIT 1"
+
 abbrev pub over_text : List ℕ
 over_text =
     codes "SELECT 1 FROM session_groups, sessions WHERE session_groups.reserved = 1 "
@@ -75,6 +84,21 @@ ahead_at_2 = record { names = codes "1" ∷ []; command = refl; listing = refl; 
 ahead_at_3 : IsPair 3 ahead_text accounts charges ahead_terms
 unfolding understood everything
 ahead_at_3 = record { names = codes "1" ∷ []; command = refl; listing = refl; plain = (refl, refl) }
+
+bucket_ahead_at_1 : IsPair 1 bucket_ahead_text accounts buckets bucket_ahead_terms
+unfolding understood everything
+bucket_ahead_at_1 =
+    record { names = codes "1" ∷ []; command = refl; listing = refl; plain = (refl, refl) }
+
+bucket_ahead_at_2 : IsPair 2 bucket_ahead_text accounts buckets bucket_ahead_terms
+unfolding understood everything
+bucket_ahead_at_2 =
+    record { names = codes "1" ∷ []; command = refl; listing = refl; plain = (refl, refl) }
+
+bucket_ahead_at_3 : IsPair 3 bucket_ahead_text accounts buckets bucket_ahead_terms
+unfolding understood everything
+bucket_ahead_at_3 =
+    record { names = codes "1" ∷ []; command = refl; listing = refl; plain = (refl, refl) }
 
 over_at_1 : IsPair 1 over_text session_groups sessions over_terms
 unfolding understood everything
@@ -94,6 +118,15 @@ ahead_at (suc zero) known = ahead_at_1
 ahead_at (suc (suc zero)) known = ahead_at_2
 ahead_at (suc (suc (suc zero))) known = ahead_at_3
 ahead_at (suc (suc (suc (suc n)))) known =
+    let high : suc (suc (suc (suc n))) ≤ 3 = known.1 in absurd (omega (arith, high))
+
+pub bucket_ahead_at : (v : ℕ) → IsVersion v
+    → IsPair v bucket_ahead_text accounts buckets bucket_ahead_terms
+bucket_ahead_at zero known = absurd (omega (arith, known.0))
+bucket_ahead_at (suc zero) known = bucket_ahead_at_1
+bucket_ahead_at (suc (suc zero)) known = bucket_ahead_at_2
+bucket_ahead_at (suc (suc (suc zero))) known = bucket_ahead_at_3
+bucket_ahead_at (suc (suc (suc (suc n)))) known =
     let high : suc (suc (suc (suc n))) ≤ 3 = known.1 in absurd (omega (arith, high))
 
 pub over_at : (v : ℕ) → IsVersion v → IsPair v over_text session_groups sessions over_terms

@@ -46,8 +46,9 @@ use Rattle.sql_rows.proofs.queries.Tests.{open_tested}
 use Rattle.sql_rows.proofs.rules.MetaRules.{right_at}
 use Rattle.sql_rules.specs.Columns.{is_moment}
 use Rattle.sql_rules.specs.Rules.{is_ruled_meta, is_timely_at, passes_at, rule_at}
-use Rattle.sql_rules.specs.Beside.{differs, is_ahead, is_equal, is_from, lacks_open_session}
-use Rattle.sql_rules.specs.Ruled.{IsInRules, is_numbered, is_reserved}
+use Rattle.sql_rules.specs.Beside.{differs, is_ahead, is_bucket_ahead, is_equal, is_from}
+use Rattle.sql_rules.specs.Beside.{lacks_open_session}
+use Rattle.sql_rules.specs.Ruled.{IsInRules, is_bucket_numbered, is_numbered, is_reserved}
 use Rattle.sql_rules.specs.Tables.{AreEachRuled, AreRuled, last_kept, table_at}
 use Rattle.sql_rules.proofs.BesideRows.{behind, compared, differs_told, equals_text, from_told}
 use Rattle.sql_rules.proofs.BesideRows.{number_same}
@@ -487,6 +488,44 @@ module _ (shelf : Shelf) (trees : Trees) (fits : Fits our_schema trees) where
               number)).1 in
               absurd (no_number _ _ from below)
 
+      -- and above those of its buckets
+      none_bucket_ahead : (r s : Row) → Stands 1 r → Stands 2 s → is_bucket_ahead r s ≡ false
+      none_bucket_ahead r s has there = at (is_bucket_ahead r s) refl
+        where
+          at : (t : Bool) → is_bucket_ahead r s ≡ t → t ≡ false
+          at false e = refl
+          at true e =
+              let parts = and_parts (is_equal (column s 1) (column r 1))
+              (is_from (column s 2) (column r 4)) e in
+              let low : 2 < 14 = omega arith in
+              let own = full 2 low s there in
+              let v1 = text_there 2 low s there 0 (omega arith) own.0 (λ v h. h) in
+              let v2 = number_there 2 low s there 1 (omega arith) own.1.0 (λ v h. h)
+              (checked (table_at 2) s 0 (omega arith)) in
+              let first : 1 < 14 = omega arith in
+              let up = text_there 1 first r has 0 (omega arith) (full 1 first r has).0 (λ v h. h) in
+              let next = number_there 1 first r has 3 (omega arith)
+              (compared Ge (column s 2) (column r 4) parts.1).1 (λ v h. h)
+              (checked (table_at 1) r 2 (omega arith)) in
+              let same : text_in (column r 1) ≡ text_in (column s 1) =
+              equals_text (text_in (column s 1)) (text_in (column r 1))
+              (subst (λ w. is_equal w (Text (text_in (column r 1))) ≡ true) v1
+              (subst (λ w. is_equal (column s 1) w ≡ true) up parts.0)) in
+              let from : nat_le (nat_in (column r 4)) (nat_in (column s 2)) ≡ true =
+              sym (from_told (nat_in (column s 2)) (nat_in (column r 4)))
+              ∙ subst (λ w. is_from w (nat (nat_in (column r 4))) ≡ true) v2
+              (subst (λ w. is_from (column s 2) w ≡ true) next parts.1) in
+              let bucket = told 2 low bucket_in_row s _ there (bucket_of s there) in
+              let head = told 1 first head_in r _ has (account_of r has) in
+              let number = (in'.beside (text_in (column s 1))).buckets (nat_in (column s 2))
+              (ap is_some bucket) in
+              let below : nat_lt (nat_in (column s 2)) (nat_in (column r 4)) ≡ true =
+              subst (λ n. nat_lt (nat_in (column s 2)) n ≡ true) (ap nat_in (behind r 3))
+              (subst (λ o. is_bucket_numbered (nat_in (column s 2)) o ≡ true)
+              (subst (λ x. (rows_in trees x).head ≡ Some (head_in (drop 1 r))) same head)
+              number) in
+              absurd (no_number _ _ from below)
+
       -- the session of a reservation is open
       none_over : (r s : Row) → Stands 5 r → Stands 4 s → lacks_open_session r s ≡ false
       none_over r s has there = at (lacks_open_session r s) refl
@@ -547,6 +586,7 @@ module _ (shelf : Shelf) (trees : Trees) (fits : Fits our_schema trees) where
         each = each_ruled;
         beside = record {
           numbers = none_ahead;
+          buckets = none_bucket_ahead;
           reservations = none_over;
         };
       }

@@ -10,7 +10,7 @@ use Rattle.sqlite_sql.specs.declared.ops.BinaryOp.TheVariants.{Compare}
 use Rattle.sqlite_sql.specs.declared.ops.CompareOp.TheVariants.{Eq, Ge, Ne}
 use Rattle.sqlite_sql.specs.Ops.{binary, is_true}
 use Rattle.sqlite_schema.specs.declared.schema.Table.{Table}
-use Rattle.sql_tables.specs.Schema.{accounts, charges, session_groups, sessions}
+use Rattle.sql_tables.specs.Schema.{accounts, buckets, charges, session_groups, sessions}
 use Rattle.sql_rows.specs.Values.{nat}
 
 -- ---- as SQL compares: a NULL is equal to nothing, above nothing, and differs from nothing
@@ -33,6 +33,12 @@ abbrev pub is_ahead : Row → Row → Bool
 is_ahead account charge =
     is_equal (column charge 1) (column account 1) && is_from (column charge 2) (column account 5)
 
+-- a bucket of this account has its next number or a greater one
+-- rule: rows-ruled.beside
+abbrev pub is_bucket_ahead : Row → Row → Bool
+is_bucket_ahead account bucket =
+    is_equal (column bucket 1) (column account 1) && is_from (column bucket 2) (column account 4)
+
 -- the session of a reservation isn't open
 -- rule: rows-ruled.beside
 abbrev pub lacks_open_session : Row → Row → Bool
@@ -45,8 +51,9 @@ abbrev pub NoneWrong : (Row → Row → Bool) → Table → Table → Trees → 
 NoneWrong wrong first second trees =
     (r s : Row) → Has (trees first.tree) r → Has (trees second.tree) s → wrong r s ≡ false
 
--- rule: rows-ruled.beside: no charge has a number from its account's next one on, and each
---   reservation is in an open session
+-- rule: rows-ruled.beside: no charge and no bucket has a number from its account's next one on, and
+--   each reservation is in an open session
 pub record AreRightBeside (trees : Trees) : Type 0 where
   pub numbers : NoneWrong is_ahead accounts charges trees
+  pub buckets : NoneWrong is_bucket_ahead accounts buckets trees
   pub reservations : NoneWrong lacks_open_session session_groups sessions trees

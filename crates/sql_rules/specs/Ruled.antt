@@ -138,15 +138,23 @@ abbrev pub is_numbered : ChargeNumber → Option HeadColumns → Bool
 is_numbered n None = false
 is_numbered n (Some h) = nat_lt 0 n && nat_lt n h.next_charge
 
+-- buckets are numbered below the account's next number
+abbrev pub is_bucket_numbered : BucketNumber → Option HeadColumns → Bool
+is_bucket_numbered n None = false
+is_bucket_numbered n (Some h) = nat_lt n h.next_bucket
+
 -- a group has a reservation
 abbrev pub is_reserved : Option Group → Bool
 is_reserved None = false
 is_reserved (Some x) = is_some x.periods
 
--- what is stored of an account: its charges are numbered, and a reservation is in an open session
+-- what is stored of an account: its charges and its buckets are numbered, and a reservation is in
+-- an open session
 -- rule: rows-ruled.beside
 pub record AreBeside (r : TableRows) : Type 0 where
   pub numbers : (n : ChargeNumber) → is_some (r.charges n) ≡ true → is_numbered n r.head ≡ true
+  pub buckets : (n : BucketNumber) → is_some (r.buckets n) ≡ true
+      → is_bucket_numbered n r.head ≡ true
   pub live : (s : SessionName) (g : GroupId) → is_reserved (r.groups s g) ≡ true
       → is_open_row (r.sessions s) ≡ true
 

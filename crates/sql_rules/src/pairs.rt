@@ -6,8 +6,10 @@ ghost use Rattle.sqlite.specs.Held.{state};
 ghost use Rattle.sqlite.specs.Listing.{understood};
 ghost use Rattle.sqlite.specs.State.{HasCleanDisk};
 ghost use Rattle.sql_tables.specs.Opens.{IsVersion};
-ghost use Rattle.sql_tables.specs.Schema.{accounts, charges, schema_at, session_groups, sessions};
-ghost use Rattle.sql_rules.specs.Beside.{AreRightBeside, NoneWrong, is_ahead, lacks_open_session};
+ghost use Rattle.sql_tables.specs.Schema.{accounts, buckets, charges, schema_at, session_groups};
+ghost use Rattle.sql_tables.specs.Schema.{sessions};
+ghost use Rattle.sql_rules.specs.Beside.{AreRightBeside, NoneWrong, is_ahead, is_bucket_ahead};
+ghost use Rattle.sql_rules.specs.Beside.{lacks_open_session};
 ghost use Rattle.sql_rules.specs.Tables.{Tells};
 ghost use Rattle.sql_rules.specs.Walks.{FindsNoRow};
 
@@ -47,6 +49,40 @@ fn charges_pass<S: Alter>(conn: &mut Connection<S>, version: u32) -> Result<(), 
     }
 }
 
+/// Tests that no bucket has the next number of its account or a greater one. It looks at each
+/// account once, and under its next number.
+// rule: rows-ruled.beside
+fn buckets_pass<S: Alter>(conn: &mut Connection<S>, version: u32) -> Result<(), OpenFault>
+    requires known { IsVersion version }
+    requires ours { HasCleanDisk (state S.Store conn.old) → conn.old.schema ≡ schema_at version }
+    ensures { Tells (NoneWrong is_bucket_ahead accounts buckets) (state S.Store conn.old)
+        (state S.Store conn.new) result }
+{
+    // For the prover alone: the version whose schema the text is read over.
+    let _version = version;
+    match finds_none(
+        conn,
+        "SELECT 1 FROM accounts, buckets WHERE buckets.account = accounts.account \
+         AND buckets.number >= accounts.next_bucket LIMIT 1",
+    ) {
+        Ok(true) => Ok(()),
+        Ok(false) => Err(OpenFault::Rules),
+        Err(error) => Err(fault_of(error)),
+    }
+}
+
+/// Tests that no charge and no bucket has the next number of its account or a greater one.
+fn numbers_pass<S: Alter>(conn: &mut Connection<S>, version: u32) -> Result<(), OpenFault>
+    requires known { IsVersion version }
+    requires ours { HasCleanDisk (state S.Store conn.old) → conn.old.schema ≡ schema_at version }
+    ensures { Tells (λ trees. NoneWrong is_ahead accounts charges trees
+        × NoneWrong is_bucket_ahead accounts buckets trees)
+        (state S.Store conn.old) (state S.Store conn.new) result }
+{
+    charges_pass(conn, version)?;
+    buckets_pass(conn, version)
+}
+
 /// Tests that each reservation is in an open session. It looks at each row of `session_groups`
 /// once, and at the session of each that has a reservation.
 // rule: rows-ruled.beside
@@ -80,6 +116,6 @@ pub(crate) fn pairs_pass<S: Alter>(conn: &mut Connection<S>, version: u32) -> Re
     requires ours { HasCleanDisk (state S.Store conn.old) → conn.old.schema ≡ schema_at version }
     ensures { Tells AreRightBeside (state S.Store conn.old) (state S.Store conn.new) result }
 {
-    charges_pass(conn, version)?;
+    numbers_pass(conn, version)?;
     reservations_pass(conn, version)
 }

@@ -36,7 +36,8 @@ use Rattle.sql_keeper.specs.LiveGroups.{Gathers}
 use Rattle.sql_keeper.specs.Seen.{IsStanding, IsUnknown, is_unknown, stands_open}
 use Rattle.sql_keeper.specs.Tests.{is_as, is_beside, are_beside, IsSettled}
 use Rattle.sql_keeper.specs.Tests.{AreFound, AreNewGroups, AreWritable, IsChangeFound, IsFound}
-use Rattle.sql_keeper.specs.Tests.{AreNumbered, AreUnknown, IsTested, are_among, first_number}
+use Rattle.sql_keeper.specs.Tests.{AreNumbered, AreUnknown, IsTested, are_among}
+use Rattle.sql_keeper.specs.Tests.{are_buckets_numbered, first_number}
 use Rattle.sql_keeper.specs.declared.seen.Standing.{Standing}
 use Rattle.sql_keeper.specs.declared.seen.Standing.TheVariants.{Unknown, Open, Over}
 use Rattle.sql_keeper.specs.declared.settling.NamedSessions.{NamedSessions}
@@ -380,6 +381,7 @@ pub change_unsettled : {E : Type 0} (names : Names) (change : Change) (o : Optio
     (λ trees p. p ≡ (rows_in trees change.number).head) old new (Ok o) →
     (AreWritable names change.rows.sessions change.rows.groups →
     AreNumbered (first_number o) change.rows.next_charge change.charges.items →
+    IsTrue (are_buckets_numbered (first_bucket o) change.rows) →
     IsTrue (is_ruled_change names change) → IsTrue false) →
     Gathers {A = NamedSessions} {E = E}
     (λ trees w. IsChangeFound names change (rows_in trees change.number) w) old new (Ok z)
@@ -393,7 +395,9 @@ change_unsettled {E} names change o z old new is reads fails =
       made = λ t. absurd (not_so z is t);
       back = λ may. absurd (not_both (fails may.reservations
           (subst (λ h. AreNumbered (first_number h) change.rows.next_charge change.charges.items)
-          (sym (reads.found clean on)) may.numbers) may.ruled));
+          (sym (reads.found clean on)) may.numbers)
+          (subst (λ h. IsTrue (are_buckets_numbered (first_bucket h) change.rows))
+          (sym (reads.found clean on)) may.buckets) may.ruled));
       new = λ t. absurd (not_new z is t);
       unknown = λ t. absurd (not_new z is t);
     })
@@ -408,13 +412,14 @@ pub change_found : {E : Type 0} (names : Names) (change : Change) (o : Option He
     (λ trees p. p ≡ (rows_in trees change.number).head) old mid (Ok o) →
     AreWritable names change.rows.sessions change.rows.groups →
     AreNumbered (first_number o) change.rows.next_charge change.charges.items →
+    IsTrue (are_buckets_numbered (first_bucket o) change.rows) →
     IsTrue (is_ruled_change names change) →
     Gathers {A = NamedSessions} {E = E}
     (λ trees w. AreFound xs ys (rows_in trees change.number) w) mid new (Ok y) →
     Gathers {A = NamedSessions} {E = E}
     (λ trees w. IsChangeFound names change (rows_in trees change.number) w) old new (Ok z)
-change_found {E} names change o xs ys y z old mid new same_xs same_ys is one writable numbered ruled
-    two =
+change_found {E} names change o xs ys y z old mid new same_xs same_ys is one writable numbered
+    below ruled two =
     gathers_from {A = NamedSessions} {E = E}
     (λ trees w. IsChangeFound names change (rows_in trees change.number) w) old new (Ok z)
     (have_read_then old mid new
@@ -434,6 +439,8 @@ change_found {E} names change o xs ys y z old mid new same_xs same_ys is one wri
         numbers = subst (λ h. AreNumbered (first_number h) change.rows.next_charge
             change.charges.items)
             (one.found (two.only.cleanness clean) (two.only.still clean on).was_open) numbered;
+        buckets = subst (λ h. IsTrue (are_buckets_numbered (first_bucket h) change.rows))
+            (one.found (two.only.cleanness clean) (two.only.still clean on).was_open) below;
         settled = subst (EachIn (IsSettled change.rows.groups rows)) same_xs
             (subst (λ zs. EachIn (IsSettled zs rows) xs) same_ys
             (found.settled (sym (ap (λ (w : NamedSessions). w.are_settled) is) ∙ t)));

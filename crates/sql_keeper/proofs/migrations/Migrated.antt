@@ -178,7 +178,11 @@ tidy_first names trees t = record {
   rows = λ a.
       let own : AreTidyRows names a ((content_at 1 trees).rows a) = t.rows a in
       record {
-        beside = record { numbers = own.beside.numbers; live = own.beside.live };
+        beside = record {
+          numbers = own.beside.numbers;
+          buckets = own.beside.buckets;
+          live = own.beside.live;
+        };
         terms = λ s g. granted_terms names (((content_at 1 trees).rows a).grant_books s g)
             (((content_at 1 trees).rows a).groups s g) (no_grant trees a s g) (own.terms s g);
         books = λ s g. granted_number (((content_at 1 trees).rows a).grant_books s g)

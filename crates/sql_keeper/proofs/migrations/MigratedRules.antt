@@ -107,12 +107,15 @@ module _ (shelf : Shelf) (old mid : Trees) where
 
   -- tables whose rows stay are right beside each other as they were
   still_beside : mid table.accounts.tree ≡ old table.accounts.tree
+      → mid table.buckets.tree ≡ old table.buckets.tree
       → mid table.charges.tree ≡ old table.charges.tree
       → mid table.session_groups.tree ≡ old table.session_groups.tree
       → mid table.sessions.tree ≡ old table.sessions.tree → AreRightBeside old → AreRightBeside mid
-  still_beside accounts charges groups sessions right = record {
+  still_beside accounts buckets charges groups sessions right = record {
     numbers = λ r s h k. right.numbers r s (subst (λ rows. Has rows r) accounts h)
         (subst (λ rows. Has rows s) charges k);
+    buckets = λ r s h k. right.buckets r s (subst (λ rows. Has rows r) accounts h)
+        (subst (λ rows. Has rows s) buckets k);
     reservations = λ r s h k. right.reservations r s (subst (λ rows. Has rows r) groups h)
         (subst (λ rows. Has rows s) sessions k);
   }
@@ -126,15 +129,15 @@ module _ (shelf : Shelf) (old mid : Trees) where
     each = ruled_by_last (schema_at 1).tables
         (tables_between (length (pieces_to 1)) (length (pieces_to latest))) refl kept.0.0 kept.0
         kept.1 all.each;
-    beside = still_beside kept.0.1.0 kept.0.1.1.1.1.1.1.1.1.1.0 kept.0.1.1.1.1.1.0 kept.0.1.1.1.1.0
-        all.beside;
+    beside = still_beside kept.0.1.0 kept.0.1.1.0 kept.0.1.1.1.1.1.1.1.1.1.0 kept.0.1.1.1.1.1.0
+        kept.0.1.1.1.1.0 all.beside;
   }
   ruled_since (suc (suc zero)) known less kept all = record {
     each = ruled_by_last (schema_at 2).tables
         (tables_between (length (pieces_to 2)) (length (pieces_to latest))) refl kept.0.0 kept.0
         kept.1 all.each;
-    beside = still_beside kept.0.1.0 kept.0.1.1.1.1.1.1.1.1.1.0 kept.0.1.1.1.1.1.0 kept.0.1.1.1.1.0
-        all.beside;
+    beside = still_beside kept.0.1.0 kept.0.1.1.0 kept.0.1.1.1.1.1.1.1.1.1.0 kept.0.1.1.1.1.1.0
+        kept.0.1.1.1.1.0 all.beside;
   }
   ruled_since (suc (suc (suc n))) known less kept all =
       let low : suc (suc (suc n)) < 3 = less in absurd (omega (arith, low))
@@ -187,7 +190,11 @@ granted_beside : (b : Bool) (c : TablesContent) → ((a : List ℕ) → AreBesid
     → AreBeside ((if b then c else record c { rows = λ a. granted_in (c.rows a) }).rows a)
 granted_beside true c beside a = beside a
 granted_beside false c beside a =
-    record { numbers = (beside a).numbers; live = (beside a).live }
+    record {
+      numbers = (beside a).numbers;
+      buckets = (beside a).buckets;
+      live = (beside a).live;
+    }
 
 granted_meta : (b : Bool) (c : TablesContent)
     → (if b then c else record c { rows = λ a. granted_in (c.rows a) }).meta ≡ c.meta

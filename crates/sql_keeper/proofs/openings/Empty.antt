@@ -112,6 +112,7 @@ new_empty names =
 beside_nothing : AreBeside nothing
 beside_nothing = record {
   numbers = λ n k. not_both (sym k);
+  buckets = λ n k. not_both (sym k);
   live = λ s g k. not_both (sym k);
 }
 

@@ -1,7 +1,10 @@
 -- What is written over tidy rows leaves tidy rows.
 use Rattle.std.proofs.Common.{◌≡◌, ◌∙◌, ℕ, Bool, true, false, List, refl, sym, ap, subst}
-use Rattle.std.proofs.Common.{Option, Some, None}
+use Rattle.std.proofs.Common.{Option, Some, None, [], ◌∷◌, cond, arith, nat_le, nat_lt}
 use Rattle.std.specs.Prelude.{if◌then◌else◌, ◌&&◌, ◌+◌, nat_eq, is_some, option_map}
+use Rattle.std.specs.List.{find, list_all}
+use Rattle.std.proofs.lemmas.Bool.{and_parts}
+use Rattle.std.proofs.lemmas.Bool.Decides.{nat_tests}
 use Rattle.identifiers.specs.Texts.{same_name}
 use Rattle.buckets.specs.Row.{BucketRow}
 use Rattle.ledger.specs.declared.charge.ChargeRow.{ChargeRow}
@@ -20,10 +23,12 @@ use Rattle.keepers.specs.declared.loaded.Redeemed.{Redeemed}
 use Rattle.keepers.specs.Tables.{charge_in}
 use Rattle.sql_rows.specs.Values.{Kept, Meta, reference_kind, request_kind}
 use Rattle.sql_rows.specs.Content.{TablesContent, TableRows, with_answer, with_meta, with_rows}
-use Rattle.sql_rules.specs.Ruled.{AreBeside}
+use Rattle.sql_rows.specs.declared.head.HeadColumns.{HeadColumns}
+use Rattle.sql_rules.specs.Ruled.{AreBeside, is_bucket_numbered}
 use Rattle.sql_keeper.specs.Content.{Names, is_numbered, is_reserved, kept_in, names_numbered}
+use Rattle.sql_keeper.specs.Numbers.{first_bucket}
 use Rattle.sql_keeper.specs.Tests.{AreNumbered, AreWritable, IsPeriodNamed, IsWritable, MayStand}
-use Rattle.sql_keeper.specs.Tests.{first_number}
+use Rattle.sql_keeper.specs.Tests.{are_buckets_numbered, first_number}
 use Rattle.sql_keeper.specs.Tidy.{AreTidyRows, EndsTidy, IsTidy, are_terms, has_terms, is_key}
 use Rattle.sql_keeper.specs.Writes.{AreTexts, columns_of, head_columns_of, names_held, with_kept}
 use Rattle.sql_keeper.specs.Writes.{with_all_paid, with_redeemed, with_stored, with_texts}
@@ -51,6 +56,10 @@ pub record MayBeOver (names : Names) (w : StoredRows) (r : TableRows) : Type 0 w
       → IsPeriodNamed (names_numbered names y.terms.book) y.terms.periods.after
   pub numbers : (n : ℕ) → is_numbered n r.head ≡ true → is_numbered n (Some (head_columns_of w)) ≡
       true
+  -- a bucket that is below the account's next number stays so, and one that is named is
+  pub lower : (n : ℕ) → is_bucket_numbered n r.head ≡ true → nat_lt n w.next_bucket ≡ true
+  pub named : (n : ℕ) (x : BucketRow) → bucket_in n w.buckets ≡ Some x →
+      nat_lt n w.next_bucket ≡ true
 
 -- a reservation stays in an open session, and a charge stays numbered
 module _ (names : Names) (w : StoredRows) (r : TableRows) (b : AreBeside r)
@@ -73,10 +82,20 @@ module _ (names : Names) (w : StoredRows) (r : TableRows) (b : AreBeside r)
       at None e k = ends s g e k (b.live s g k)
       at (Some x) e k = put x x.reservation e refl k
 
+  buckets_after : (n : ℕ) → is_some (counted_in (bucket_in n w.buckets) (r.buckets n)) ≡ true →
+      nat_lt n w.next_bucket ≡ true
+  buckets_after n = at (bucket_in n w.buckets) refl
+    where
+      at : (o : Option BucketRow) → bucket_in n w.buckets ≡ o →
+          is_some (counted_in o (r.buckets n)) ≡ true → nat_lt n w.next_bucket ≡ true
+      at None e k = may.lower n (b.buckets n k)
+      at (Some x) e k = may.named n x e
+
   -- rule: rows-ruled.beside
   pub beside_stored : AreBeside (over_stored names w r)
   beside_stored = record {
     numbers = λ n k. may.numbers n (b.numbers n k);
+    buckets = buckets_after;
     live = live_after;
   }
 
@@ -166,7 +185,7 @@ module _ (cs : List ChargeRow) (r : TableRows)
 
       -- rule: rows-ruled.beside
       pub beside_paid : AreBeside (over_paid cs r)
-      beside_paid = record { numbers = charges_after; live = b.live }
+      beside_paid = record { numbers = charges_after; buckets = b.buckets; live = b.live }
 
     module _ (names : Names) (a : List ℕ) (t : AreTidyRows names a r) where
       covered_after : (n : ℕ) → is_some (blocks_in (charge_in n cs) (r.covered n)) ≡ true →
@@ -195,7 +214,11 @@ tidy_answer : (names : Names) (a : List ℕ) (kind : ℕ) (name : List ℕ) (num
     (r : TableRows) → is_key kind number ≡ true → is_some (kept_in a k) ≡ true
     → AreTidyRows names a r → AreTidyRows names a (with_answer kind name number k r)
 tidy_answer names a kind name number k r key told t = record {
-  beside = record { numbers = t.beside.numbers; live = t.beside.live };
+  beside = record {
+    numbers = t.beside.numbers;
+    buckets = t.beside.buckets;
+    live = t.beside.live;
+  };
   terms = t.terms;
   books = t.books;
   holds = t.holds;
@@ -239,10 +262,10 @@ beside_texts : (a : List ℕ) (key : Key) (k : Kept) (c : TablesContent) → Are
     → AreAllBeside (with_texts a key k c)
 beside_texts a (Request s n) k c t =
     each_at (λ x. AreBeside) a (with_answer request_kind s n k) c
-    (λ own. record { numbers = own.numbers; live = own.live }) t
+    (λ own. record { numbers = own.numbers; buckets = own.buckets; live = own.live }) t
 beside_texts a (Reference x) k c t =
     each_at (λ x. AreBeside) a (with_answer reference_kind x 0 k) c
-    (λ own. record { numbers = own.numbers; live = own.live }) t
+    (λ own. record { numbers = own.numbers; buckets = own.buckets; live = own.live }) t
 
 beside_kept : (a : List ℕ) (kept : Option KeptAnswer) (texts : Option Kept) (c : TablesContent)
     → AreAllBeside c → AreAllBeside (with_kept a kept texts c)
@@ -312,6 +335,38 @@ tidy_charges names a cs c numbered t = record {
       (λ own. tidy_paid cs (c.rows a) numbered names a own) t.rows;
 }
 
+-- ---- the numbers of buckets
+
+lower_on : (n : ℕ) (o : Option HeadColumns) (next : ℕ) → nat_le (first_bucket o) next ≡ true
+    → is_bucket_numbered n o ≡ true → nat_lt n next ≡ true
+lower_on n None next e k = not_both (sym k)
+lower_on n (Some h) next e k = grind (arith, nat_tests, e, k)
+
+all_found : {A : Type 0} (test is : A → Bool) (xs : List A) (x : A) → list_all test xs ≡ true
+    → find is xs ≡ Some x → (test x ≡ true) × (is x ≡ true)
+all_found test is [] x all e = absurd (cc e)
+all_found test is (y ∷ ys) x all e =
+    let parts = and_parts (test y) (list_all test ys) all in
+    at (is y) refl parts.0 (all_found test is ys x parts.1) e
+  where
+    at : (t : Bool) → is y ≡ t → test y ≡ true
+        → (find is ys ≡ Some x → (test x ≡ true) × (is x ≡ true))
+        → cond t (Some y) (find is ys) ≡ Some x → (test x ≡ true) × (is x ≡ true)
+    at true f passed rest e =
+        let same : y ≡ x = cc e in (
+          subst (λ z. test z ≡ true) same passed,
+          subst (λ z. is z ≡ true) same f,
+        )
+    at false f passed rest e = rest e
+
+below_named : (n next : ℕ) (xs : List BucketRow) (x : BucketRow)
+    → list_all (λ (b : BucketRow). nat_lt b.number next) xs ≡ true → bucket_in n xs ≡ Some x
+    → nat_lt n next ≡ true
+below_named n next xs x all e =
+    let found = all_found (λ (b : BucketRow). nat_lt b.number next)
+    (λ (b : BucketRow). nat_eq b.number n) xs x all e in
+    subst (λ m. nat_lt m next ≡ true) (number_from x.number n found.1) found.0
+
 -- ---- all that is written of an account
 
 module _ (names : Names) (a : List ℕ) (w : StoredRows) (cs : List ChargeRow)
@@ -320,19 +375,27 @@ module _ (names : Names) (a : List ℕ) (w : StoredRows) (cs : List ChargeRow)
     (may : AreWritable names sessions w.groups)
     (numbers : AreNumbered (first_number (c.rows a).head) w.next_charge cs)
     (told : AreTexts a kept texts) where
-  -- where sessions that are open stay so
-  pub may_be_over : ((s : List ℕ) → is_open_row (session_in s sessions) ≡ true
+  -- where sessions that are open stay so, and the buckets are numbered below the next number
+  pub may_be_over : are_buckets_numbered (first_bucket (c.rows a).head) w ≡ true
+      → ((s : List ℕ) → is_open_row (session_in s sessions) ≡ true
       → is_open_row (first_of (session_in s w.sessions) ((c.rows a).sessions s)) ≡ true)
       → MayBeOver names w (c.rows a)
-  may_be_over stays = record {
+  may_be_over below stays = record {
     live = λ s g x y is has. stays s (stands s g x y is has).live;
     before = λ s g x y is has. (stands s g x y is has).before;
     after = λ s g x y is has. (stands s g x y is has).after;
     numbers = λ n is. numbered_on n (first_number (c.rows a).head) w.next_charge
         (is_numbered n (c.rows a).head) (begins n (c.rows a).head)
         (rises (first_number (c.rows a).head) w.next_charge cs numbers) is;
+    lower = λ n is. lower_on n (c.rows a).head w.next_bucket parts.0 is;
+    named = λ n x is. below_named n w.next_bucket w.buckets x parts.1 is;
   }
     where
+      parts : (nat_le (first_bucket (c.rows a).head) w.next_bucket ≡ true)
+          × (list_all (λ (b : BucketRow). nat_lt b.number w.next_bucket) w.buckets ≡ true)
+      parts = and_parts (nat_le (first_bucket (c.rows a).head) w.next_bucket)
+          (list_all (λ (b : BucketRow). nat_lt b.number w.next_bucket) w.buckets) below
+
       stands : (s : List ℕ) (g : ℕ) (x : SessionGroup) (y : Reservation)
           → group_in s g w.groups ≡ Some x → x.reservation ≡ Some y
           → IsWritable names sessions s y

@@ -54,7 +54,7 @@ tidy_change names m change texts c named may told t =
     (settled_each change.rows.sessions change.rows.groups (c.rows change.number) may.settled))
     (may_be_over names change.number change.rows change.charges.items change.kept texts
     change.redeemed m c change.rows.sessions (keyed_named change.rows named) may.reservations
-    may.numbers told (open_named change.rows.sessions (c.rows change.number))) t
+    may.numbers told may.buckets (open_named change.rows.sessions (c.rows change.number))) t
 
 -- rule: rows-ruled.beside
 pub beside_change : (names : Names) (m : Meta) (change : Change) (texts : Option Kept)
@@ -70,7 +70,7 @@ beside_change names m change texts c named may told t =
     (settled_each change.rows.sessions change.rows.groups (c.rows change.number) may.settled))
     (may_be_over names change.number change.rows change.charges.items change.kept texts
     change.redeemed m c change.rows.sessions (keyed_named change.rows named) may.reservations
-    may.numbers told (open_named change.rows.sessions (c.rows change.number))) t
+    may.numbers told may.buckets (open_named change.rows.sessions (c.rows change.number))) t
 
 -- ---- a voucher
 

@@ -1,16 +1,22 @@
 -- What a sweep leaves of tables in which no row is without a meaning.
-use Rattle.std.proofs.Common.{◌≡◌, ◌∙◌, ℕ, List, Option, Some, None, refl, sym, ap, subst}
-use Rattle.std.specs.Prelude.{is_some}
+use Rattle.std.proofs.Common.{◌≡◌, ◌∙◌, ◌<◌, ℕ, Bool, true, false, cond, List, [], ◌∷◌, lt-ltb}
+use Rattle.std.proofs.Common.{Option, Some, None, refl, sym, ap, subst}
+use Rattle.std.specs.Prelude.{filter, if◌then◌else◌, is_some, nat_eq, nat_le, nat_lt, not}
+use Rattle.std.specs.List.{list_any}
+use Rattle.buckets.specs.Row.{BucketRow}
+use Rattle.buckets.specs.Spend.{IsBelow}
 use Rattle.shelves.specs.Shelves.{Shelf, IsShelf}
 use Rattle.reserving.specs.declared.session.Reservation.{Reservation}
 use Rattle.reserving.specs.declared.session.Session.{Session}
 use Rattle.reserving.specs.declared.session.SessionGroup.{SessionGroup}
 use Rattle.reserving.specs.Sessions.{group_in}
-use Rattle.reserving.specs.Stored.{StoredRows}
+use Rattle.reserving.specs.Stored.{StoredRows, advanced_stored}
+use Rattle.reserving.specs.Left.{bucket_in}
+use Rattle.keepers.specs.Differing.{equal_bucket}
 use Rattle.sql_rows.specs.Content.{TablesContent, TableRows}
-use Rattle.sql_rules.specs.Ruled.{AreBeside}
+use Rattle.sql_rules.specs.Ruled.{AreBeside, is_bucket_numbered}
 use Rattle.sql_keeper.specs.Content.{Names, is_numbered}
-use Rattle.sql_keeper.specs.Sweeps.{AreAllSwept, AreSweptRows, IsSweptOf, with_sweep}
+use Rattle.sql_keeper.specs.Sweeps.{AreAllSwept, AreSweptRows, IsSweptOf, rows_at, with_sweep}
 use Rattle.sql_keeper.specs.Tests.{IsWritable, MayStand}
 use Rattle.sql_keeper.specs.Tidy.{AreTidyRows, EndsTidy, IsTidy}
 use Rattle.sql_keeper.specs.Writes.{head_columns_of, meta_at}
@@ -19,9 +25,39 @@ use Rattle.sql_keeper.proofs.commits.Changed.{may_at, over_stored}
 use Rattle.sql_keeper.proofs.sweeps.Swept.{found_one, next_is, row_after, rows_are, swept_at}
 use Rattle.sql_keeper.proofs.sweeps.Swept.{swept_kept, swept_meta}
 use Rattle.sql_keeper.proofs.sweeps.SweptNamed.{after, may_swept, opens_swept, settled_swept}
+use Rattle.sql_keeper.proofs.puts.Overlays.{number_from}
 use Rattle.sql_keeper.proofs.rules.Tidy.{AreAllBeside, MayBeOver, beside_stored, tidy_meta}
 use Rattle.sql_keeper.proofs.rules.Tidy.{tidy_stored}
 use Rattle.sql_keeper.proofs.rules.TidyChanges.{ends_settled}
+
+-- ---- the numbers of buckets
+
+next_bucket_is : (shelf : Shelf) (t : ℕ) (w : StoredRows) →
+    (rows_at shelf t w).next_bucket ≡ w.next_bucket
+next_bucket_is shelf t w = at (nat_le w.as_of t)
+  where
+    at : (b : Bool) → (if b then advanced_stored shelf t w else w).next_bucket ≡ w.next_bucket
+    at true = refl
+    at false = refl
+
+below_filter : (next : ℕ) (p : BucketRow → Bool) (xs : List BucketRow) → IsBelow next xs →
+    IsBelow next (filter p xs)
+below_filter next p [] h = tt
+below_filter next p (x ∷ xs) h =
+    elim (p x) as (λ t. IsBelow next (cond t (x ∷ filter p xs) (filter p xs)))
+    [ true ↦ (h.0, below_filter next p xs h.1) | false ↦ below_filter next p xs h.1 ]
+
+number_below : (n next : ℕ) (xs : List BucketRow) (x : BucketRow) → IsBelow next xs
+    → bucket_in n xs ≡ Some x → n < next
+number_below n next [] x h e = absurd (cc e)
+number_below n next (y ∷ ys) x h e =
+    at (nat_eq y.number n) refl h.0 (number_below n next ys x h.1) e
+  where
+    at : (t : Bool) → nat_eq y.number n ≡ t → y.number < next
+        → (bucket_in n ys ≡ Some x → n < next) → cond t (Some y) (bucket_in n ys) ≡ Some x
+        → n < next
+    at true f low rest e = subst (λ m. m < next) (number_from y.number n f) low
+    at false f low rest e = rest e
 
 -- ---- what is written of an account
 
@@ -37,8 +73,22 @@ module _ (names : Names) (shelf : Shelf) (t : ℕ) (r : TableRows) (w : StoredRo
     after = λ s g x y is has. (stands s g x y is has).after;
     numbers = λ n is. sym (ap (is_numbered n) ((swept.live shelf t).0 ∙ ap (λ m. Some (record
         (head_columns_of swept.before) { next_charge = m })) next_same)) ∙ is;
+    lower = λ n is. subst (λ m. nat_lt n m ≡ true) (sym bucket_same)
+        (subst (λ o. is_bucket_numbered n o ≡ true) (swept.live shelf t).0 is);
+    named = λ n x is. lt-ltb n w.next_bucket (below_each n x is);
   }
     where
+      bucket_same : w.next_bucket ≡ swept.before.next_bucket
+      bucket_same = ap (λ (x : StoredRows). x.next_bucket) swept.is
+          ∙ next_bucket_is shelf t swept.before
+
+      below_each : (n : ℕ) (x : BucketRow) → bucket_in n w.buckets ≡ Some x → n < w.next_bucket
+      below_each n x is = number_below n w.next_bucket w.buckets x
+          (subst (λ (y : StoredRows). IsBelow y.next_bucket y.buckets) (sym swept.is)
+          (below_filter (rows_at shelf t swept.before).next_bucket
+          (λ b. not (list_any (equal_bucket b) swept.before.buckets))
+          (rows_at shelf t swept.before).buckets swept.kept.stored.below)) is
+
       next_same : swept.before.next_charge ≡ w.next_charge
       next_same = sym (ap (λ (x : StoredRows). x.next_charge) swept.is
           ∙ next_is shelf t swept.before)

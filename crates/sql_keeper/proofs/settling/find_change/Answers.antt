@@ -24,5 +24,6 @@ returns g c =
     (state g.S.Store c.find_sessions.new.conn) c.sessions-sessions.ensures c.groups-groups.ensures
     c.found_with.ensures c.in_ok-head.ensures
     (c.if-not-may_be_written.ensures.reservations refl)
-    (c.if-not-may_be_written.ensures.numbers refl) (c.if-not-may_be_written.ensures.rules refl)
+    (c.if-not-may_be_written.ensures.numbers refl) (c.if-not-may_be_written.ensures.buckets refl)
+    (c.if-not-may_be_written.ensures.rules refl)
     c.in_ok-found.ensures
