@@ -55,11 +55,11 @@ def of_shard(
     ending: str,
     texts: Texts,
 ) -> int:
-    """Writes the files of a shard; how many."""
+    """Writes the files of a shard, in a folder that nobody else reads; how many."""
     part, homes = made.with_name(f".{made.name}.part"), shards.Homes(settings)
     shutil.rmtree(part, ignore_errors=True)
     try:
-        part.mkdir(parents=True)
+        part.mkdir(mode=0o700, parents=True)
     except OSError as fault:
         raise Refused(f"{part}: {fault.strerror}") from fault
     count, months = 0, Months()
