@@ -59,7 +59,7 @@ def named(settings: Settings, number: str) -> Shard:
     for shard in of(settings):
         if shard.number == wanted:
             return shard
-    raise Unread(f"there is no shard {number}: they are 01 to {of(settings)[-1]}")
+    raise Unread(f"there is no shard {number}: they are 01 to {of(settings)[-1]}, by [office]")
 
 
 class Homes:

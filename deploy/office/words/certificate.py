@@ -66,6 +66,8 @@ def judge(arguments: argparse.Namespace) -> None:
             raise Unread("the office's certificate takes --host and no name")
         if not all(re.fullmatch(HOST[0], host) and ":" not in host for host in arguments.host):
             raise Unread("--host is a name or an address, without a port")
+    elif arguments.request and not arguments.request.is_file():
+        raise Unread(f"{arguments.request} isn't there")
     elif arguments.host or not re.fullmatch(NAME[0], arguments.name) or arguments.name == "clients":
         raise Unread(f"a certificate of a {arguments.role} takes {NAME[1]}")
 

@@ -10,6 +10,7 @@ from __future__ import annotations
 import argparse
 import dataclasses
 import pathlib
+import sys
 import time
 
 from office import proxy, redemption, shards, units
@@ -52,7 +53,12 @@ def run(settings: Settings, arguments: argparse.Namespace) -> int:
     widths = [max(len(row[at]) for row in rows) for at in range(len(HEADS))]
     for row in rows:
         print("  ".join(text.rjust(width) for text, width in zip(row, widths)))
-    return 1 if any(one.answers == NONE for one in states) else 0
+    silent = [one.shard for one in states if one.answers == NONE]
+    if silent:
+        print(
+            f"office: no answer from {' '.join(silent)}: journalctl --unit ocs@NN", file=sys.stderr
+        )
+    return 1 if silent else 0
 
 
 def state(

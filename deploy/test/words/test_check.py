@@ -67,6 +67,7 @@ def test_status_of_a_shard_that_is_away(world: World) -> None:
         told = world.office("status")
         assert told.returncode == 1
         assert told.stdout.splitlines()[2].split()[2] == "-"
+        assert told.stderr == "office: no answer from 02: journalctl --unit ocs@NN\n"
     finally:
         world.start(2)
         world.file.write_text(text)

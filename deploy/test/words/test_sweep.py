@@ -29,5 +29,5 @@ def test_no_such_shard(world: World) -> None:
     told = world.office("sweep", "--shard", "03")
     assert (told.returncode, told.stderr) == (
         2,
-        "office: there is no shard 03: they are 01 to 02\n",
+        "office: there is no shard 03: they are 01 to 02, by [office]\n",
     )
