@@ -42,8 +42,14 @@ def run(settings: Settings, arguments: argparse.Namespace) -> int:
             raise Unread(f"ACCOUNT is 1 to 15 digits, not {account!r}")
     coming = topped_up(log.follow(settings)) if arguments.follow else arguments.accounts
     silent = 0
-    for account in coming:
-        silent += tell(settings, account)
+    try:
+        for account in coming:
+            silent += tell(settings, account)
+    except KeyboardInterrupt:
+        # What follows the log ends by being stopped.
+        if not arguments.follow:
+            raise
+        return 0
     return 1 if silent else 0
 
 

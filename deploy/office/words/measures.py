@@ -7,6 +7,7 @@ measures and ends. deploy/SEEN.md says what each is, and which alarms stand on t
 from __future__ import annotations
 
 import argparse
+import contextlib
 import threading
 
 from office.faults import Refused
@@ -38,5 +39,6 @@ def run(settings: Settings, arguments: argparse.Namespace) -> int:
     registry.register(Measures(settings, counted))
     port = arguments.port or settings.measures.port
     prometheus_client.start_http_server(port, addr="127.0.0.1", registry=registry)
-    threading.Event().wait()
+    with contextlib.suppress(KeyboardInterrupt):
+        threading.Event().wait()
     return 0
