@@ -6,6 +6,7 @@ from __future__ import annotations
 import csv
 import io
 import pathlib
+import re
 import socket
 import subprocess
 import tempfile
@@ -16,6 +17,8 @@ from office.faults import Refused
 from office.settings import Settings
 
 UNIT = "haproxy"
+# The variable of a configuration's own sum.
+MADE = "OFFICE_MADE"
 # Until a process of HAProxy that was reloaded is at the doors.
 SECONDS = 60
 
@@ -121,11 +124,21 @@ def others(settings: Settings) -> list[int]:
     return [int(each) for each in path.read_text(encoding="ascii").split() if each not in mine]
 
 
-def up(settings: Settings, is_changed: bool) -> str:
-    """Starts HAProxy, or has it read a configuration that was changed; what was done. At a boot it
+def has_read(settings: Settings, text: str) -> bool:
+    """Whether the process at the doors goes by this configuration. One that was written by a word that
+    was stopped then wasn't read."""
+    made = re.search(rf"setenv {MADE} (\w+)", text)
+    try:
+        return made is not None and made[1] in told(settings, f"show env {MADE}")
+    except Refused:
+        return False
+
+
+def up(settings: Settings, is_new: bool) -> str:
+    """Starts HAProxy, or has it read a configuration that it doesn't go by; what was done. At a boot it
     starts by itself, but with two machines: there Pacemaker starts it."""
     if state() == "active":
-        return read_again(settings) if is_changed else f"the unit {UNIT} is up"
+        return read_again(settings) if is_new else f"the unit {UNIT} is up"
     if not settings.machines:
         units.systemctl("enable", "--quiet", UNIT)
     units.systemctl("restart", UNIT)

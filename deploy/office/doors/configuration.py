@@ -5,9 +5,10 @@ one thread and one connection to each: what waits, waits in HAProxy. A door more
 nothing; a request costs the rules of its own door."""
 from __future__ import annotations
 
+import hashlib
 import pathlib
 
-from office import cluster, log_line, shards
+from office import cluster, log_line, proxy, shards
 from office.doors import lines, routes, rules
 from office.settings import Door, Settings
 
@@ -38,7 +39,7 @@ ALIVE = (
 
 
 def text(settings: Settings) -> str:
-    """The whole configuration."""
+    """The whole configuration, with its own sum, by which `proxy` asks whether it was read."""
     made = [*process(settings), "", "defaults", *logged(), *defaults(settings)]
     for door in settings.doors:
         made += ["", *frontend(settings, door)]
@@ -49,7 +50,9 @@ def text(settings: Settings) -> str:
     if named:
         made += ["", "userlist operators"]
         made += [f"    user {operator.name} password {operator.password}" for operator in named]
-    return "\n".join(made) + "\n"
+    whole = "\n".join(made) + "\n"
+    mark = f"global\n    setenv {proxy.MADE} {hashlib.sha256(whole.encode()).hexdigest()[:16]}\n"
+    return whole.replace("global\n", mark, 1)
 
 
 def process(settings: Settings) -> list[str]:

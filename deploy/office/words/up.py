@@ -4,7 +4,8 @@
 
 Writes HAProxy's configuration where it is another than before and HAProxy takes it; starts each
 shard that isn't up, one after another, and waits until it listens; starts HAProxy, or has it read
-its configuration; and sees that each shard answers through it. What is up already goes on. A shard
+its configuration, and the agent and the exporter the file; and sees that each shard answers through
+HAProxy. What is up already goes on. A shard
 whose start the clock is against is left alone (`office check --help` says when); --meant says that
 the clock is right. With two machines Pacemaker starts the shards, and while it isn't up here none of
 them is asked. Prints a line for each thing that is done."""
@@ -27,6 +28,8 @@ from office.shards import Shard
 
 # Seconds in which a shard that listens answers through HAProxy.
 PATIENCE, AGAIN = 60.0, 0.2
+# Those that read the office's file as they start; one that isn't there, or isn't up, is left alone.
+SERVICES = ("office-agent*.service", "office-measures*.service", "ocs-credited*.service")
 
 
 def add(parser: argparse.ArgumentParser) -> None:
@@ -47,7 +50,10 @@ def run(settings: Settings, arguments: argparse.Namespace) -> int:
     is_changed = proxy.put(path, text)
     print(f"{path}: {'written' if is_changed else 'as before'}")
     up = each("start", chosen, lambda shard: started(settings, shard, arguments.meant))
-    print(proxy.up(settings, is_changed), flush=True)
+    is_new = not proxy.has_read(settings, text)
+    if is_new:
+        units.systemctl("try-restart", *SERVICES)
+    print(proxy.up(settings, is_new), flush=True)
     if settings.machines and not units.is_up(pacemaker.UNIT):
         print("Pacemaker isn't up on this machine: no shard is asked")
         return 0 if up == chosen else 1

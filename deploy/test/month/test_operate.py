@@ -143,6 +143,34 @@ def test_a_unit_that_serves_something_else_changes_nothing(office: Stand) -> Non
     assert office.run("cat /etc/haproxy/haproxy.cfg") == before
 
 
+def test_up_goes_on_where_it_was_stopped(office: Stand) -> None:
+    up = "office up --shard 02"
+    assert "haproxy is up" in office.run(f"office up > /dev/null; {up}")
+    office.run("printf '[waits]\\nidle = 74\\n' >> /etc/ocs/office.toml")
+    office.run("office doors > /etc/haproxy/haproxy.cfg")
+    told = office.run(up)
+    assert "haproxy.cfg: as before\n" in told and "the unit haproxy is reloaded" in told
+    assert "haproxy is up" in office.run(up)
+
+
+def test_a_shard_more_is_known_to_who_watches(office: Stand) -> None:
+    units = "office-measures.service office-agent.socket office-agent.service"
+    office.run(f"cd deploy && cp {units} /etc/systemd/system/ && systemctl daemon-reload")
+    office.run("systemctl start office-measures office-agent.socket")
+    measures = (
+        "curl -sS --retry 40 --retry-connrefused --retry-delay 1 http://127.0.0.1:8405/metrics"
+    )
+    asked = "curl -sS http://127.0.0.1:8081/office/agent/shards"
+    assert 'ocs_shard_up{shard="05"}' not in office.run(measures)
+    assert '"shard":"05"' not in office.run(asked)
+    office.run("sed -i 's/^more = .*/more = 1/' /etc/ocs/office.toml; office new-shard 05")
+    office.run("office up", None)
+    assert 'ocs_shard_up{shard="05"} 1' in office.run(measures)
+    assert '"shard":"05"' in office.run(asked)
+    office.run("systemctl stop office-measures")
+    assert office.run("systemctl is-failed office-measures", None).strip() == "inactive"
+
+
 def test_a_shard_ahead_of_the_clock_is_refused_before_it_is_stopped(office: Stand) -> None:
     home = office.home("49151")
     later = now() + 3_000_000
