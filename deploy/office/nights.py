@@ -35,6 +35,7 @@ def make(settings: Settings) -> pathlib.Path:
         for shard in shown("copy", shards.of(settings)):
             copies.copy(settings, shard, part / f"{shard}.db", is_only_read=True)
         write_sums(part)
+    disk.sync(place)
     return made
 
 
@@ -49,7 +50,6 @@ def whole(night: pathlib.Path) -> Iterator[pathlib.Path]:
         part.mkdir(mode=0o700, parents=True)
         yield part
         os.replace(part, night)
-        disk.sync(night.parent)
     except BaseException:
         shutil.rmtree(part, ignore_errors=True)
         raise
@@ -88,6 +88,9 @@ def send(settings: Settings) -> list[str]:
             continue
         with whole(elsewhere / night.name) as part:
             shutil.copytree(night, part, dirs_exist_ok=True)
+            # The other place may be of another machine: its files are synced, its folders may not be.
+            for each in part.iterdir():
+                disk.sync(each)
             if not is_whole(part):
                 raise Refused(f"{part} isn't what {night} is: the other place's disk")
         sent.append(night.name)
