@@ -114,6 +114,17 @@ def of_account(parts: Iterable[Part], account: str) -> list[Part]:
     return found
 
 
+def moved_to(settings: Settings, shard: str) -> set[str]:
+    """The accounts that moved to a shard and haven't left it since, by the archives of moves."""
+    found = set[str]()
+    for file in files(settings):
+        if file.target and shard in (file.shard, file.target):
+            with opened(file.path, is_still=True) as read:
+                those = {row["account"] for row in read.rows("SELECT account FROM accounts")}
+            found = found | those if file.target == shard else found - those
+    return found
+
+
 def keeper(parts: Iterable[Part], account: str, kind: int, name: str) -> Part | None:
     """The first archive that has a key: what was answered there was the first answer."""
     for part in parts:

@@ -8,11 +8,13 @@ from __future__ import annotations
 import os
 import pathlib
 import time
+from collections.abc import Iterator
 
 from office import copies, disk, operate, places, program, shards, spare
 from office.alone import alone, held, settle
-from office.archive import known
+from office.archive import known, past
 from office.audit import reckoned, strays
+from office.audit.findings import Finding
 from office.carry import moving, repeats
 from office.carry.plan import Plan, rows
 from office.client import compact
@@ -21,7 +23,7 @@ from office.progress import shown
 from office.scratch import scratch
 from office.settings import Settings
 from office.shards import Shard
-from office.tables import opened
+from office.tables import Database, opened
 
 THERE = {"Refusal": "O1"}
 DONE = 2001
@@ -41,7 +43,7 @@ def shard(settings: Settings, one: Shard, is_audited: bool, may_wait: bool) -> N
         if settings.machines and not may_wait:
             unrepeated(settings, one, made[0])
         if is_audited:
-            audited(made[0])
+            audited(settings, made[0])
         with opened(made[0]) as read:
             keys, since = known.of_copy(read), read.last_moment
     seconds = EACH * plan.count()
@@ -88,13 +90,25 @@ def unrepeated(settings: Settings, one: Shard, database: pathlib.Path) -> None:
         )
 
 
-def audited(copy: pathlib.Path) -> None:
+def audited(settings: Settings, copy: pathlib.Path) -> None:
     """Refuses a copy of which an audit finds something."""
     with opened(copy) as read:
         found = [*strays.findings(copy.stem, read), *reckoned.findings(copy.stem, read)]
+        found += forgotten(settings, copy.stem, read)
     if found:
         told = "\n  ".join(map(str, found[:MOST]))
         raise Refused(f"the audit has {len(found)} findings (--unaudited carries it):\n  {told}")
+
+
+def forgotten(settings: Settings, shard: str, read: Database) -> Iterator[Finding]:
+    """Accounts that moved to a shard, and live elsewhere by the file of moved accounts: without their
+    lines there a carry would leave them behind."""
+    homes, moved = shards.Homes(settings), past.moved_to(settings, shard)
+    for row in read.rows("SELECT account FROM accounts ORDER BY account"):
+        home = str(homes.home(row["account"]))
+        if row["account"] in moved and home != shard:
+            what = f"moved here by its archive, and lives in {home} by {settings.office.moved}"
+            yield Finding(shard, "accounts", row["account"], what)
 
 
 def turned(settings: Settings, one: Shard, may_wait: bool, keys: known.Filter, since: int) -> None:

@@ -127,7 +127,7 @@ def tried(
     shutil.copyfile(source, work)
     program.give(settings, work)
     operate.is_now(shard, last_moment(work))
-    gone = sorted(set(moved_here(settings, shard, work)))
+    gone = sorted(moved_here(settings, shard, work))
     if gone and not arguments.lacking:
         few = ", ".join(gone[:3]) + (", .." if len(gone) > 3 else "")
         raise Refused(f"{night}: {len(gone)} accounts that moved to shard {shard} since: {few}")
@@ -145,14 +145,10 @@ def tried(
 
 def moved_here(settings: Settings, shard: Shard, copy: pathlib.Path) -> Iterator[str]:
     """The accounts that live in a shard by their moves, and that a copy of it hasn't."""
-    asked, homes = "SELECT account FROM accounts", shards.Homes(settings)
+    homes, moved = shards.Homes(settings), past.moved_to(settings, str(shard))
     with opened(copy) as read:
-        there = {row["account"] for row in read.rows(asked)}
-    for file in past.files(settings):
-        if file.target == str(shard):
-            with opened(file.path, is_still=True) as read:
-                those = {row["account"] for row in read.rows(asked)} - there
-            yield from (account for account in those if homes.home(account) == shard)
+        there = {row["account"] for row in read.rows("SELECT account FROM accounts")}
+    yield from (account for account in moved - there if homes.home(account) == shard)
 
 
 def compare(

@@ -117,6 +117,16 @@ def test_a_copy_without_accounts_that_moved_since_is_refused(office: Stand) -> N
     assert "05 could start" in office.run("office restore 05 --drill")
 
 
+def test_a_carry_leaves_nobody_behind_whose_line_is_lost(office: Stand) -> None:
+    moved = office.run("cat /etc/ocs/moved").split()[0]
+    office.run("cp /etc/ocs/moved /tmp/moved; truncate -s 0 /etc/ocs/moved")
+    told = office.machine.run("office carry 05", 1)
+    office.run("cp /tmp/moved /etc/ocs/moved")
+    assert f"05 accounts {moved}: moved here by its archive, and lives in" in told.stderr
+    assert "waited" not in told.stderr
+    assert "05 accounts" in office.run("office carry 05")
+
+
 @pytest.mark.slow
 def test_half_a_shard_moves_while_all_are_asked(office: Stand) -> None:
     everyone = list(map(str, range(FIRST, FIRST + COUNT)))
