@@ -126,7 +126,6 @@ SELECT 'session_groups: two periods with a reservation, none without' AS rule,
     WHEN 0 THEN period_before IS NULL AND period_after IS NULL
     WHEN 1 THEN period_before IS NOT NULL AND period_after IS NOT NULL
     ELSE 0 END;
--- at an opening only if no book has the period
 SELECT 'session_groups: the periods are those of the book' AS rule,
   g.account, g.session, g.rating_group, period_before, period_after
   FROM session_groups AS g LEFT JOIN grant_books AS b USING (account, session, rating_group)
@@ -147,7 +146,6 @@ SELECT 'session_groups: the rating group is one of the book' AS rule,
 SELECT 'session_groups: a reservation is in an open session' AS rule,
   account, session, rating_group, state
   FROM session_groups JOIN sessions USING (account, session) WHERE reserved = 1 AND state <> 1;
--- not at an opening
 SELECT 'grant_books: a row for each reservation' AS rule, account, session, rating_group
   FROM session_groups LEFT JOIN grant_books USING (account, session, rating_group)
   WHERE reserved = 1 AND book IS NULL;

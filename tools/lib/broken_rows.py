@@ -332,7 +332,7 @@ ROWS = [
     ),
     ("UPDATE grant_books SET book = 0", RULES, "grant_books: the number is that of a book"),
     ("UPDATE grant_books SET book = 3", RULES, "grant_books: the number is that of a book"),
-    ("DELETE FROM grant_books", OPENED, "grant_books: a row for each reservation"),
+    ("DELETE FROM grant_books", RULES, "grant_books: a row for each reservation"),
     ("INSERT INTO grant_books VALUES ('49152', 'ended', 10, 1)", OPENED, None),
     ("UPDATE grant_books SET book = 2", OPENED, "grant_books: the book has begun"),
     ("INSERT INTO session_groups VALUES ('49151', 'live', 77, 5, 0, NULL, NULL)", OPENED, None),
@@ -348,7 +348,7 @@ ROWS = [
         '{period = "extra", tiers = [{price = 7}]}, {period = "off", tiers');
         UPDATE session_groups SET period_before = 'extra', period_after = 'extra'
         WHERE session = 'live'""",
-        OPENED,
+        RULES,
         "session_groups: the periods are those of the book",
     ),
     # sessions

@@ -21,7 +21,8 @@ use Rattle.sql_keeper.specs.declared.books.ReadBooks.{ReadBooks}
 -- ---- why it isn't opened
 
 -- the tables are those of the latest version, no rowid of theirs twice, and they keep that version
--- with the texts of a shelf; but a row is out of the rules of its table, or wrong beside another
+-- with the texts of a shelf; but a row is out of the rules of its table, or wrong beside another, or
+-- a reservation hasn't its book
 -- rule: rows-ruled.opened
 pub record HasUnruledRow (db : Database) : Type 0 where
   pub schema : db.schema ≡ schema_at latest

@@ -20,7 +20,7 @@ use Rattle.sql_rules.proofs.BesideTexts.{ahead_terms, bucket_ahead_terms, over_t
 
 -- ---- lists of lists
 
-flat_from : {X Y : Type 0} (f : X → List Y) (xs : List X) (y : Y) → Has (flat_map f xs) y →
+pub flat_from : {X Y : Type 0} (f : X → List Y) (xs : List X) (y : Y) → Has (flat_map f xs) y →
     (x : X) × Has xs x × Has (f x) y
 flat_from f [] y h = absurd h
 flat_from f (x ∷ xs) y h = elim (has_either (f x) (flat_map f xs) y h) [
@@ -28,7 +28,7 @@ flat_from f (x ∷ xs) y h = elim (has_either (f x) (flat_map f xs) y h) [
   | inr later ↦ let it = flat_from f xs y later in (it.0, inr it.1, it.2)
 ]
 
-flat_to : {X Y : Type 0} (f : X → List Y) (xs : List X) (x : X) (y : Y) → Has xs x → Has (f x) y →
+pub flat_to : {X Y : Type 0} (f : X → List Y) (xs : List X) (x : X) (y : Y) → Has xs x → Has (f x) y →
     Has (flat_map f xs) y
 flat_to f [] x y h k = absurd h
 flat_to f (z ∷ zs) x y (inl is) k =

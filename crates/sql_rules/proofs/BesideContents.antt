@@ -10,7 +10,7 @@ use Rattle.sqlite_value.specs.declared.value.Value.{Value}
 use Rattle.sqlite_value.specs.declared.value.Value.TheVariants.{Null, Int, Real, Text, Blob}
 use Rattle.sqlite_value.specs.Order.{Row, column}
 use Rattle.sqlite_trees.specs.Tree.{Trees}
-use Rattle.sqlite_schema.specs.Rules.{Fits, Keeps}
+use Rattle.sqlite_schema.specs.Rules.{Keeps}
 use Rattle.sqlite_schema.specs.declared.schema.Constraint.TheVariants.{ForeignKey}
 use Rattle.sqlite_rules.specs.Lists.{Has}
 use Rattle.sqlite_rules.proofs.ListLemmas.{all_has}
@@ -19,17 +19,16 @@ use Rattle.reserving.specs.Left.{is_open_row}
 use Rattle.sql_tables.specs.Keyed.{look}
 use Rattle.sql_tables.specs.Schema.{accounts, buckets, charges, latest, our_schema, session_groups}
 use Rattle.sql_tables.specs.Schema.{sessions}
-use Rattle.sql_rows.specs.Content.{rows_in, tables_content}
+use Rattle.sql_rows.specs.Content.{rows_in}
 use Rattle.sql_rows.specs.Values.{PeriodNames, bucket_in_row, bucket_key, charge_in_row, charge_key}
 use Rattle.sql_rows.specs.Values.{group_in_row, group_key}
 use Rattle.sql_rows.specs.Values.{head_in, nat_in, session_in_row, state_in}
 use Rattle.sql_rules.specs.Rules.{is_ruled_account, is_ruled_bucket, is_ruled_charge}
 use Rattle.sql_rules.specs.Rules.{is_ruled_session}
-use Rattle.sql_rules.specs.Ruled.{AreBeside, IsInRules, is_bucket_numbered, is_numbered}
-use Rattle.sql_rules.specs.Ruled.{is_reserved}
-use Rattle.sql_rules.specs.Tables.{AreRuled}
+use Rattle.sql_rules.specs.Ruled.{AreBeside, is_bucket_numbered, is_numbered, is_reserved}
+use Rattle.sql_rules.specs.Tables.{AreRightBy, last_kept}
 use Rattle.sql_rules.proofs.BesideRows.{AreNumbers, numbered_below, reserved_open}
-use Rattle.sql_rules.proofs.Contents.{content_ruled, rows_in_rules}
+use Rattle.sql_rules.proofs.Contents.{rows_in_rules}
 
 -- ---- values
 
@@ -50,7 +49,7 @@ first_of_five true q r s t h = refl
 first_of_five false q r s t h = absurd (cc h)
 
 -- the flag of a reservation
-flagged : (v : Value) → (nat_in v == 1) ≡ true → v ≡ Int (pos 1)
+pub flagged : (v : Value) → (nat_in v == 1) ≡ true → v ≡ Int (pos 1)
 flagged Null e = absurd (cc e)
 flagged (Int (pos n)) e = ap (λ m. Int (pos m)) (eqb-true n 1 e)
 flagged (Int (negsuc n)) e = absurd (cc e)
@@ -78,76 +77,70 @@ above n e = grind (arith, nat_tests, e)
 
 -- ---- the rows of the tables
 
-module _ (shelf : Shelf) (trees : Trees) (all : AreRuled shelf latest trees) where
-  charge_low : (r : Row) → Has (trees charges.tree) r → nat_le 1 (nat_in (column r 2)) ≡ true
-  charge_low r has =
-      (and_parts (nat_le 1 (nat_in (column r 2))) _ (first_of_six _ _ _ _ _ _
-      (all_has (λ x. IsTrue (is_ruled_charge x)) (trees charges.tree) r
-      (rows_in_rules shelf trees all 9 (omega arith)) has))).0
+module _ (shelf : Shelf) (trees : Trees) (all : AreRightBy shelf (last_kept trees) latest trees)
+  where
+    charge_low : (r : Row) → Has (trees charges.tree) r → nat_le 1 (nat_in (column r 2)) ≡ true
+    charge_low r has =
+        (and_parts (nat_le 1 (nat_in (column r 2))) _ (first_of_six _ _ _ _ _ _
+        (all_has (λ x. IsTrue (is_ruled_charge x)) (trees charges.tree) r
+        (rows_in_rules shelf trees all 9 (omega arith)) has))).0
 
-  charge_numbers : AreNumbers (trees charges.tree) 2
-  charge_numbers r has = number_of (column r 2) (charge_low r has)
+    charge_numbers : AreNumbers (trees charges.tree) 2
+    charge_numbers r has = number_of (column r 2) (charge_low r has)
 
-  bucket_numbers : AreNumbers (trees buckets.tree) 2
-  bucket_numbers r has = number_of (column r 2)
-      (and_parts (nat_le 1 (nat_in (column r 2))) _ (first_of_five _ _ _ _ _
-      (all_has (λ x. IsTrue (is_ruled_bucket x)) (trees buckets.tree) r
-      (rows_in_rules shelf trees all 2 (omega arith)) has))).0
+    bucket_numbers : AreNumbers (trees buckets.tree) 2
+    bucket_numbers r has = number_of (column r 2)
+        (and_parts (nat_le 1 (nat_in (column r 2))) _ (first_of_five _ _ _ _ _
+        (all_has (λ x. IsTrue (is_ruled_bucket x)) (trees buckets.tree) r
+        (rows_in_rules shelf trees all 2 (omega arith)) has))).0
 
-  next_buckets : AreNumbers (trees accounts.tree) 4
-  next_buckets r has = number_of (column r 4)
-      (and_parts (nat_le 1 (nat_in (column r 4))) _ (and_parts _
-      (nat_le 1 (nat_in (column r 4)) && nat_le (nat_in (column r 4)) 4_294_967_296)
-      (and_parts _ (nat_le 1 (nat_in (column r 5)) && nat_le (nat_in (column r 5)) 4_294_967_296)
-      (all_has (λ x. IsTrue (is_ruled_account x)) (trees accounts.tree) r
-      (rows_in_rules shelf trees all 1 (omega arith)) has)).0).1).0
+    next_buckets : AreNumbers (trees accounts.tree) 4
+    next_buckets r has = number_of (column r 4)
+        (and_parts (nat_le 1 (nat_in (column r 4))) _ (and_parts _
+        (nat_le 1 (nat_in (column r 4)) && nat_le (nat_in (column r 4)) 4_294_967_296)
+        (and_parts _ (nat_le 1 (nat_in (column r 5)) && nat_le (nat_in (column r 5)) 4_294_967_296)
+        (all_has (λ x. IsTrue (is_ruled_account x)) (trees accounts.tree) r
+        (rows_in_rules shelf trees all 1 (omega arith)) has)).0).1).0
 
-  next_numbers : AreNumbers (trees accounts.tree) 5
-  next_numbers r has = number_of (column r 5)
-      (and_parts (nat_le 1 (nat_in (column r 5))) _ (and_parts _
-      (nat_le 1 (nat_in (column r 5)) && nat_le (nat_in (column r 5)) 4_294_967_296)
-      (all_has (λ x. IsTrue (is_ruled_account x)) (trees accounts.tree) r
-      (rows_in_rules shelf trees all 1 (omega arith)) has)).1).0
+    next_numbers : AreNumbers (trees accounts.tree) 5
+    next_numbers r has = number_of (column r 5)
+        (and_parts (nat_le 1 (nat_in (column r 5))) _ (and_parts _
+        (nat_le 1 (nat_in (column r 5)) && nat_le (nat_in (column r 5)) 4_294_967_296)
+        (all_has (λ x. IsTrue (is_ruled_account x)) (trees accounts.tree) r
+        (rows_in_rules shelf trees all 1 (omega arith)) has)).1).0
 
-  states : AreNumbers (trees sessions.tree) 5
-  states r has = number_of (column r 5)
-      (and_parts (nat_le 1 (nat_in (column r 5))) _ (and_parts _
-      (nat_le 1 (nat_in (column r 5)) && nat_le (nat_in (column r 5)) 3)
-      (all_has (λ x. IsTrue (is_ruled_session x)) (trees sessions.tree) r
-      (rows_in_rules shelf trees all 4 (omega arith)) has)).1).0
+    states : AreNumbers (trees sessions.tree) 5
+    states r has = number_of (column r 5)
+        (and_parts (nat_le 1 (nat_in (column r 5))) _ (and_parts _
+        (nat_le 1 (nat_in (column r 5)) && nat_le (nat_in (column r 5)) 3)
+        (all_has (λ x. IsTrue (is_ruled_session x)) (trees sessions.tree) r
+        (rows_in_rules shelf trees all 4 (omega arith)) has)).1).0
 
-  module _ (keeps : Keeps ForeignKey our_schema trees) where
-    -- rule: rows-ruled.beside
-    pub rows_beside : (a : List ℕ) → AreBeside (rows_in trees a)
-    rows_beside a = record {
-      numbers = λ n e.
-          let v = there_of charge_in_row (look charges trees (charge_key a n)) e in
-          let it = numbered_below trees keeps charges
-          (inr (inr (inr (inr (inr (inr (inr (inr (inr (inl refl)))))))))) (inl refl) refl 4
-          all.beside.numbers charge_numbers next_numbers a n v.0 v.1 in
-          let low : nat_le 1 n ≡ true =
-          subst (λ w. nat_le 1 (nat_in w) ≡ true) it.number (charge_low it.own it.has) in
-          let below : nat_lt n (nat_in (column it.row 4)) ≡ true =
-          subst (λ w. nat_lt n (nat_in w) ≡ true) (sym it.is) it.below in
-          ap (λ o. is_numbered n (option_map head_in o)) it.found
-          ∙ and_from (nat_lt 0 n) (nat_lt n (nat_in (column it.row 4))) (above n low) below;
-      buckets = λ n e.
-          let v = there_of bucket_in_row (look buckets trees (bucket_key a n)) e in
-          let it = numbered_below trees keeps buckets (inr (inr (inl refl))) (inl refl) refl 3
-          all.beside.buckets bucket_numbers next_buckets a n v.0 v.1 in
-          let below : nat_lt n (nat_in (column it.row 3)) ≡ true =
-          subst (λ w. nat_lt n (nat_in w) ≡ true) (sym it.is) it.below in
-          ap (λ o. is_bucket_numbered n (option_map head_in o)) it.found ∙ below;
-      live = λ s g e.
-          let v = reserved_at (look session_groups trees (group_key a s g)) e in
-          let it = reserved_open trees keeps all.beside.reservations states a s g v.0 v.1 v.2 in
-          ap (λ o. is_open_row (option_map session_in_row o)) it.1
-          ∙ ap (λ w. is_open (state_in w)) it.2;
-    }
-
-    -- rule: rows-ruled.in-rules, rows-ruled.beside
-    pub content_beside : Fits our_schema trees → IsInRules shelf (tables_content trees)
-    content_beside fits = record {
-      each = content_ruled shelf trees fits all;
-      beside = rows_beside;
-    }
+    module _ (keeps : Keeps ForeignKey our_schema trees) where
+      -- rule: rows-ruled.beside
+      pub rows_beside : (a : List ℕ) → AreBeside (rows_in trees a)
+      rows_beside a = record {
+        numbers = λ n e.
+            let v = there_of charge_in_row (look charges trees (charge_key a n)) e in
+            let it = numbered_below trees keeps charges
+            (inr (inr (inr (inr (inr (inr (inr (inr (inr (inl refl)))))))))) (inl refl) refl 4
+            all.beside.numbers charge_numbers next_numbers a n v.0 v.1 in
+            let low : nat_le 1 n ≡ true =
+            subst (λ w. nat_le 1 (nat_in w) ≡ true) it.number (charge_low it.own it.has) in
+            let below : nat_lt n (nat_in (column it.row 4)) ≡ true =
+            subst (λ w. nat_lt n (nat_in w) ≡ true) (sym it.is) it.below in
+            ap (λ o. is_numbered n (option_map head_in o)) it.found
+            ∙ and_from (nat_lt 0 n) (nat_lt n (nat_in (column it.row 4))) (above n low) below;
+        buckets = λ n e.
+            let v = there_of bucket_in_row (look buckets trees (bucket_key a n)) e in
+            let it = numbered_below trees keeps buckets (inr (inr (inl refl))) (inl refl) refl 3
+            all.beside.buckets bucket_numbers next_buckets a n v.0 v.1 in
+            let below : nat_lt n (nat_in (column it.row 3)) ≡ true =
+            subst (λ w. nat_lt n (nat_in w) ≡ true) (sym it.is) it.below in
+            ap (λ o. is_bucket_numbered n (option_map head_in o)) it.found ∙ below;
+        live = λ s g e.
+            let v = reserved_at (look session_groups trees (group_key a s g)) e in
+            let it = reserved_open trees keeps all.beside.reservations states a s g v.0 v.1 v.2 in
+            ap (λ o. is_open_row (option_map session_in_row o)) it.1
+            ∙ ap (λ w. is_open (state_in w)) it.2;
+      }

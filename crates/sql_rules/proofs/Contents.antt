@@ -50,7 +50,7 @@ use Rattle.sql_rules.specs.Rules.{is_ruled_voucher}
 use Rattle.sql_rules.specs.Ruled.{AreInRules, AreTimely, IsInRulesBy, is_account}
 use Rattle.sql_rules.specs.Ruled.{is_answer, is_book, is_bucket}
 use Rattle.sql_rules.specs.Ruled.{is_charge, is_counter, is_group, is_session, is_voucher}
-use Rattle.sql_rules.specs.Tables.{AreRuled, last_kept, table_at}
+use Rattle.sql_rules.specs.Tables.{AreRightBy, last_kept, table_at}
 use Rattle.sql_rules.proofs.Decoded.{account_told, answer_told, book_told, bucket_told, charge_told}
 use Rattle.sql_rules.proofs.Decoded.{counter_told, covered_told, grant_book_told, group_told}
 use Rattle.sql_rules.proofs.Decoded.{hold_told, meta_told, number_key, session_told}
@@ -113,8 +113,8 @@ by_from : (n last : ℕ) → nat_le n last ≡ true → n ≤ last
 by_from n last e = grind (arith, nat_tests, e)
 
 -- each row is in its rules
-pub rows_in_rules : (shelf : Shelf) (trees : Trees) → AreRuled shelf latest trees → (at : ℕ)
-    → at < 14 → AllByRecursion (λ r. IsTrue (rule_at shelf at r)) (trees (table_at at).tree)
+pub rows_in_rules : (shelf : Shelf) (trees : Trees)
+    → AreRightBy shelf (last_kept trees) latest trees → (at : ℕ) → at < 14 → AllByRecursion (λ r. IsTrue (rule_at shelf at r)) (trees (table_at at).tree)
 rows_in_rules shelf trees all at low =
     all_weaker (λ r. IsTrue (passes_at shelf (last_kept trees) at r))
     (λ r. IsTrue (rule_at shelf at r))
@@ -126,7 +126,7 @@ record HasRows (shelf : Shelf) (trees : Trees) (at : ℕ) : Type 0 where
   pub rows : AllByRecursion (λ r. IsTrue (rule_at shelf at r)) (trees (table_at at).tree)
 
 module _ (shelf : Shelf) (trees : Trees) (fits : Fits our_schema trees)
-    (all : AreRuled shelf latest trees) where
+    (all : AreRightBy shelf (last_kept trees) latest trees) where
   abbrev last : ℕ
   last = last_kept trees
 

@@ -8,6 +8,10 @@ pub mod Contents
 pub mod Decoded
 pub mod Encoded
 pub mod Ends
+pub mod GrantContents
+pub mod GrantQuery
+pub mod GrantTexts
+pub mod GrantTold
 pub mod KeptRules
 pub mod Lookups
 pub mod MappedPuts

@@ -339,24 +339,28 @@ module _ (shelf : Shelf) (trees : Trees) (fits : Fits our_schema trees) where
     each = λ at low.
         let is = keyed at low in
         rows_mapped (table_at at) is.tabled is.listed is.guarding trees fits
-        (all.each at low).stored (passes_at shelf (last_kept trees) at)
-        (free_rule shelf (last_kept trees) at) (all.each at low).rows;
-    beside = all.beside;
+        (all.right.each at low).stored (passes_at shelf (last_kept trees) at)
+        (free_rule shelf (last_kept trees) at) (all.right.each at low).rows;
+    beside = all.right.beside;
+    granted = all.granted (omega arith);
   }
 
   -- and what is so under its key is a row in its rules
   pub mapped_ruled : AreStored trees → AreMapped shelf trees → AreRuled shelf latest trees
   mapped_ruled stored so = record {
-    each = λ at low.
-        let is = keyed at low in
-        let here : IsStored (trees (table_at at).tree) =
-        all_has (λ (t : Table). IsStored (trees t.tree)) our_schema.tables (table_at at) stored
-        is.tabled in
-        record {
-          stored = here;
-          rows = mapped_rows (table_at at) is.tabled is.listed is.guarding trees fits here
-              (passes_at shelf (last_kept trees) at) (free_rule shelf (last_kept trees) at)
-              (so.each at low) (full_rows (table_at at) is);
-        };
-    beside = so.beside;
+    right = record {
+      each = λ at low.
+          let is = keyed at low in
+          let here : IsStored (trees (table_at at).tree) =
+          all_has (λ (t : Table). IsStored (trees t.tree)) our_schema.tables (table_at at) stored
+          is.tabled in
+          record {
+            stored = here;
+            rows = mapped_rows (table_at at) is.tabled is.listed is.guarding trees fits here
+                (passes_at shelf (last_kept trees) at) (free_rule shelf (last_kept trees) at)
+                (so.each at low) (full_rows (table_at at) is);
+          };
+      beside = so.beside;
+    };
+    granted = λ late. so.granted;
   }

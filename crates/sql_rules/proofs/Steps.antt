@@ -209,6 +209,17 @@ tells_not P W part a b e r is f = subst (Tells W a b) (sym is) (record {
   survives = f.survives;
 })
 
+-- what was found says more
+pub tells_more : {A : Type 0} (P W : Trees → Type 0) → ((t : Trees) → P t → W t)
+    → (a b : State) (u : A) → Tells P a b (Ok u) → Tells W a b (Ok u)
+tells_more P W more a b u f = record {
+  found = λ clean. let it = f.found clean in (it.0, more b.now.trees it.1);
+  means = λ clean. tt;
+  told = tt;
+  spares = f.spares;
+  survives = f.survives;
+}
+
 -- the schema stays after one that answered
 pub ours_then : {A : Type 0} (P : Trees → Type 0) (v : ℕ) (a b : State) (u : A)
     → Tells P a b (Ok u) → (HasCleanDisk a → a.now.schema ≡ schema_at v) → HasCleanDisk b

@@ -48,6 +48,7 @@ use Rattle.sql_rules.specs.Columns.{is_moment}
 use Rattle.sql_rules.specs.Rules.{is_ruled_meta, is_timely_at, passes_at, rule_at}
 use Rattle.sql_rules.specs.Beside.{differs, is_ahead, is_bucket_ahead, is_equal, is_from}
 use Rattle.sql_rules.specs.Beside.{lacks_open_session}
+use Rattle.sql_rules.specs.GrantRows.{HaveBooks}
 use Rattle.sql_rules.specs.Ruled.{IsInRules, is_bucket_numbered, is_numbered, is_reserved}
 use Rattle.sql_rules.specs.Tables.{AreEachRuled, AreRuled, last_kept, table_at}
 use Rattle.sql_rules.proofs.BesideRows.{behind, compared, differs_told, equals_text, from_told}
@@ -64,7 +65,7 @@ use Rattle.sql_rules.proofs.Typed.{check_at, number_column, text_column, typed_c
 abbrev right : Row → Term → Bool
 right row t = not (is_false (eval t ([] ∷ row ∷ [])))
 
-checked : (table : Table) (row : Row) (i : ℕ) → i < length table.checks
+pub checked : (table : Table) (row : Row) (i : ℕ) → i < length table.checks
     → passes_checks table row ≡ true → right row (get_or table.checks i (at_least_zero 1)) ≡ true
 checked table row i low h = check_at (right row) table.checks i (at_least_zero 1) low h
 
@@ -136,7 +137,7 @@ module _ (shelf : Shelf) (trees : Trees) (fits : Fits our_schema trees) where
   abbrev pub Stands : ℕ → Row → Type 0
   Stands at r = Has (trees (table_at at).tree) r
 
-  full : (at : ℕ) (low : at < 14) (r : Row) → Stands at r
+  pub full : (at : ℕ) (low : at < 14) (r : Row) → Stands at r
       → AllByRecursion (λ p. is_null (column r p) ≡ false) (table_at at).primary
   full at low r has = full_rows shelf trees fits (table_at at) (keyed at low) r has
 
@@ -150,7 +151,7 @@ module _ (shelf : Shelf) (trees : Trees) (fits : Fits our_schema trees) where
       text_column trees fits (table_at at) (keyed at low) r has (keyed at low).alone k none_named
       inside there kinds
 
-  number_there : (at : ℕ) (low : at < 14) (r : Row) → Stands at r → (k : ℕ)
+  pub number_there : (at : ℕ) (low : at < 14) (r : Row) → Stands at r → (k : ℕ)
       → k < length (table_at at).columns → is_null (column r (suc k)) ≡ false
       → ((v : Value) → suits (get_or (table_at at).columns k none_named) v ≡ true
       → is_of kind.Integer v ≡ true)
@@ -581,12 +582,15 @@ module _ (shelf : Shelf) (trees : Trees) (fits : Fits our_schema trees) where
               (subst (λ v. differs v (nat 1) ≡ true) w5 parts.1))
 
       -- rule: rows-ruled.in-rules, rows-ruled.beside
-      pub rows_ruled : AreRuled shelf latest trees
-      rows_ruled = record {
-        each = each_ruled;
-        beside = record {
-          numbers = none_ahead;
-          buckets = none_bucket_ahead;
-          reservations = none_over;
+      pub rows_ruled : HaveBooks shelf trees → AreRuled shelf latest trees
+      rows_ruled have = record {
+        right = record {
+          each = each_ruled;
+          beside = record {
+            numbers = none_ahead;
+            buckets = none_bucket_ahead;
+            reservations = none_over;
+          };
         };
+        granted = λ late. have;
       }

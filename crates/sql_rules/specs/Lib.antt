@@ -1,5 +1,7 @@
 pub mod Beside
 pub mod Columns
+pub mod GrantContent
+pub mod GrantRows
 pub mod Mapped
 pub mod Ruled
 pub mod Rules

@@ -10,6 +10,7 @@ use Rattle.sqlite_schema.specs.declared.schema.Table.{Table}
 use Rattle.sql_tables.specs.Keyed.{look}
 use Rattle.sql_tables.specs.Schema.{our_schema}
 use Rattle.sql_rules.specs.Beside.{AreRightBeside}
+use Rattle.sql_rules.specs.GrantRows.{HaveBooks}
 use Rattle.sql_rules.specs.Rules.{passes_at}
 use Rattle.sql_rules.specs.Tables.{last_kept, table_at}
 
@@ -20,9 +21,11 @@ abbrev pub IsMapped : (Row → Bool) → Table → Trees → Type 0
 IsMapped rule table trees =
     (key cells : Row) → look table trees key ≡ Some cells → IsTrue (rule (Null ∷ cells))
 
--- in each table of the latest version, and none is wrong beside a row of another table
--- rule: rows-ruled.mapped, rows-ruled.beside
+-- in each table of the latest version; none is wrong beside a row of another table, and each
+-- reservation has its book
+-- rule: rows-ruled.mapped, rows-ruled.beside, rows-ruled.granted
 pub record AreMapped (shelf : Shelf) (trees : Trees) : Type 0 where
   pub each : (at : ℕ) → at < length our_schema.tables
       → IsMapped (passes_at shelf (last_kept trees) at) (table_at at) trees
   pub beside : AreRightBeside trees
+  pub granted : HaveBooks shelf trees

@@ -23,6 +23,7 @@ use Rattle.sql_rows.specs.Values.{BookRow, Group, Kept, Meta, answer_values}
 use Rattle.sql_rows.specs.Values.{book_values, counter_cells, covered_cells, grant_book_values}
 use Rattle.sql_rows.specs.Values.{group_cells, head_values, hold_values, meta_values, money_cells}
 use Rattle.sql_rows.specs.Values.{number_cells, priced_cells, session_cells, voucher_values}
+use Rattle.sql_rules.specs.GrantContent.{AreOfBooks}
 use Rattle.sql_rules.specs.Rules.{is_ruled_account, is_ruled_allowance, is_ruled_answer}
 use Rattle.sql_rules.specs.Rules.{is_ruled_book, is_ruled_book_of, is_ruled_bucket, is_ruled_charge}
 use Rattle.sql_rules.specs.Rules.{is_ruled_counter, is_ruled_covered, is_ruled_grant_book}
@@ -160,7 +161,8 @@ pub record AreBeside (r : TableRows) : Type 0 where
 
 -- rule: rows-ruled.in-rules: if rows are in their rules, so is the content of the tables; and rows
 --   whose content is in its rules are in theirs, if they are as the statements write them
--- rule: rows-ruled.timely, rows-ruled.beside
+-- rule: rows-ruled.timely, rows-ruled.beside, rows-ruled.granted
 pub record IsInRules (shelf : Shelf) (c : TablesContent) : Type 0 where
   pub each : IsInRulesBy shelf (last_in c.meta) c
   pub beside : (a : AccountName) → AreBeside (c.rows a)
+  pub granted : (a : AccountName) → AreOfBooks shelf (c.rows a)

@@ -1,6 +1,6 @@
 -- Tables whose rows are in their rules.
 -- Source: profile.
-use Rattle.std.specs.Prelude.{◌≡◌, ◌<◌, ℕ, zero, suc, List, [], ◌∷◌, map, length}
+use Rattle.std.specs.Prelude.{◌≡◌, ◌<◌, ◌≤◌, ℕ, zero, suc, List, [], ◌∷◌, map, length}
 use Rattle.std.specs.Prelude.{slice_index_or}
 use Rattle.std.specs.Prelude.{None, pos, negsuc, false, IsTrue, Result, IfErr, OnOk}
 use Rattle.std.specs.List.{AllByRecursion}
@@ -24,6 +24,7 @@ use Rattle.sql_tables.specs.Statements.{Spares}
 use Rattle.sql_tables.specs.declared.fault.OpenFault.{OpenFault}
 use Rattle.sql_tables.specs.declared.fault.OpenFault.TheVariants.{Foreign, Version, Rules, Older}
 use Rattle.sql_rules.specs.Beside.{AreRightBeside}
+use Rattle.sql_rules.specs.GrantRows.{HaveBooks}
 use Rattle.sql_rules.specs.Rules.{passes_at}
 use Rattle.sql_rules.specs.Ruled.{last_in}
 
@@ -48,16 +49,22 @@ AreEachRuled shelf last v trees = AreRuledTo shelf last (length (schema_at v).ta
 
 -- and none is wrong beside a row of another table
 -- rule: rows-ruled.beside
-pub record AreRuledBy (shelf : Shelf) (last : Moment) (v : ℕ) (trees : Trees) : Type 0 where
+pub record AreRightBy (shelf : Shelf) (last : Moment) (v : ℕ) (trees : Trees) : Type 0 where
   pub each : AreEachRuled shelf last v trees
   pub beside : AreRightBeside trees
+
+-- and from version 2 on, each reservation has its book
+-- rule: rows-ruled.granted
+pub record AreRuledBy (shelf : Shelf) (last : Moment) (v : ℕ) (trees : Trees) : Type 0 where
+  pub right : AreRightBy shelf last v trees
+  pub granted : 2 ≤ v → HaveBooks shelf trees
 
 -- the last moment that is kept there
 abbrev pub last_kept : Trees → Moment
 last_kept trees = last_in (tables_content trees).meta
 
 -- of all tables of a version, by the last moment that they keep
--- rule: rows-ruled, rows-ruled.timely, rows-ruled.beside
+-- rule: rows-ruled, rows-ruled.timely, rows-ruled.beside, rows-ruled.granted
 abbrev pub AreRuled : Shelf → ℕ → Trees → Type 0
 AreRuled shelf v trees = AreRuledBy shelf (last_kept trees) v trees
 

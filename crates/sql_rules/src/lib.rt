@@ -8,6 +8,7 @@ mod laws;
 mod names;
 mod pairs;
 mod periods;
+mod reservations;
 mod rows;
 mod ruling;
 mod walking;

@@ -17,7 +17,7 @@ fn is_text(text: &str, name: &[u8]) -> bool
 }
 
 /// Whether a period of the book has this name.
-fn is_named(book: &TariffBook, name: &[u8]) -> bool
+pub(crate) fn is_named(book: &TariffBook, name: &[u8]) -> bool
     requires { IsBook book.now }
     ensures { result ≡ is_some (period_named book.now.periods name.now) }
 {

@@ -50,6 +50,7 @@ become text code terms t last ruled old new later turns = record {
   rules = λ shelf there in'. subst (IsInRules shelf) (sym turns.content) (record {
     each = addition_ruled shelf (tables_content old) there in' text code terms t later ruled;
     beside = in'.beside;
+    granted = in'.granted;
   });
   stands = record {
     tabled = record { catalog = turns.catalog; stored = turns.stored; plain = turns.plain };

@@ -40,6 +40,7 @@ use Rattle.sql_keeper.specs.Writes.{AreTexts, columns_of, head_columns_of, meta_
 use Rattle.sql_keeper.specs.Writes.{with_all_counted, with_all_paid, with_book_of, with_counted}
 use Rattle.sql_keeper.specs.Writes.{with_held_group, with_kept, with_paid, with_redeemed}
 use Rattle.sql_keeper.specs.Writes.{with_change_put, with_scoped, with_stored, with_texts}
+use Rattle.sql_keeper.proofs.rules.OwnBooks.{AreAllOfBooks, books_change}
 use Rattle.sql_keeper.proofs.rules.Tidy.{AreAllBeside}
 use Rattle.sql_keeper.proofs.rules.TidyChanges.{beside_change, tidy_change}
 use Rattle.sql_keeper.proofs.commits.Changed.{changes_read}
@@ -158,6 +159,12 @@ module _ (names : Names) (text : List ℕ) (change : Change) (texts : Option Kep
           beside = subst AreAllBeside (sym turns.content)
               (beside_change names (meta_with text change) change texts (tables_content old) named
               may told in'.beside);
+          granted = subst (AreAllOfBooks shelf) (sym turns.content)
+              (subst (λ n. AreAllOfBooks shelf
+              (with_change n (meta_with text change) change texts (tables_content old))) (sym is)
+              (books_change shelf (meta_with text change) change texts (tables_content old) named
+              (subst (λ n. MayBeMade n change (rows_in old change.number)) is may) told
+              in'.granted));
         };
         stands = record {
           tabled = record { catalog = turns.catalog; stored = turns.stored; plain = turns.plain };

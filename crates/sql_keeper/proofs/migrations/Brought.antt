@@ -29,7 +29,8 @@ use Rattle.sql_rows.specs.Ruled.{AreRuledBooks, AreRuledReserved, IsMetaOther, I
 use Rattle.sql_rows.specs.Texts.{book_at, meta_of}
 use Rattle.sql_rows.specs.Values.{Meta}
 use Rattle.sql_rules.specs.Ruled.{IsInRules}
-use Rattle.sql_rules.specs.Tables.{AreRuled}
+use Rattle.sql_rules.specs.GrantRows.{HaveBooks}
+use Rattle.sql_rules.specs.Tables.{AreRightBy, AreRuled, last_kept}
 use Rattle.sql_rows.specs.declared.book_rows.BookColumns.{BookColumns}
 use Rattle.sql_rows.specs.declared.meta_rows.MetaColumns.{MetaColumns}
 use Rattle.sql_tables.specs.Opens.{IsNoVersion, IsVersion}
@@ -48,7 +49,8 @@ use Rattle.sql_keeper.specs.Shelves.{HasShelf, IsNoShelf, IsShelfOf, IsShelfRead
 use Rattle.sql_keeper.specs.declared.books.ReadBooks.{ReadBooks}
 use Rattle.sql_keeper.proofs.migrations.Migrated.{becomes_latest, kept_content, left_latest}
 use Rattle.sql_keeper.proofs.migrations.Migrated.{meta_at, moment_latest, shelf_latest, with_latest}
-use Rattle.sql_keeper.proofs.migrations.MigratedRules.{latest_plain, latest_ruled, ruled_since}
+use Rattle.sql_keeper.proofs.migrations.MigratedRules.{alone_before, books_since, latest_plain}
+use Rattle.sql_keeper.proofs.migrations.MigratedRules.{latest_ruled, ruled_since}
 use Rattle.sql_keeper.proofs.shelf.OneShelf.{same_shelf}
 use Rattle.sql_keeper.proofs.shelf.Shelved.{shelf_ruled}
 
@@ -359,12 +361,25 @@ module _ (v : ℕ) (known : IsVersion v) (less : v < latest) (old mid : State) (
       (last : m.last ≤ 4_102_488_000) (utf8 : IsUtf8 (string_bytes m.book))
       (ruled : HasRuledRows v old) where
     -- each row is in the rules of the latest version, once its tables are made
-    rows_made : HasCleanDisk mid → AreRuled b.own latest mid.now.trees
+    rows_before : HasCleanDisk mid → AreRuled b.own v old.now.trees
+    rows_before before =
+        ruled (omega (arith, read.meta.has.survives.clean, before))
+        (read.meta.has.made before).shows.was_open (meta_of m) b.own (read.meta.is before)
+        (shelf_at b.own shelf before)
+
+    rows_made : HasCleanDisk mid
+        → AreRightBy b.own (last_kept mid.now.trees) latest mid.now.trees
     rows_made before =
         let made = read.meta.has.made before in
         ruled_since b.own old.now.trees mid.now.trees v known less (made.rows, made.empty)
-        (ruled (omega (arith, read.meta.has.survives.clean, before)) made.shows.was_open
-        (meta_of m) b.own (read.meta.is before) (shelf_at b.own shelf before))
+        (rows_before before)
+
+    -- and each reservation has its book, where the version has the numbers of books
+    books_made : HasCleanDisk mid → 2 ≤ v → HaveBooks b.own mid.now.trees
+    books_made before =
+        let made = read.meta.has.made before in
+        books_since b.own old.now.trees mid.now.trees v known less (made.rows, made.empty)
+        (rows_before before)
 
     meta_made : HasCleanDisk mid → (tables_content mid.now.trees).meta ≡ Some (meta_of m)
     meta_made before =
@@ -407,7 +422,8 @@ module _ (v : ℕ) (known : IsVersion v) (less : v < latest) (old mid : State) (
           let books = shelf_latest v known less old.now.trees mid.now.trees new.now.trees
           (meta_of m) kept (read.meta.is before) made.sound.lists turns b.own at in
           let rules = latest_ruled b.own v mid.now.trees new.now.trees (meta_of m)
-          (rows_made before) (meta_made before) turns made.sound.obeys in
+          (rows_made before) (meta_made before) turns made.sound.obeys
+          (alone_before v known old.now.trees (string_bytes m.book) b.own at) (books_made before) in
           record {
             left = subst (λ t. IsLeftRuled t new.now.trees) same (record {
               left = left_latest v known less old.now.trees mid.now.trees new.now.trees (meta_of m)

@@ -1,15 +1,16 @@
 -- The rows of an older version are in the rules of the latest once the tables that it hasn't are
 -- made.
-use Rattle.std.proofs.Common.{◌≡◌, ◌<◌, ◌⊎◌, inl, inr, ℕ, zero, suc, List, [], ◌∷◌, ◌++◌, length}
-use Rattle.std.proofs.Common.{Option, Some, Bool, true, false, refl, sym, ap, subst, arith, IsTrue}
+use Rattle.std.proofs.Common.{◌≡◌, ◌<◌, ◌≤◌, ◌⊎◌, inl, inr, ℕ, zero, suc, List, [], ◌∷◌, ◌++◌, length}
+use Rattle.std.proofs.Common.{Option, None, Some, Bool, true, false, refl, sym, ap, subst, arith, IsTrue}
 use Rattle.std.proofs.Common.{◌∙◌}
 use Rattle.std.specs.Prelude.{if◌then◌else◌, is_some, nat_le, option_map, slice_index_or}
 use Rattle.std.proofs.lemmas.Bool.Decides.{nat_tests}
 use Rattle.std.specs.List.{AllByRecursion}
 use Rattle.shelves.specs.Shelves.{Shelf, count}
+use Rattle.shelves.specs.declared.dated.DatedBook.{DatedBook}
 use Rattle.sqlite_trees.specs.Tree.{Trees}
 use Rattle.sqlite_rules.specs.Lists.{Has}
-use Rattle.sqlite_schema.specs.Rules.{Obeys}
+use Rattle.sqlite_schema.specs.Rules.{Fits, Obeys}
 use Rattle.sqlite_schema.specs.declared.schema.Constraint.TheVariants.{ForeignKey}
 use Rattle.sqlite_schema.specs.declared.schema.Table.{Table}
 use Rattle.sqlite_catalog.specs.Change.{KeepsRows}
@@ -21,17 +22,24 @@ use Rattle.sql_tables.specs.Stages.{AreEmpty, tables_between}
 use Rattle.sql_rows.specs.Content.{TablesContent, TableRows, tables_content}
 use Rattle.sql_rows.specs.Makes.{Turns}
 use Rattle.sql_rows.specs.Plain.{ArePlain}
-use Rattle.sql_rows.specs.Values.{Meta, meta_in, meta_key}
+use Rattle.sql_rows.specs.Values.{BookRow, Meta, meta_in, meta_key}
+use Rattle.sql_rows.specs.Values as values
 use Rattle.sql_rules.specs.Columns.{is_in_bounds}
 use Rattle.sql_rules.specs.Rules.{passes_at}
 use Rattle.sql_rules.specs.Beside.{AreRightBeside}
 use Rattle.sql_rules.specs.Ruled.{AreBeside, AreInRules, IsInRules, IsInRulesBy, last_in}
-use Rattle.sql_rules.specs.Tables.{AreRuled, AreRuledTo, IsRuledAt, last_kept, table_at}
-use Rattle.sql_rules.proofs.BesideContents.{content_beside}
+use Rattle.sql_rules.specs.GrantRows.{HaveBooks}
+use Rattle.sql_rules.specs.Tables.{AreRightBy, AreRuled, AreRuledTo, IsRuledAt, last_kept, table_at}
+use Rattle.sql_rules.proofs.BesideContents.{rows_beside}
+use Rattle.sql_rules.proofs.Contents.{content_ruled}
+use Rattle.sql_rules.proofs.GrantContents.{rows_of_books}
 use Rattle.sql_rules.proofs.KeptRules.{meta_kept}
 use Rattle.sql_keeper.specs.Content.{is_reserved}
-use Rattle.sql_keeper.specs.Migrates.{granted_in, with_granted}
+use Rattle.sql_keeper.specs.Migrates.{content_at, granted_in, trees_at, with_granted}
+use Rattle.sql_keeper.specs.Shelves.{AreLater, IsDatedAt, IsShelfOf}
+use Rattle.sql_keeper.proofs.openings.Empty.{none_stored}
 use Rattle.sql_keeper.proofs.migrations.Migrated.{AreKept, with_latest}
+use Rattle.sql_keeper.proofs.rules.OwnBooks.{books_granted}
 use Rattle.sql_keeper.proofs.rules.PlainRows.{rows_plain}
 
 -- the table at a place of a list keeps its rows, or has none
@@ -123,24 +131,65 @@ module _ (shelf : Shelf) (old mid : Trees) where
   -- those of each older version
   -- rule: database-migrated.ruled-version
   pub ruled_since : (v : ℕ) → IsVersion v → v < latest → AreKept v old mid → AreRuled shelf v old →
-      AreRuled shelf latest mid
+      AreRightBy shelf (last_kept mid) latest mid
   ruled_since zero known less kept all = absurd (omega (arith, known.0))
   ruled_since (suc zero) known less kept all = record {
     each = ruled_by_last (schema_at 1).tables
         (tables_between (length (pieces_to 1)) (length (pieces_to latest))) refl kept.0.0 kept.0
-        kept.1 all.each;
+        kept.1 all.right.each;
     beside = still_beside kept.0.1.0 kept.0.1.1.0 kept.0.1.1.1.1.1.1.1.1.1.0 kept.0.1.1.1.1.1.0
-        kept.0.1.1.1.1.0 all.beside;
+        kept.0.1.1.1.1.0 all.right.beside;
   }
   ruled_since (suc (suc zero)) known less kept all = record {
     each = ruled_by_last (schema_at 2).tables
         (tables_between (length (pieces_to 2)) (length (pieces_to latest))) refl kept.0.0 kept.0
-        kept.1 all.each;
+        kept.1 all.right.each;
     beside = still_beside kept.0.1.0 kept.0.1.1.0 kept.0.1.1.1.1.1.1.1.1.1.0 kept.0.1.1.1.1.1.0
-        kept.0.1.1.1.1.0 all.beside;
+        kept.0.1.1.1.1.0 all.right.beside;
   }
   ruled_since (suc (suc (suc n))) known less kept all =
       let low : suc (suc (suc n)) < 3 = less in absurd (omega (arith, low))
+
+-- ---- books of reservations
+
+module _ (shelf : Shelf) (old mid : Trees) where
+  still_books : mid table.session_groups.tree ≡ old table.session_groups.tree
+      → mid table.grant_books.tree ≡ old table.grant_books.tree → HaveBooks shelf old
+      → HaveBooks shelf mid
+  still_books groups grants have = record {
+    there = λ r h e.
+        let it = have.there r (subst (λ rows. Has rows r) groups h) e in
+        (it.0, subst (λ rows. Has rows it.0) (sym grants) it.1, it.2);
+    periods = λ r s h e k o. have.periods r s (subst (λ rows. Has rows r) groups h) e
+        (subst (λ rows. Has rows s) grants k) o;
+  }
+
+  -- where the version has the numbers of books
+  -- rule: database-migrated.ruled-version
+  pub books_since : (v : ℕ) → IsVersion v → v < latest → AreKept v old mid → AreRuled shelf v old
+      → 2 ≤ v → HaveBooks shelf mid
+  books_since zero known less kept all late = absurd (omega (arith, late))
+  books_since (suc zero) known less kept all late = absurd (omega (arith, late))
+  books_since (suc (suc zero)) known less kept all late =
+      still_books kept.0.1.1.1.1.1.0 kept.0.1.1.1.1.1.1.1.1.1.1.1.0 (all.granted late)
+  books_since (suc (suc (suc n))) known less kept all late =
+      let low : suc (suc (suc n)) < 3 = less in absurd (omega (arith, low))
+
+-- no later book is one of a row that isn't there
+none_later : (rows : ℕ → Option BookRow) (n : ℕ) (ds : List DatedBook) → rows n ≡ None
+    → AreLater rows n ds → ds ≡ []
+none_later rows n [] none later = refl
+none_later rows n (d ∷ ds) none later = absurd (subst (λ o. IsDatedAt o d) none later.0)
+
+-- before version 2 the first book is alone
+pub alone_before : (v : ℕ) → IsVersion v → (trees : Trees) (text : List ℕ) (s : Shelf)
+    → IsShelfOf text (content_at v trees).books s → v < 2 → s.later ≡ []
+alone_before zero known trees text s is early = absurd (omega (arith, known.0))
+alone_before (suc zero) known trees text s is early =
+    none_later (content_at 1 trees).books 2 s.later
+    (ap (option_map values.book_in_row)
+    (none_stored table.books (trees_at 1 trees) refl (values.book_key 2))) is.later
+alone_before (suc (suc n)) known trees text s is early = absurd (omega (arith, early))
 
 -- ---- the number of the first book for each reservation
 
@@ -203,23 +252,29 @@ granted_meta false c = refl
 
 -- ---- what a migration leaves
 
-module _ (shelf : Shelf) (v : ℕ) (mid new : Trees) (m : Meta) (all : AreRuled shelf latest mid)
+module _ (shelf : Shelf) (v : ℕ) (mid new : Trees) (m : Meta)
+    (all : AreRightBy shelf (last_kept mid) latest mid)
     (is : (tables_content mid).meta ≡ Some m) (turns : Turns (with_latest v m) mid new) where
   -- rule: database-migrated.ruled-version
-  pub latest_ruled : Obeys our_schema mid → IsInRules shelf (tables_content new)
-  latest_ruled obeys =
-      let held = content_beside shelf mid all (obeys.rules ForeignKey)
-      (record { rules = λ rule other. obeys.rules rule; indexed = obeys.indexed }) in
+  pub latest_ruled : Obeys our_schema mid → (v < 2 → shelf.later ≡ [])
+      → (2 ≤ v → HaveBooks shelf mid) → IsInRules shelf (tables_content new)
+  latest_ruled obeys alone have =
+      let fits : Fits our_schema mid =
+      record { rules = λ rule other. obeys.rules rule; indexed = obeys.indexed } in
+      let each = content_ruled shelf mid fits all in
+      let beside = rows_beside shelf mid all (obeys.rules ForeignKey) in
       let given = with_granted v (tables_content mid) in
       let same = granted_meta (nat_le 2 v) (tables_content mid) ∙ is in
       let by_row : IsInRulesBy shelf m.last (tables_content mid) =
-      subst (λ o. IsInRulesBy shelf (last_in o) (tables_content mid)) is held.each in
+      subst (λ o. IsInRulesBy shelf (last_in o) (tables_content mid)) is each in
       subst (IsInRules shelf) (sym turns.content) (record {
         each = meta_kept shelf given (granted_by shelf (nat_le 2 v) (tables_content mid) by_row)
-            (record m { version = latest }) (held.each.meta m is)
+            (record m { version = latest }) (each.meta m is)
             (λ none. absurd (let some : is_some given.meta ≡ true = ap is_some same in
             let clash : true ≡ false = sym some ∙ none in cc));
-        beside = granted_beside (nat_le 2 v) (tables_content mid) held.beside;
+        beside = granted_beside (nat_le 2 v) (tables_content mid) beside;
+        granted = books_granted shelf v (tables_content mid) each.rows alone
+            (λ late. rows_of_books shelf mid fits (λ at low. (all.each at low).stored) (have late));
       })
 
   pub latest_plain : ArePlain new

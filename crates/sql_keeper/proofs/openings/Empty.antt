@@ -164,6 +164,7 @@ ruled_new shelf text = record {
     books = λ n x e. absurd (cc e);
   };
   beside = λ a. beside_nothing;
+  granted = λ a s g. refl;
 }
   where
     first : (m : Meta) → first_meta text ≡ m → is_moment m.last ≡ true

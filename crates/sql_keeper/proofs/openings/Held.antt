@@ -11,10 +11,13 @@ use Rattle.shelves.specs.declared.dated.DatedBook.{DatedBook}
 use Rattle.sqlite_trees.specs.Tree.{Trees}
 use Rattle.sqlite_trees.specs.declared.store.Store.{Ghosts}
 use Rattle.sqlite_schema.specs.Rules.{Fits}
+use Rattle.sqlite_schema.specs.declared.schema.Table.{Table}
+use Rattle.sqlite_rules.proofs.ListLemmas.{all_has}
 use Rattle.sqlite_catalog.specs.Listing.{IsSound}
 use Rattle.sqlite_catalog.proofs.ReadLemmas.{lists_once}
 use Rattle.sqlite.specs.Effect.{Database}
 use Rattle.sqlite.specs.Held.{Held, state}
+use Rattle.sql_tables.specs.Keyed.{IsStored}
 use Rattle.sql_tables.specs.Schema.{our_schema}
 use Rattle.keepers.specs.declared.loaded.Change.{Change}
 use Rattle.voucher_rules.specs.declared.terms.VoucherTerms.{VoucherTerms}
@@ -24,6 +27,9 @@ use Rattle.sql_rows.specs.Content.{tables_content}
 use Rattle.sql_rows.specs.Values.{Meta}
 use Rattle.sql_rules.specs.Columns.{is_in_bounds}
 use Rattle.sql_rules.specs.Ruled.{IsInRules, is_book}
+use Rattle.sql_rules.specs.Tables.{table_at}
+use Rattle.sql_rules.proofs.GrantContents.{books_of_rows}
+use Rattle.sql_rules.proofs.MappedRows.{keyed}
 use Rattle.sql_rules.proofs.Written.{rows_ruled}
 use Rattle.sql_keeper.specs.AddsBook.{BecomesDated}
 use Rattle.sql_keeper.specs.Additions.{BecomesAdded}
@@ -135,8 +141,11 @@ no_row text db left fits h =
     ap (λ (m : Meta). m.book) row ∙ left.left.kept.book in
     let is : IsShelfOf text (tables_content db.trees).books h.shelf =
     subst (λ t. IsShelfOf t (tables_content db.trees).books h.shelf) book h.books in
-    h.unruled (rows_ruled h.shelf db.trees fits left.left.stored (left.rules h.shelf is) left.plain
-    (there text db.trees left))
+    let rules = left.rules h.shelf is in
+    h.unruled (rows_ruled h.shelf db.trees fits left.left.stored rules left.plain
+    (there text db.trees left) (books_of_rows h.shelf db.trees fits
+    (λ at low. all_has (λ (t : Table). IsStored (db.trees t.tree)) our_schema.tables (table_at at)
+    left.left.stored (keyed at low).tabled) rules.granted))
 
 -- rule: stop-ruled, database-opened.not-opened
 pub found_again : {S : Type 0} (g : Ghosts S) (old new : Held S) (text : List ℕ) (fault : OpenFault)

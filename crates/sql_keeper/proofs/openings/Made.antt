@@ -14,7 +14,7 @@ use Rattle.sql_tables.specs.Statements.{HasIdleTables}
 use Rattle.sql_rows.specs.Content.{tables_content}
 use Rattle.sql_rules.specs.Ruled.{IsInRules}
 use Rattle.sql_rules.specs.Tables.{AreRuled}
-use Rattle.sql_rules.proofs.BesideContents.{content_beside}
+use Rattle.sql_rules.proofs.GrantContents.{content_in_rules}
 use Rattle.sql_tables.specs.Schema.{latest}
 use Rattle.sql_keeper.specs.Content.{last_in}
 use Rattle.sql_keeper.specs.Creates.{CreatesBook, first_meta}
@@ -108,7 +108,7 @@ pub ruled_read : (r : ReadBooks) (trees : Trees) → IsReadOf r trees → AreRul
     → IsReadRuled r trees
 ruled_read r trees read ruled = record {
   read = read;
-  rules = λ obeys. content_beside r.own trees ruled (obeys.rules ForeignKey)
+  rules = λ obeys. content_in_rules r.own trees ruled (obeys.rules ForeignKey)
       (record { rules = λ rule other. obeys.rules rule; indexed = obeys.indexed });
-  plain = rows_plain r.own trees ruled;
+  plain = rows_plain r.own trees ruled.right;
 }

@@ -14,7 +14,7 @@ use Rattle.sql_rows.specs.Values.{nat_in}
 use Rattle.sql_rules.specs.Columns.{is_in_bounds, number_at}
 use Rattle.sql_rules.specs.Rules.{are_periods, is_period, is_ruled_account, is_ruled_group}
 use Rattle.sql_rules.specs.Rules.{is_ruled_session}
-use Rattle.sql_rules.specs.Tables.{AreRuled}
+use Rattle.sql_rules.specs.Tables.{AreRightBy, last_kept}
 use Rattle.sql_rules.proofs.Contents.{rows_in_rules}
 use Rattle.sql_rules.proofs.Lookups.{found_in}
 
@@ -78,7 +78,8 @@ plain_group shelf r h =
 -- ---- the tables
 
 -- rule: stop-ruled
-pub rows_plain : (shelf : Shelf) (trees : Trees) → AreRuled shelf latest trees → ArePlain trees
+pub rows_plain : (shelf : Shelf) (trees : Trees)
+    → AreRightBy shelf (last_kept trees) latest trees → ArePlain trees
 rows_plain shelf trees all = record {
   heads = λ key cells e.
       let it = found_in accounts trees is_ruled_account (rows_in_rules shelf trees all 1 (omega arith)) (λ (v : Row). v)

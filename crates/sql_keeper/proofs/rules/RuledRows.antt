@@ -74,6 +74,7 @@ use Rattle.sql_keeper.specs.Writes.{with_all_counted, with_all_paid, with_blocks
 use Rattle.sql_keeper.specs.Writes.{with_change, with_counted, with_groups, with_held_group}
 use Rattle.sql_keeper.specs.Writes.{with_kept, with_kind, with_paid, with_redeemed, with_scoped}
 use Rattle.sql_keeper.specs.Writes.{with_stored, with_texts}
+use Rattle.sql_keeper.proofs.rules.OwnBooks.{books_more}
 use Rattle.sql_keeper.proofs.sweeps.Swept.{MayBePut}
 
 -- ---- a list of rows
@@ -507,4 +508,5 @@ module _ (shelf : Shelf) (from : ℕ) (b : Book) where
       books = in'.each.books;
     }) n (record { starts = from; content = text }) rule;
     beside = in'.beside;
+    granted = λ a. books_more shelf from b (c.rows a) (in'.granted a);
   }

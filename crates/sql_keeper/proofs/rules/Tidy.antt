@@ -402,14 +402,14 @@ module _ (names : Names) (a : List ℕ) (w : StoredRows) (cs : List ChargeRow)
       stands s g x y is has = subst (MayStand names sessions s) has
           (may_at names sessions w.groups may s g x is)
 
-  abbrev after_rows : TablesContent
+  abbrev pub after_rows : TablesContent
   after_rows = opened a (over_stored names w) (with_meta m c)
 
   -- the head of the account is the one that was put
   head_is : after_rows.rows a ≡ over_stored names w (c.rows a)
   head_is = ap (λ b. if b then over_stored names w (c.rows a) else c.rows a) (name_itself a)
 
-  written_is : with_all_paid a cs (with_stored a names w (with_meta m c))
+  pub written_is : with_all_paid a cs (with_stored a names w (with_meta m c))
       ≡ with_rows a (over_paid cs) after_rows
   written_is =
       paid_over a cs (with_stored a names w (with_meta m c))

@@ -66,7 +66,7 @@ module _ (names : Names) (shelf : Shelf) (t : ℕ) (r : TableRows) (w : StoredRo
   abbrev among : List Session
   among = (after names shelf t r w swept).sessions
 
-  over : MayBeOver names w r
+  pub over : MayBeOver names w r
   over = record {
     live = λ s g x y is has. opens_swept names shelf t r w swept s (stands s g x y is has).live;
     before = λ s g x y is has. (stands s g x y is has).before;

@@ -42,6 +42,7 @@ use Rattle.sql_keeper.proofs.puts.Overlays.{name_from, not_both}
 use Rattle.sql_keeper.proofs.puts.Puts.{made_since, made_then}
 use Rattle.sql_keeper.proofs.sweeps.Swept.{MayBePut, apart_of, may, may_each, row_after, rows_after}
 use Rattle.sql_keeper.proofs.sweeps.Swept.{sweeps_read, swept_at, swept_books, swept_meta}
+use Rattle.sql_keeper.proofs.rules.OwnBooks.{AreAllOfBooks, books_sweep}
 use Rattle.sql_keeper.proofs.rules.Tidy.{AreAllBeside}
 use Rattle.sql_keeper.proofs.rules.TidySweeps.{beside_sweep, tidy_sweep}
 
@@ -321,6 +322,10 @@ become names text shelf t xs ranges last old new later all ruled turns =
             (may names text shelf t (tables_content old) xs ranges all)))));
         beside = subst AreAllBeside (sym turns.content)
             (beside_sweep names text shelf t (tables_content old) xs ranges all in'.beside);
+        granted = subst (AreAllOfBooks own) (sym turns.content)
+            (subst (λ n. AreAllOfBooks own (with_sweep n text t xs (tables_content old))) (sym is)
+            (books_sweep own text shelf t (tables_content old) xs ranges
+            (subst (λ n. AreAllSwept n shelf t (tables_content old) xs) is all) in'.granted));
       };
       stands = record {
         tabled = record { catalog = turns.catalog; stored = turns.stored; plain = turns.plain };
