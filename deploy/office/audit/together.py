@@ -181,7 +181,7 @@ def archive_since(
     shard: str, earlier: pathlib.Path, archives: Sequence[pathlib.Path]
 ) -> pathlib.Path | None:
     """The archive of a shard's first turn after an earlier copy. What a turn carries has its moment."""
-    with opened(earlier, is_still=True) as copy:
+    with opened(earlier) as copy:
         last = copy.last_moment
     for path in sorted(archives):
         told = NAME.fullmatch(path.stem)

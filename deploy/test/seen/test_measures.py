@@ -223,7 +223,7 @@ def exporter(world: World) -> Iterator[Callable[[], Samples]]:
         yield shown
     finally:
         process.terminate()
-        assert process.wait(20) == 1
+        assert process.wait(20) == 0
 
 
 def test_who_is_turned_away_is_counted(world: World, at: At) -> None:
