@@ -1,8 +1,8 @@
 """The command line: finds the words, reads the file, carries a word out.
 
 Every module of `office/words` is a word: `price_list.py` is `office price-list`. Its docstring is
-the word's help (the first paragraph is what `office --help` says of it), `add(parser)` adds its arguments,
-`run(settings, arguments)` carries it out and returns the exit status."""
+the word's help (the first paragraph is what `office --help` says of it), `add(parser)` adds its
+arguments, `run(settings, arguments)` carries it out and returns the exit status."""
 from __future__ import annotations
 
 import argparse

@@ -45,8 +45,8 @@ def accepts(text: str) -> None:
             raise Refused(f"haproxy: {fault.strerror}") from fault
     if ended.returncode:
         lines = ended.stderr.splitlines()
-        told = [line.partition(" : ")[2] for line in lines if line.startswith("[ALERT]")]
-        raise Refused(f"haproxy doesn't take it: {'; '.join(told or lines)[:600]}")
+        alerts = [line.partition(" : ")[2] for line in lines if line.startswith("[ALERT]")]
+        raise Refused(f"haproxy doesn't take it: {'; '.join(alerts or lines)[:600]}")
 
 
 def read_again(settings: Settings) -> str:

@@ -44,7 +44,7 @@ def run(settings: Settings, arguments: argparse.Namespace) -> int:
     chosen = options.chosen(settings, arguments)
     text, path = configuration.text(settings), pathlib.Path(settings.haproxy.file)
     if arguments.dry_run:
-        return plan([] if settings.machines else chosen, text, path)
+        return plan(settings, [] if settings.machines else chosen, text)
     for shard in shards.of(settings):
         fits(shard)
     is_changed = proxy.put(path, text)
@@ -61,13 +61,16 @@ def run(settings: Settings, arguments: argparse.Namespace) -> int:
         return 0 if each("ask", up, lambda shard: answers(client, shard)) == chosen else 1
 
 
-def plan(chosen: list[Shard], text: str, path: pathlib.Path) -> int:
+def plan(settings: Settings, chosen: list[Shard], text: str) -> int:
     """Says what would be done."""
+    path = pathlib.Path(settings.haproxy.file)
     is_same = path.exists() and path.read_text(encoding="utf-8") == text
     print(f"{path} would be {'as before' if is_same else 'written'}")
     for shard in chosen:
         if not units.is_serving(shard):
             print(f"{shard.unit} would be started")
+    if not proxy.has_read(settings, text):
+        print(f"the unit {proxy.UNIT} would be started, or read it")
     return 0
 
 

@@ -148,6 +148,7 @@ def test_up_goes_on_where_it_was_stopped(office: Stand) -> None:
     assert "haproxy is up" in office.run(f"office up > /dev/null; {up}")
     office.run("printf '[waits]\\nidle = 74\\n' >> /etc/ocs/office.toml")
     office.run("office doors > /etc/haproxy/haproxy.cfg")
+    assert "haproxy would be started, or read it" in office.run(f"{up} --dry-run")
     told = office.run(up)
     assert "haproxy.cfg: as before\n" in told and "the unit haproxy is reloaded" in told
     assert "haproxy is up" in office.run(up)
