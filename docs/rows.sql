@@ -108,9 +108,11 @@ SELECT 'sessions: touched is before 2100' AS rule, account, session, touched
   FROM sessions WHERE touched >= 4102444800;
 SELECT 'sessions: touched is at most the last moment' AS rule, account, session, touched
   FROM sessions WHERE touched > (SELECT last_moment FROM meta);
+SELECT 'sessions: touched of an open one is at most as_of' AS rule, account, session, touched, as_of
+  FROM sessions JOIN accounts USING (account) WHERE state = 1 AND touched > as_of;
 -- not at an opening
 SELECT 'sessions: touched is at most as_of' AS rule, account, session, touched, as_of
-  FROM sessions JOIN accounts USING (account) WHERE touched > as_of;
+  FROM sessions JOIN accounts USING (account) WHERE state <> 1 AND touched > as_of;
 SELECT 'sessions: the state is 1, 2 or 3' AS rule, account, session, state
   FROM sessions WHERE state NOT BETWEEN 1 AND 3;
 

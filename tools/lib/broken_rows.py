@@ -158,6 +158,11 @@ ROWS = [
         "sessions: touched is at most as_of",
     ),
     (
+        "UPDATE sessions SET touched = 1767607260 WHERE session = 'live'",
+        RULES,
+        "sessions: touched of an open one is at most as_of",
+    ),
+    (
         "UPDATE sessions SET touched = 1767607260 WHERE session = 'ended'",
         OPENED,
         "sessions: touched is at most as_of",

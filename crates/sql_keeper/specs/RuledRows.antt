@@ -80,12 +80,12 @@ is_ruled_charge x = is_charge x && nat_le x.covered.0 most_blocks
 abbrev pub are_timely_sessions : Moment → List Session → Bool
 are_timely_sessions t xs = list_all (λ (x : Session). nat_le x.touched t) xs
 
--- no row of an account is of a moment after this one
--- rule: rows-ruled.timely
+-- an account's moment isn't after this one, nor is a session's after the account's
+-- rule: rows-ruled.timely, rows-ruled.beside
 abbrev pub are_timely_rows : Moment → StoredRows → Bool
-are_timely_rows t w = nat_le w.as_of t && are_timely_sessions t w.sessions
+are_timely_rows t w = nat_le w.as_of t && are_timely_sessions w.as_of w.sessions
 
--- nor is a charge
+-- no charge is of a moment after this one
 abbrev pub are_timely_charges : Moment → List ChargeRow → Bool
 are_timely_charges t xs = list_all (λ (x : ChargeRow). nat_le x.moment t) xs
 
@@ -94,7 +94,7 @@ are_timely_charges t xs = list_all (λ (x : ChargeRow). nat_le x.moment t) xs
 abbrev pub is_timely_change : Change → Bool
 is_timely_change change =
     are_timely_rows change.moment change.rows
-    && are_timely_charges change.moment change.charges.items
+    && are_timely_charges change.rows.as_of change.charges.items
 
 -- all of a change but its texts
 -- rule: rows-ruled.ruled-change: if each row was in its rules, each still is after a change, a

@@ -4,7 +4,7 @@ use Rattle.std.specs.Prelude.{◌≡◌, ◌⊎◌, ℕ, ◌+◌, ◌==◌, ◌|
 use Rattle.std.specs.Prelude.{Some, None, IsTrue, is_some, nat_le, nat_lt, ◌&&◌}
 use Rattle.std.specs.List.{list_all}
 use Rattle.std.specs.Prelude.{if◌then◌else◌}
-use Rattle.units.specs.Words.{GroupId}
+use Rattle.units.specs.Words.{GroupId, Moment}
 use Rattle.identifiers.specs.Words.{SessionName}
 use Rattle.ledger.specs.Words.{ChargeNumber}
 use Rattle.buckets.specs.Row.{BucketRow}
@@ -72,6 +72,11 @@ abbrev pub are_buckets_numbered : BucketNumber → StoredRows → Bool
 are_buckets_numbered first w =
     nat_le first w.next_bucket
     && list_all (λ (b : BucketRow). nat_lt b.number w.next_bucket) w.buckets
+
+-- the moment of an account; of one that isn't there yet, the first of all
+abbrev pub first_moment : Option HeadColumns → Moment
+first_moment None = 0
+first_moment (Some h) = h.as_of
 
 -- ---- sessions that a change opens or ends
 
@@ -142,6 +147,8 @@ pub record MayBeMade (names : Names) (change : Change) (r : TableRows) : Type 0 
   pub reservations : AreWritable names change.rows.sessions change.rows.groups
   pub numbers : AreNumbered (first_number r.head) change.rows.next_charge change.charges.items
   pub buckets : IsTrue (are_buckets_numbered (first_bucket r.head) change.rows)
+  -- the account's moment doesn't fall
+  pub moment : IsTrue (nat_le (first_moment r.head) change.rows.as_of)
   pub settled : EachIn (IsSettled change.rows.groups r) change.rows.sessions
   pub ruled : IsTrue (is_ruled_change names change)
 

@@ -237,20 +237,20 @@ fn look_at_kept(kept: &Option<KeptAnswer>)
     }
 }
 
-/// Whether no row of an account is of a moment after this one.
+/// Whether an account's moment isn't after this one, nor a session's after the account's.
 fn are_timely_rows(moment: Moment, rows: &NamedRows) -> bool
     ensures { result ≡ are_timely_rows moment rows.now }
 {
-    is_by(rows.as_of(), moment) && are_timely_sessions(moment, rows.sessions())
+    is_by(rows.as_of(), moment) && are_timely_sessions(rows.as_of(), rows.sessions())
 }
 
-/// Whether no row that a change writes is of a moment after its own.
+/// Whether no row that a change writes is of a moment after its account's, nor that after its own.
 // rule: rows-ruled.timely
 fn is_timely_change(change: &Change) -> bool
     ensures { result ≡ is_timely_change change.now }
 {
     are_timely_rows(change.moment, &change.rows)
-        && are_timely_charges(change.moment, &change.charges)
+        && are_timely_charges(change.rows.as_of(), &change.charges)
 }
 
 /// Whether the rows that a change writes, but for its texts, are in the rules of their tables,
@@ -282,7 +282,7 @@ pub(crate) fn is_ruled_addition(code: &VoucherCode, terms: VoucherTerms, moment:
 // ---- a sweep
 
 /// Whether the rows of an account as a sweep leaves them are in the rules of their tables, and none
-/// is of a moment after the sweep's.
+/// is of a moment after the account's, nor that after the sweep's.
 // rule: rows-ruled.ruled-change
 pub(crate) fn is_ruled_swept(books: &TariffShelf, moment: Moment, account: &SweptAccount) -> bool
     ensures { result ≡ is_ruled_swept (shelf_names books.now) moment account.now }

@@ -1,6 +1,6 @@
 //! What is tested of a change before it is written, so that what is written reads as the change.
 
-ghost use Rattle.std.specs.Prelude.{◌≡◌, IsTrue, nat_lt};
+ghost use Rattle.std.specs.Prelude.{◌≡◌, IsTrue, nat_le, nat_lt};
 ghost use Rattle.std.specs.List.{list_all};
 ghost use Rattle.buckets.specs.Row.{BucketRow};
 ghost use Rattle.reserving.specs.Sessions.{session_in};
@@ -10,7 +10,7 @@ ghost use Rattle.sql_keeper.specs.Numbers.{first_bucket};
 ghost use Rattle.sql_keeper.specs.RuledRows.{is_ruled_change};
 ghost use Rattle.sql_keeper.specs.Tests.{AreNumbered, AreWritable, IsPeriodNamed, IsWritable};
 ghost use Rattle.sql_keeper.specs.Tests.{MayStand};
-ghost use Rattle.sql_keeper.specs.Tests.{are_buckets_numbered, first_number};
+ghost use Rattle.sql_keeper.specs.Tests.{are_buckets_numbered, first_moment, first_number};
 
 use crate::among::session_among;
 use crate::bucket_numbers::first_bucket;
@@ -23,6 +23,7 @@ use ledger::{ChargeRow, Terms};
 use reserving::{Reservation, Session, SessionGroup, SessionState};
 use shelves::TariffShelf;
 use sql_rows::HeadColumns;
+use units::Moment;
 
 /// The number of the next charge of an account; of the first one where it isn't there yet.
 fn first_number(head: &Option<HeadColumns>) -> u64
@@ -32,6 +33,23 @@ fn first_number(head: &Option<HeadColumns>) -> u64
         None => 1,
         Some(head) => head.next_charge.max(1),
     }
+}
+
+/// The moment of an account; the first of all where it isn't there yet.
+fn first_moment(head: &Option<HeadColumns>) -> u64
+    ensures { result ≡ first_moment head.now }
+{
+    match head {
+        None => 0,
+        Some(head) => head.as_of.seconds(),
+    }
+}
+
+/// Whether an account's moment doesn't fall.
+fn is_later(before: u64, as_of: Moment) -> bool
+    ensures { result ≡ nat_le before as_of }
+{
+    before <= as_of.seconds()
 }
 
 /// Whether charges are numbered one after another, from one number to below the next.
@@ -146,7 +164,8 @@ pub(crate) fn are_writable(
 /// Whether a change may be written over an account with this head, so that what is written reads as
 /// the change: each reservation is in an open session that is named with it, with periods that
 /// have names in its book, the charges are numbered on, the buckets are below the next number, which
-/// doesn't fall, and each row is in the rules of its table. It may exactly then.
+/// doesn't fall, nor does the account's moment, and each row is in the rules of its table. It may
+/// exactly then.
 // rule: database-writes.writable
 pub fn may_be_written(books: &TariffShelf, head: &Option<HeadColumns>, change: &Change) -> bool
     ensures reservations { IsTrue result →
@@ -155,17 +174,21 @@ pub fn may_be_written(books: &TariffShelf, head: &Option<HeadColumns>, change: &
         AreNumbered (first_number head.now) change.now.rows.next_charge change.now.charges.items }
     ensures buckets { IsTrue result →
         IsTrue (are_buckets_numbered (first_bucket head.now) change.now.rows) }
+    ensures moment { IsTrue result →
+        IsTrue (nat_le (first_moment head.now) change.now.rows.as_of) }
     ensures rules { IsTrue result →
         IsTrue (is_ruled_change (shelf_names books.now) change.now) }
     ensures back { AreWritable (shelf_names books.now) change.now.rows.sessions
         change.now.rows.groups →
         AreNumbered (first_number head.now) change.now.rows.next_charge change.now.charges.items →
         IsTrue (are_buckets_numbered (first_bucket head.now) change.now.rows) →
+        IsTrue (nat_le (first_moment head.now) change.now.rows.as_of) →
         IsTrue (is_ruled_change (shelf_names books.now) change.now) → IsTrue result }
 {
     let rows = &change.rows;
     are_writable(books, rows.sessions(), rows.groups())
         && are_numbered(&change.charges, first_number(head), rows.next_charge())
         && are_buckets_numbered(rows, first_bucket(head))
+        && is_later(first_moment(head), rows.as_of())
         && is_ruled_change(books, change)
 }

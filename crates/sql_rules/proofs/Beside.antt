@@ -15,8 +15,9 @@ use Rattle.sqlite_rules.proofs.ListLemmas.{has_either, has_left, has_right}
 use Rattle.sqlite_schema.specs.declared.schema.Table.{Table}
 use Rattle.sql_tables.proofs.Steps.{and_true, bare, mapped_from, mapped_to, permuted}
 use Rattle.sql_rules.specs.Beside.{NoneWrong, differs, is_ahead, is_bucket_ahead, is_equal, is_from}
-use Rattle.sql_rules.specs.Beside.{lacks_open_session}
+use Rattle.sql_rules.specs.Beside.{is_above, is_touched_after, lacks_open_session}
 use Rattle.sql_rules.proofs.BesideTexts.{ahead_terms, bucket_ahead_terms, over_terms, pair_query}
+use Rattle.sql_rules.proofs.BesideTexts.{touched_terms}
 
 -- ---- lists of lists
 
@@ -139,6 +140,11 @@ last_true : (b c : Bool) → (b && (c && true)) ≡ (b && c)
 last_true true c = and_true c
 last_true false c = refl
 
+last_three : (b c d : Bool) → (b && (c && (d && true))) ≡ (b && c && d)
+last_three true true d = and_true d
+last_three true false d = refl
+last_three false c d = refl
+
 last_four : (b c d e : Bool) → (b && (c && (d && (e && true)))) ≡ (b && c && d && e)
 last_four true true true true = refl
 last_four true true true false = refl
@@ -154,6 +160,11 @@ pub bucket_ahead_tests : (r s : Row) → list_all (holds ([] ∷ r ∷ s ∷ [])
     ≡ is_bucket_ahead r s
 bucket_ahead_tests r s = last_true (is_equal (column s 1) (column r 1))
     (is_from (column s 2) (column r 4))
+
+pub touched_tests : (r s : Row) → list_all (holds ([] ∷ r ∷ s ∷ [])) touched_terms
+    ≡ is_touched_after r s
+touched_tests r s = last_three (is_equal (column s 1) (column r 1))
+    (is_equal (column s 5) (Int (pos 1))) (is_above (column s 4) (column r 3))
 
 pub over_tests : (r s : Row) → list_all (holds ([] ∷ r ∷ s ∷ [])) over_terms ≡ lacks_open_session r s
 over_tests r s = last_four (is_equal (column r 5) (Int (pos 1)))

@@ -1,7 +1,7 @@
 -- The content of tables whose rows are right beside each other.
 use Rattle.std.proofs.Common.{◌≡◌, ℕ, pos, negsuc, List, Bool, true, false, ◌&&◌, Some, None}
 use Rattle.std.proofs.Common.{Option, refl, sym, ap, subst, ◌∙◌, arith, eqb-true, IsTrue, nat_le, nat_lt}
-use Rattle.std.proofs.Common.{inl, inr}
+use Rattle.std.proofs.Common.{◌<◌, inl, inr}
 use Rattle.std.specs.Prelude.{is_some, option_map, ◌==◌, if◌then◌else◌}
 use Rattle.std.proofs.lemmas.Bool.{and_from, and_parts}
 use Rattle.std.proofs.lemmas.Bool.Decides.{nat_tests}
@@ -10,24 +10,30 @@ use Rattle.sqlite_value.specs.declared.value.Value.{Value}
 use Rattle.sqlite_value.specs.declared.value.Value.TheVariants.{Null, Int, Real, Text, Blob}
 use Rattle.sqlite_value.specs.Order.{Row, column}
 use Rattle.sqlite_trees.specs.Tree.{Trees}
-use Rattle.sqlite_schema.specs.Rules.{Keeps}
+use Rattle.sqlite_schema.specs.Rules.{Fits, Keeps}
 use Rattle.sqlite_schema.specs.declared.schema.Constraint.TheVariants.{ForeignKey}
 use Rattle.sqlite_rules.specs.Lists.{Has}
 use Rattle.sqlite_rules.proofs.ListLemmas.{all_has}
 use Rattle.reserving.specs.Sessions.{is_open}
+use Rattle.reserving.specs.declared.session.Session.{Session}
 use Rattle.reserving.specs.Left.{is_open_row}
 use Rattle.sql_tables.specs.Keyed.{look}
 use Rattle.sql_tables.specs.Schema.{accounts, buckets, charges, latest, our_schema, session_groups}
 use Rattle.sql_tables.specs.Schema.{sessions}
 use Rattle.sql_rows.specs.Content.{rows_in}
+use Rattle.sql_rows.proofs.queries.Tests.{open_tested}
 use Rattle.sql_rows.specs.Values.{PeriodNames, bucket_in_row, bucket_key, charge_in_row, charge_key}
-use Rattle.sql_rows.specs.Values.{group_in_row, group_key}
+use Rattle.sql_rows.specs.Values.{group_in_row, group_key, session_key}
 use Rattle.sql_rows.specs.Values.{head_in, nat_in, session_in_row, state_in}
 use Rattle.sql_rules.specs.Rules.{is_ruled_account, is_ruled_bucket, is_ruled_charge}
 use Rattle.sql_rules.specs.Rules.{is_ruled_session}
-use Rattle.sql_rules.specs.Ruled.{AreBeside, is_bucket_numbered, is_numbered, is_reserved}
+use Rattle.sql_rules.specs.Ruled.{AreBeside, is_bucket_numbered, is_numbered, is_reached}
+use Rattle.sql_rules.specs.Ruled.{is_reserved}
 use Rattle.sql_rules.specs.Tables.{AreRightBy, last_kept}
-use Rattle.sql_rules.proofs.BesideRows.{AreNumbers, numbered_below, reserved_open}
+use Rattle.sql_rules.proofs.BesideRows.{AreNumbers, moment_reached, numbered_below, reserved_open}
+use Rattle.sql_rules.proofs.Lookups.{mapped}
+use Rattle.sql_rules.proofs.MappedRows.{full_front, keyed}
+use Rattle.sql_rules.proofs.Written.{checked, number_there}
 use Rattle.sql_rules.proofs.Contents.{rows_in_rules}
 
 -- ---- values
@@ -116,7 +122,15 @@ module _ (shelf : Shelf) (trees : Trees) (all : AreRightBy shelf (last_kept tree
         (all_has (λ x. IsTrue (is_ruled_session x)) (trees sessions.tree) r
         (rows_in_rules shelf trees all 4 (omega arith)) has)).1).0
 
-    module _ (keeps : Keeps ForeignKey our_schema trees) where
+    module _ (keeps : Keeps ForeignKey our_schema trees) (fits : Fits our_schema trees) where
+      moments : (r : Row) → Has (trees accounts.tree) r →
+          column r 3 ≡ Int (pos (nat_in (column r 3)))
+      moments r has =
+          let low : 1 < 14 = omega arith in
+          number_there shelf trees fits 1 low r has 2 (omega arith)
+          (full_front shelf trees fits accounts (keyed 1 low) 3 (refl, (refl, (refl, tt)))
+          (omega arith) r has).1.1.0 (λ v h. h) (checked accounts r 1 (omega arith))
+
       -- rule: rows-ruled.beside
       pub rows_beside : (a : List ℕ) → AreBeside (rows_in trees a)
       rows_beside a = record {
@@ -138,6 +152,14 @@ module _ (shelf : Shelf) (trees : Trees) (all : AreRightBy shelf (last_kept tree
             let below : nat_lt n (nat_in (column it.row 3)) ≡ true =
             subst (λ w. nat_lt n (nat_in w) ≡ true) (sym it.is) it.below in
             ap (λ o. is_bucket_numbered n (option_map head_in o)) it.found ∙ below;
+        touched = λ s x e on.
+            let it = mapped session_in_row (look sessions trees (session_key a s)) x e in
+            let by = moment_reached trees keeps sessions (inr (inr (inr (inr (inl refl))))) (inl refl)
+            refl 3 4 all.beside.moments moments a (Text s) it.0 refl it.1
+            (open_tested (column it.0 4)
+            (subst (λ (y : Session). is_open y.state ≡ true) (sym it.2) on)) in
+            ap (λ o. is_reached x.touched (option_map head_in o)) by.found
+            ∙ subst (λ (y : Session). nat_le y.touched (nat_in (column by.row 2)) ≡ true) it.2 by.by;
         live = λ s g e.
             let v = reserved_at (look session_groups trees (group_key a s g)) e in
             let it = reserved_open trees keeps all.beside.reservations states a s g v.0 v.1 v.2 in

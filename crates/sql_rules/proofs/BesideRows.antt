@@ -1,12 +1,12 @@
 -- What rows say that are wrong beside no row of another table.
-use Rattle.std.proofs.Common.{◌≡◌, ◌&&◌, ℕ, suc, pos, List, [], ◌∷◌, Bool, true, false, not, drop}
+use Rattle.std.proofs.Common.{◌≡◌, ◌&&◌, ℕ, suc, pos, negsuc, List, [], ◌∷◌, Bool, true, false, not, drop}
 use Rattle.std.proofs.Common.{Some, None, Option, cond, Less, Equal, Greater, is_eq, refl, sym, ap}
 use Rattle.std.proofs.Common.{subst, ◌∙◌, arith, nat_eq, nat_le, nat_lt}
 use Rattle.std.specs.Prelude.{codes, is_some, ◌||◌, if◌then◌else◌}
 use Rattle.std.specs.Cmp.Lexicographic.{bytes_decides}
 use Rattle.std.specs.FinMap.{get-from_entries}
 use Rattle.std.specs.declared.cmp.Ordering.{Ordering}
-use Rattle.std.specs.Ordering.{eq_by_cmp, is_ge, is_ne}
+use Rattle.std.specs.Ordering.{eq_by_cmp, is_ge, is_gt, is_ne}
 use Rattle.std.proofs.lemmas.Bool.{and_from, and_parts}
 use Rattle.std.proofs.lemmas.Bool.Decides.{nat_tests}
 use Rattle.sqlite_value.specs.declared.value.Value.{Value}
@@ -25,6 +25,7 @@ use Rattle.sqlite_value.specs.declared.keys.Collation.TheVariants.{Binary}
 use Rattle.sqlite_sql.specs.declared.ops.BinaryOp.TheVariants.{Compare}
 use Rattle.sqlite_sql.specs.declared.ops.CompareOp.{CompareOp}
 use Rattle.sqlite_sql.specs.Ops.{binary, from_truth, is_null, is_true, test}
+use Rattle.sql_rows.specs.Values.{nat_in}
 use Rattle.sql_tables.specs.Keyed.{entries_of, look}
 use Rattle.sql_tables.specs.Schema.{accounts, belongs, our_schema, session_groups, sessions}
 use Rattle.sql_tables.proofs.Keys.{int_tie, keys_split, text_tie}
@@ -32,7 +33,8 @@ use Rattle.sql_tables.proofs.Parents.{parent_there, session_of_group}
 use Rattle.sql_tables.proofs.Selections.{full_key, meets, met_some}
 use Rattle.sql_tables.proofs.Steps.{truth_told}
 use Rattle.sql_tables.proofs.Ties.{equal_present}
-use Rattle.sql_rules.specs.Beside.{NoneWrong, differs, is_equal, is_from, lacks_open_session}
+use Rattle.sql_rules.specs.Beside.{NoneWrong, differs, is_above, is_equal, is_from}
+use Rattle.sql_rules.specs.Beside.{lacks_open_session}
 
 -- ---- what SQL's tests say
 
@@ -73,6 +75,33 @@ from_told m k =
     ∙ ap (λ t. is_true (from_truth (Some t)))
     (no_less m k (nat_lt m k) (nat_lt k m) (nat_le k m) refl refl refl)
     ∙ truth_told (nat_le k m)
+
+no_more : (m k : ℕ) (p q : Bool) → nat_lt m k ≡ p → nat_lt k m ≡ q →
+    is_gt (cond p Less (cond q Greater Equal)) ≡ q
+no_more m k true true e f = absurd (grind (arith, nat_tests, e, f))
+no_more m k true false e f = refl
+no_more m k false true e f = refl
+no_more m k false false e f = refl
+
+pub above_told : (m k : ℕ) → is_above (Int (pos m)) (Int (pos k)) ≡ nat_lt k m
+unfolding binary
+above_told m k =
+    ap (λ o. is_true (from_truth (Some (is_gt o)))) (value_cmp-Int (pos m) (pos k))
+    ∙ ap (λ t. is_true (from_truth (Some t))) (no_more m k (nat_lt m k) (nat_lt k m) refl refl)
+    ∙ truth_told (nat_lt k m)
+
+zero_by : (k : ℕ) → nat_le 0 k ≡ true
+zero_by k = grind (arith, nat_tests)
+
+-- what isn't above a number is at most it, as it is read
+pub not_above : (v : Value) (k : ℕ) → is_above v (Int (pos k)) ≡ false → nat_le (nat_in v) k ≡ true
+not_above (Int (pos n)) k e =
+    let t : nat_lt k n ≡ false = sym (above_told n k) ∙ e in grind (arith, nat_tests, t)
+not_above (Int (negsuc n)) k e = zero_by k
+not_above Null k e = zero_by k
+not_above (Real x) k e = zero_by k
+not_above (Text t) k e = zero_by k
+not_above (Blob b) k e = zero_by k
 
 ne_is : (o : Ordering) → is_ne o ≡ not (is_eq o)
 ne_is Less = refl
@@ -169,6 +198,12 @@ pub record IsBelow (table : Table) (next : ℕ) (trees : Trees) (a : List ℕ) (
   pub has : Has (trees table.tree) own
   pub number : column own 2 ≡ Int (pos n)
 
+-- a moment isn't after that of this account
+pub record IsReached (trees : Trees) (a : List ℕ) (n : ℕ) : Type 0 where
+  pub row : Row
+  pub found : look accounts trees (Text a ∷ []) ≡ Some row
+  pub by : nat_le n (nat_in (column row 2)) ≡ true
+
 -- a row of this account has the number in this column or a greater one
 abbrev pub ahead_of : ℕ → Row → Row → Bool
 ahead_of next account row =
@@ -252,6 +287,36 @@ module _ (trees : Trees) (keeps : Keeps ForeignKey our_schema trees) where
               (sym (from_told number.0 bound.0)
               ∙ subst (λ w. is_from (Int (pos number.0)) w ≡ false) bound.1
               (subst (λ w. is_from w (column it.up (suc next)) ≡ false) number.1 not)));
+        }
+
+    -- rule: rows-ruled.beside
+    pub moment_reached : (at state : ℕ)
+        → NoneWrong (λ up own. is_equal (column own 1) (column up 1)
+        && is_equal (column own (suc state)) (Int (pos 1))
+        && is_above (column own (suc at)) (column up 3)) accounts table trees
+        → ((r : Row) → Has (trees accounts.tree) r →
+        column r 3 ≡ Int (pos (nat_in (column r 3))))
+        → (a : List ℕ) (w : Value) (v : Row) → is_null w ≡ false
+        → look table trees (Text a ∷ w ∷ []) ≡ Some v
+        → is_equal (column v state) (Int (pos 1)) ≡ true
+        → IsReached trees a (nat_in (column v at))
+    moment_reached at state none moments a w v some e on =
+        let it = of_account a w v some e in
+        let open' : is_equal (column it.own (suc state)) (Int (pos 1)) ≡ true =
+        subst (λ x. is_equal x (Int (pos 1)) ≡ true)
+        (ap (λ c. column c state) it.is ∙ behind it.own state) on in
+        let not : is_above (column it.own (suc at)) (column it.up 3) ≡ false =
+        true_then _ _ (and_from _ _ it.same open') (none it.up it.own it.there it.has) in
+        record {
+          row = drop 1 it.up;
+          found = it.found;
+          by = subst (λ x. nat_le x (nat_in (column (drop 1 it.up) 2)) ≡ true)
+              (sym (ap nat_in (ap (λ c. column c at) it.is ∙ behind it.own at)))
+              (subst (λ x. nat_le (nat_in (column it.own (suc at))) x ≡ true)
+              (sym (ap nat_in (behind it.up 2)))
+              (not_above (column it.own (suc at)) (nat_in (column it.up 3))
+              (subst (λ x. is_above (column it.own (suc at)) x ≡ false)
+              (moments it.up it.there) not)));
         }
 
   -- a reservation's session is there, and its state is that of an open one

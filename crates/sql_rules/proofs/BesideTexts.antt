@@ -4,7 +4,7 @@ use Rattle.std.proofs.Common.{None, false}
 use Rattle.sqlite_value.specs.declared.value.Value.TheVariants.{Int}
 use Rattle.sqlite_value.specs.declared.keys.Collation.TheVariants.{Binary}
 use Rattle.sqlite_sql.specs.declared.ops.BinaryOp.TheVariants.{Compare}
-use Rattle.sqlite_sql.specs.declared.ops.CompareOp.TheVariants.{Eq, Ge, Ne}
+use Rattle.sqlite_sql.specs.declared.ops.CompareOp.TheVariants.{Eq, Ge, Gt, Ne}
 use Rattle.sqlite_sql.specs.Term.{Term, lit, col, op2}
 use Rattle.sqlite_sql.specs.Query.{Query, inner, end}
 use Rattle.sqlite_schema.specs.declared.command.Command.TheVariants.{Select}
@@ -25,6 +25,12 @@ ahead_terms =
 abbrev pub bucket_ahead_terms : List Term
 bucket_ahead_terms =
     op2 (Compare Eq Binary) (col 2 1) (col 1 1) ∷ op2 (Compare Ge Binary) (col 2 2) (col 1 4) ∷ []
+
+abbrev pub touched_terms : List Term
+touched_terms =
+    op2 (Compare Eq Binary) (col 2 1) (col 1 1)
+    ∷ op2 (Compare Eq Binary) (col 2 5) (lit (Int (pos 1)))
+    ∷ op2 (Compare Gt Binary) (col 2 4) (col 1 3) ∷ []
 
 abbrev pub over_terms : List Term
 over_terms =
@@ -67,6 +73,11 @@ bucket_ahead_text =
     codes "SELECT 1 FROM accounts, buckets WHERE buckets.account = accounts.account "
     ++ codes "AND buckets.number >= accounts.next_bucket LIMIT 1"
 
+abbrev pub touched_text : List ℕ
+touched_text =
+    codes "SELECT 1 FROM accounts, sessions WHERE sessions.account = accounts.account "
+    ++ codes "AND sessions.state = 1 AND sessions.touched > accounts.as_of LIMIT 1"
+
 abbrev pub over_text : List ℕ
 over_text =
     codes "SELECT 1 FROM session_groups, sessions WHERE session_groups.reserved = 1 "
@@ -100,6 +111,21 @@ unfolding understood everything
 bucket_ahead_at_3 =
     record { names = codes "1" ∷ []; command = refl; listing = refl; plain = (refl, refl) }
 
+touched_at_1 : IsPair 1 touched_text accounts sessions touched_terms
+unfolding understood everything
+touched_at_1 =
+    record { names = codes "1" ∷ []; command = refl; listing = refl; plain = (refl, refl) }
+
+touched_at_2 : IsPair 2 touched_text accounts sessions touched_terms
+unfolding understood everything
+touched_at_2 =
+    record { names = codes "1" ∷ []; command = refl; listing = refl; plain = (refl, refl) }
+
+touched_at_3 : IsPair 3 touched_text accounts sessions touched_terms
+unfolding understood everything
+touched_at_3 =
+    record { names = codes "1" ∷ []; command = refl; listing = refl; plain = (refl, refl) }
+
 over_at_1 : IsPair 1 over_text session_groups sessions over_terms
 unfolding understood everything
 over_at_1 = record { names = codes "1" ∷ []; command = refl; listing = refl; plain = (refl, refl) }
@@ -127,6 +153,14 @@ bucket_ahead_at (suc zero) known = bucket_ahead_at_1
 bucket_ahead_at (suc (suc zero)) known = bucket_ahead_at_2
 bucket_ahead_at (suc (suc (suc zero))) known = bucket_ahead_at_3
 bucket_ahead_at (suc (suc (suc (suc n)))) known =
+    let high : suc (suc (suc (suc n))) ≤ 3 = known.1 in absurd (omega (arith, high))
+
+pub touched_at : (v : ℕ) → IsVersion v → IsPair v touched_text accounts sessions touched_terms
+touched_at zero known = absurd (omega (arith, known.0))
+touched_at (suc zero) known = touched_at_1
+touched_at (suc (suc zero)) known = touched_at_2
+touched_at (suc (suc (suc zero))) known = touched_at_3
+touched_at (suc (suc (suc (suc n)))) known =
     let high : suc (suc (suc (suc n))) ≤ 3 = known.1 in absurd (omega (arith, high))
 
 pub over_at : (v : ℕ) → IsVersion v → IsPair v over_text session_groups sessions over_terms

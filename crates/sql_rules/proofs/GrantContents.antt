@@ -283,7 +283,7 @@ pub content_in_rules : (shelf : Shelf) (trees : Trees) → AreRuled shelf latest
     → IsInRules shelf (tables_content trees)
 content_in_rules shelf trees all keeps fits = record {
   each = content_ruled shelf trees fits all.right;
-  beside = rows_beside shelf trees all.right keeps;
+  beside = rows_beside shelf trees all.right keeps fits;
   granted = rows_of_books shelf trees fits (λ at low. (all.right.each at low).stored)
       (all.granted (omega arith));
 }

@@ -321,17 +321,25 @@ free_rule shelf last
     ap (λ b. true && b) (untimed last _ (Null ∷ drop 1 r) high ∙ sym (untimed last _ r high))
 
 module _ (shelf : Shelf) (trees : Trees) (fits : Fits our_schema trees) where
-  pub full_rows : (table : Table) → IsKeyed table → (r : Row) → Has (trees table.tree) r
-      → AllByRecursion (λ p. is_null (column r p) ≡ false) table.primary
-  full_rows table is r has =
+  -- the first columns are there, where none of them may be NULL
+  pub full_front : (table : Table) → IsKeyed table → (front : ℕ)
+      → AllByRecursion (λ (c : Column). c.not_null ≡ true) (take front table.columns)
+      → front ≤ length table.columns → (r : Row) → Has (trees table.tree) r
+      → AllByRecursion (λ p. is_null (column r p) ≡ false) (places_from 1 front)
+  full_front table is front full low r has =
       let rows = all_has (λ (t : Table).
       AllByRecursion (λ row. passes NotNull our_schema trees t row ≡ true) (trees t.tree))
       our_schema.tables table (fits.rules NotNull (λ e. cc)) is.tabled in
       let there = all_has (λ row. are_present table.key 0 table.columns row ≡ true)
       (trees table.tree) r rows has in
+      front_full table.columns 0 front r full low
+      (subst (λ k. are_present k 0 table.columns r ≡ true) is.alone there)
+
+  pub full_rows : (table : Table) → IsKeyed table → (r : Row) → Has (trees table.tree) r
+      → AllByRecursion (λ p. is_null (column r p) ≡ false) table.primary
+  full_rows table is r has =
       subst (AllByRecursion (λ p. is_null (column r p) ≡ false)) (sym is.primary)
-      (front_full table.columns 0 is.front r is.full is.low
-      (subst (λ k. are_present k 0 table.columns r ≡ true) is.alone there))
+      (full_front table is is.front is.full is.low r has)
 
   -- rows in their rules are so under their keys
   pub ruled_mapped : AreRuled shelf latest trees → AreMapped shelf trees

@@ -1,7 +1,7 @@
 -- Rows of tables whose content is in its rules, as the statements write them, are in their rules.
 use Rattle.std.proofs.Common.{◌≡◌, ◌≤◌, ◌<◌, ℕ, zero, suc, List, [], ◌∷◌, drop, length, Bool, true}
 use Rattle.std.proofs.Common.{false, not, Some, None, Option, refl, sym, ap, subst, ◌∙◌, arith}
-use Rattle.std.proofs.Common.{nat_lt}
+use Rattle.std.proofs.Common.{nat_lt, ◌&&◌}
 use Rattle.std.proofs.Common.{inl, inr, get_or, nat_eq, nat_le, IsTrue}
 use Rattle.std.specs.Prelude.{option_map, is_some, ◌==◌, if◌then◌else◌}
 use Rattle.std.specs.FinMap.{get-from_entries}
@@ -13,7 +13,7 @@ use Rattle.shelves.specs.Shelves.{Shelf}
 use Rattle.reserving.specs.Left.{is_open_row}
 use Rattle.reserving.specs.Sessions.{is_open}
 use Rattle.sqlite_sql.specs.Term.{Term, eval}
-use Rattle.sqlite_sql.specs.declared.ops.CompareOp.TheVariants.{Eq, Ge, Ne}
+use Rattle.sqlite_sql.specs.declared.ops.CompareOp.TheVariants.{Eq, Ge, Gt, Ne}
 use Rattle.sqlite_sql.specs.Ops.{is_false, is_null}
 use Rattle.sqlite_value.specs.declared.value.Value.{Value}
 use Rattle.sqlite_value.specs.declared.value.Value.TheVariants.{Text}
@@ -47,11 +47,13 @@ use Rattle.sql_rows.proofs.rules.MetaRules.{right_at}
 use Rattle.sql_rules.specs.Columns.{is_moment}
 use Rattle.sql_rules.specs.Rules.{is_ruled_meta, is_timely_at, passes_at, rule_at}
 use Rattle.sql_rules.specs.Beside.{differs, is_ahead, is_bucket_ahead, is_equal, is_from}
-use Rattle.sql_rules.specs.Beside.{lacks_open_session}
+use Rattle.sql_rules.specs.Beside.{is_above, is_touched_after, lacks_open_session}
 use Rattle.sql_rules.specs.GrantRows.{HaveBooks}
-use Rattle.sql_rules.specs.Ruled.{IsInRules, is_bucket_numbered, is_numbered, is_reserved}
+use Rattle.sql_rules.specs.Ruled.{IsInRules, is_bucket_numbered, is_numbered, is_reached}
+use Rattle.sql_rules.specs.Ruled.{is_reserved}
 use Rattle.sql_rules.specs.Tables.{AreEachRuled, AreRuled, last_kept, table_at}
-use Rattle.sql_rules.proofs.BesideRows.{behind, compared, differs_told, equals_text, from_told}
+use Rattle.sql_rules.proofs.BesideRows.{above_told, behind, compared, differs_told, equals_text}
+use Rattle.sql_rules.proofs.BesideRows.{from_told}
 use Rattle.sql_rules.proofs.BesideRows.{number_same}
 use Rattle.sql_rules.proofs.Encoded.{account_back, answer_back, book_back, bucket_back}
 use Rattle.sql_rules.proofs.Encoded.{charge_back, counter_back, covered_back, grant_book_back}
@@ -69,7 +71,7 @@ pub checked : (table : Table) (row : Row) (i : ℕ) → i < length table.checks
     → passes_checks table row ≡ true → right row (get_or table.checks i (at_least_zero 1)) ≡ true
 checked table row i low h = check_at (right row) table.checks i (at_least_zero 1) low h
 
-abbrev none_named : Column
+abbrev pub none_named : Column
 none_named = number []
 
 all_from : (P : Row → Type 0) (rows : List Row) → ((r : Row) → Has rows r → P r) →
@@ -527,6 +529,53 @@ module _ (shelf : Shelf) (trees : Trees) (fits : Fits our_schema trees) where
               number) in
               absurd (no_number _ _ from below)
 
+      -- and the account's moment isn't before those of its sessions
+      none_touched_after : (r s : Row) → Stands 1 r → Stands 4 s → is_touched_after r s ≡ false
+      none_touched_after r s has there = at (is_touched_after r s) refl
+        where
+          at : (t : Bool) → is_touched_after r s ≡ t → t ≡ false
+          at false e = refl
+          at true e =
+              let parts = and_parts (is_equal (column s 1) (column r 1)
+              && is_equal (column s 5) (nat 1)) (is_above (column s 4) (column r 3)) e in
+              let names = and_parts (is_equal (column s 1) (column r 1))
+              (is_equal (column s 5) (nat 1)) parts.0 in
+              let present = compared Gt (column s 4) (column r 3) parts.1 in
+              let low : 4 < 14 = omega arith in
+              let own = full 4 low s there in
+              let v1 = text_there 4 low s there 0 (omega arith) own.0 (λ v h. h) in
+              let v4 = number_there 4 low s there 3 (omega arith) present.0 (λ v h. h)
+              (checked (table_at 4) s 1 (omega arith)) in
+              let first : 1 < 14 = omega arith in
+              let up = text_there 1 first r has 0 (omega arith) (full 1 first r has).0 (λ v h. h) in
+              let as_of = number_there 1 first r has 2 (omega arith) present.1 (λ v h. h)
+              (checked (table_at 1) r 1 (omega arith)) in
+              let same : text_in (column r 1) ≡ text_in (column s 1) =
+              equals_text (text_in (column s 1)) (text_in (column r 1))
+              (subst (λ w. is_equal w (Text (text_in (column r 1))) ≡ true) v1
+              (subst (λ w. is_equal (column s 1) w ≡ true) up names.0)) in
+              let v5 = number_there 4 low s there 4 (omega arith)
+              (compared Eq (column s 5) (nat 1) names.1).0 (λ v h. h)
+              (checked (table_at 4) s 2 (omega arith)) in
+              let one : nat_in (column s 5) ≡ 1 = number_same (nat_in (column s 5)) 1
+              (subst (λ w. is_equal w (nat 1) ≡ true) v5 names.1) in
+              let open' : is_open (state_in (column (drop 1 s) 4)) ≡ true =
+              ap (λ w. is_open (state_in w)) (behind s 4 ∙ v5 ∙ ap nat one) in
+              let later : nat_lt (nat_in (column r 3)) (nat_in (column s 4)) ≡ true =
+              sym (above_told (nat_in (column s 4)) (nat_in (column r 3)))
+              ∙ subst (λ w. is_above w (nat (nat_in (column r 3))) ≡ true) v4
+              (subst (λ w. is_above (column s 4) w ≡ true) as_of parts.1) in
+              let session = told 4 low session_in_row s _ there (session_of s there) in
+              let head = told 1 first head_in r _ has (account_of r has) in
+              let by : nat_le (nat_in (column s 4)) (nat_in (column r 3)) ≡ true =
+              subst (λ n. nat_le n (nat_in (column r 3)) ≡ true) (ap nat_in (behind s 3))
+              (subst (λ n. nat_le (nat_in (column (drop 1 s) 3)) n ≡ true) (ap nat_in (behind r 2))
+              (subst (λ o. is_reached (nat_in (column (drop 1 s) 3)) o ≡ true)
+              (subst (λ x. (rows_in trees x).head ≡ Some (head_in (drop 1 r))) same head)
+              ((in'.beside (text_in (column s 1))).touched (text_in (column s 2))
+              (session_in_row (drop 1 s)) session open'))) in
+              absurd (no_number _ _ by later)
+
       -- the session of a reservation is open
       none_over : (r s : Row) → Stands 5 r → Stands 4 s → lacks_open_session r s ≡ false
       none_over r s has there = at (lacks_open_session r s) refl
@@ -589,6 +638,7 @@ module _ (shelf : Shelf) (trees : Trees) (fits : Fits our_schema trees) where
           beside = record {
             numbers = none_ahead;
             buckets = none_bucket_ahead;
+            moments = none_touched_after;
             reservations = none_over;
           };
         };

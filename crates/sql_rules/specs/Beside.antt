@@ -7,7 +7,7 @@ use Rattle.sqlite_value.specs.Order.{Row, column}
 use Rattle.sqlite_trees.specs.Tree.{Trees}
 use Rattle.sqlite_rules.specs.Lists.{Has}
 use Rattle.sqlite_sql.specs.declared.ops.BinaryOp.TheVariants.{Compare}
-use Rattle.sqlite_sql.specs.declared.ops.CompareOp.TheVariants.{Eq, Ge, Ne}
+use Rattle.sqlite_sql.specs.declared.ops.CompareOp.TheVariants.{Eq, Ge, Gt, Ne}
 use Rattle.sqlite_sql.specs.Ops.{binary, is_true}
 use Rattle.sqlite_schema.specs.declared.schema.Table.{Table}
 use Rattle.sql_tables.specs.Schema.{accounts, buckets, charges, session_groups, sessions}
@@ -21,6 +21,9 @@ is_equal v w = is_true (binary (Compare Eq Binary) v w)
 -- the one, or a greater one
 abbrev pub is_from : Value → Value → Bool
 is_from v w = is_true (binary (Compare Ge Binary) v w)
+
+abbrev pub is_above : Value → Value → Bool
+is_above v w = is_true (binary (Compare Gt Binary) v w)
 
 abbrev pub differs : Value → Value → Bool
 differs v w = is_true (binary (Compare Ne Binary) v w)
@@ -39,6 +42,13 @@ abbrev pub is_bucket_ahead : Row → Row → Bool
 is_bucket_ahead account bucket =
     is_equal (column bucket 1) (column account 1) && is_from (column bucket 2) (column account 4)
 
+-- an open session of this account was touched after the moment that the account's rows stand for
+-- rule: rows-ruled.beside
+abbrev pub is_touched_after : Row → Row → Bool
+is_touched_after account session =
+    is_equal (column session 1) (column account 1) && is_equal (column session 5) (nat 1)
+    && is_above (column session 4) (column account 3)
+
 -- the session of a reservation isn't open
 -- rule: rows-ruled.beside
 abbrev pub lacks_open_session : Row → Row → Bool
@@ -51,9 +61,10 @@ abbrev pub NoneWrong : (Row → Row → Bool) → Table → Table → Trees → 
 NoneWrong wrong first second trees =
     (r s : Row) → Has (trees first.tree) r → Has (trees second.tree) s → wrong r s ≡ false
 
--- rule: rows-ruled.beside: no charge and no bucket has a number from its account's next one on, and
---   each reservation is in an open session
+-- rule: rows-ruled.beside: no charge and no bucket has a number from its account's next one on, no
+--   open session was touched after its account's moment, and each reservation is in an open session
 pub record AreRightBeside (trees : Trees) : Type 0 where
   pub numbers : NoneWrong is_ahead accounts charges trees
   pub buckets : NoneWrong is_bucket_ahead accounts buckets trees
+  pub moments : NoneWrong is_touched_after accounts sessions trees
   pub reservations : NoneWrong lacks_open_session session_groups sessions trees

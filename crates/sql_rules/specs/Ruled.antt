@@ -2,7 +2,7 @@
 -- table.
 -- Source: profile.
 use Rattle.std.specs.Prelude.{◌≡◌, ◌≤◌, ◌&&◌, ℕ, [], ◌∷◌, Bool, true, false, List, Option, Some}
-use Rattle.std.specs.Prelude.{None, IsTrue, is_some, nat_lt}
+use Rattle.std.specs.Prelude.{None, IsTrue, is_some, nat_le, nat_lt}
 use Rattle.units.specs.Words.{GroupId, Moment}
 use Rattle.identifiers.specs.Words.{AccountName, SessionName, VoucherCode}
 use Rattle.buckets.specs.Words.{BucketAmount, BucketNumber}
@@ -12,6 +12,7 @@ use Rattle.sqlite_value.specs.declared.value.Value.TheVariants.{Null}
 use Rattle.sqlite_value.specs.Order.{Row as Values}
 use Rattle.buckets.specs.Row.{BucketRow}
 use Rattle.reserving.specs.Left.{is_open_row}
+use Rattle.reserving.specs.Sessions.{is_open}
 use Rattle.reserving.specs.declared.session.Session.{Session}
 use Rattle.reserving.specs.declared.session.Counter.{Counter}
 use Rattle.ledger.specs.declared.charge.ChargeRow.{ChargeRow}
@@ -144,18 +145,25 @@ abbrev pub is_bucket_numbered : BucketNumber → Option HeadColumns → Bool
 is_bucket_numbered n None = false
 is_bucket_numbered n (Some h) = nat_lt n h.next_bucket
 
+-- a moment that isn't after the account's
+abbrev pub is_reached : Moment → Option HeadColumns → Bool
+is_reached t None = false
+is_reached t (Some h) = nat_le t h.as_of
+
 -- a group has a reservation
 abbrev pub is_reserved : Option Group → Bool
 is_reserved None = false
 is_reserved (Some x) = is_some x.periods
 
--- what is stored of an account: its charges and its buckets are numbered, and a reservation is in
--- an open session
+-- what is stored of an account: its charges and its buckets are numbered, no open session
+-- was touched after the account's moment, and a reservation is in an open session
 -- rule: rows-ruled.beside
 pub record AreBeside (r : TableRows) : Type 0 where
   pub numbers : (n : ChargeNumber) → is_some (r.charges n) ≡ true → is_numbered n r.head ≡ true
   pub buckets : (n : BucketNumber) → is_some (r.buckets n) ≡ true
       → is_bucket_numbered n r.head ≡ true
+  pub touched : (s : SessionName) (x : Session) → r.sessions s ≡ Some x → is_open x.state ≡ true
+      → is_reached x.touched r.head ≡ true
   pub live : (s : SessionName) (g : GroupId) → is_reserved (r.groups s g) ≡ true
       → is_open_row (r.sessions s) ≡ true
 

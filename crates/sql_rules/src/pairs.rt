@@ -9,7 +9,7 @@ ghost use Rattle.sql_tables.specs.Opens.{IsVersion};
 ghost use Rattle.sql_tables.specs.Schema.{accounts, buckets, charges, schema_at, session_groups};
 ghost use Rattle.sql_tables.specs.Schema.{sessions};
 ghost use Rattle.sql_rules.specs.Beside.{AreRightBeside, NoneWrong, is_ahead, is_bucket_ahead};
-ghost use Rattle.sql_rules.specs.Beside.{lacks_open_session};
+ghost use Rattle.sql_rules.specs.Beside.{is_touched_after, lacks_open_session};
 ghost use Rattle.sql_rules.specs.Tables.{Tells};
 ghost use Rattle.sql_rules.specs.Walks.{FindsNoRow};
 
@@ -83,6 +83,44 @@ fn numbers_pass<S: Alter>(conn: &mut Connection<S>, version: u32) -> Result<(), 
     buckets_pass(conn, version)
 }
 
+/// Tests that no open session was touched after the moment of its account. It looks at each account
+/// once, and at its open sessions.
+// rule: rows-ruled.beside
+fn sessions_pass<S: Alter>(conn: &mut Connection<S>, version: u32) -> Result<(), OpenFault>
+    requires known { IsVersion version }
+    requires ours { HasCleanDisk (state S.Store conn.old) → conn.old.schema ≡ schema_at version }
+    ensures { Tells (NoneWrong is_touched_after accounts sessions) (state S.Store conn.old)
+        (state S.Store conn.new) result }
+{
+    // For the prover alone: the version whose schema the text is read over.
+    let _version = version;
+    match finds_none(
+        conn,
+        "SELECT 1 FROM accounts, sessions WHERE sessions.account = accounts.account \
+         AND sessions.state = 1 AND sessions.touched > accounts.as_of LIMIT 1",
+    ) {
+        Ok(true) => Ok(()),
+        Ok(false) => Err(OpenFault::Rules),
+        Err(error) => Err(fault_of(error)),
+    }
+}
+
+/// Tests what is said of open sessions: none was touched after the moment of its account, and each
+/// reservation is in one.
+fn sessions_and_reservations_pass<S: Alter>(
+    conn: &mut Connection<S>,
+    version: u32,
+) -> Result<(), OpenFault>
+    requires known { IsVersion version }
+    requires ours { HasCleanDisk (state S.Store conn.old) → conn.old.schema ≡ schema_at version }
+    ensures { Tells (λ trees. NoneWrong is_touched_after accounts sessions trees
+        × NoneWrong lacks_open_session session_groups sessions trees)
+        (state S.Store conn.old) (state S.Store conn.new) result }
+{
+    sessions_pass(conn, version)?;
+    reservations_pass(conn, version)
+}
+
 /// Tests that each reservation is in an open session. It looks at each row of `session_groups`
 /// once, and at the session of each that has a reservation.
 // rule: rows-ruled.beside
@@ -117,5 +155,5 @@ pub(crate) fn pairs_pass<S: Alter>(conn: &mut Connection<S>, version: u32) -> Re
     ensures { Tells AreRightBeside (state S.Store conn.old) (state S.Store conn.new) result }
 {
     numbers_pass(conn, version)?;
-    reservations_pass(conn, version)
+    sessions_and_reservations_pass(conn, version)
 }

@@ -3,7 +3,8 @@ use Rattle.std.proofs.Common.{◌≡◌, ◌<◌, ◌≤◌, ◌+◌, take, get_
 use Rattle.std.proofs.Common.{List, [], ◌∷◌, ◌++◌, cond, Option, Some, None, Result, Ok, Err, IfOk}
 use Rattle.std.proofs.Common.{IsTrue, ◌⊎◌, inl, inr, refl, sym, ap, subst, ◌∙◌, arith, ltb-true}
 use Rattle.std.proofs.Common.{zero, suc}
-use Rattle.std.specs.Prelude.{◌||◌, ◌&&◌, if◌then◌else◌, map, not, nat_eq, is_some, option_map, ⊤}
+use Rattle.std.specs.Prelude.{◌||◌, ◌&&◌, if◌then◌else◌, map, not, nat_eq, nat_le, is_some}
+use Rattle.std.specs.Prelude.{option_map, ⊤}
 use Rattle.std.specs.List.{find, list_all}
 use Rattle.std.proofs.lemmas.Bool.{and_parts, not-true}
 use Rattle.std.proofs.lemmas.List.{take_more, take_all}
@@ -37,7 +38,7 @@ use Rattle.sql_keeper.specs.Seen.{IsStanding, IsUnknown, is_unknown, stands_open
 use Rattle.sql_keeper.specs.Tests.{is_as, is_beside, are_beside, IsSettled}
 use Rattle.sql_keeper.specs.Tests.{AreFound, AreNewGroups, AreWritable, IsChangeFound, IsFound}
 use Rattle.sql_keeper.specs.Tests.{AreNumbered, AreUnknown, IsTested, are_among}
-use Rattle.sql_keeper.specs.Tests.{are_buckets_numbered, first_number}
+use Rattle.sql_keeper.specs.Tests.{are_buckets_numbered, first_moment, first_number}
 use Rattle.sql_keeper.specs.declared.seen.Standing.{Standing}
 use Rattle.sql_keeper.specs.declared.seen.Standing.TheVariants.{Unknown, Open, Over}
 use Rattle.sql_keeper.specs.declared.settling.NamedSessions.{NamedSessions}
@@ -382,6 +383,7 @@ pub change_unsettled : {E : Type 0} (names : Names) (change : Change) (o : Optio
     (AreWritable names change.rows.sessions change.rows.groups →
     AreNumbered (first_number o) change.rows.next_charge change.charges.items →
     IsTrue (are_buckets_numbered (first_bucket o) change.rows) →
+    IsTrue (nat_le (first_moment o) change.rows.as_of) →
     IsTrue (is_ruled_change names change) → IsTrue false) →
     Gathers {A = NamedSessions} {E = E}
     (λ trees w. IsChangeFound names change (rows_in trees change.number) w) old new (Ok z)
@@ -397,7 +399,9 @@ change_unsettled {E} names change o z old new is reads fails =
           (subst (λ h. AreNumbered (first_number h) change.rows.next_charge change.charges.items)
           (sym (reads.found clean on)) may.numbers)
           (subst (λ h. IsTrue (are_buckets_numbered (first_bucket h) change.rows))
-          (sym (reads.found clean on)) may.buckets) may.ruled));
+          (sym (reads.found clean on)) may.buckets)
+          (subst (λ h. IsTrue (nat_le (first_moment h) change.rows.as_of))
+          (sym (reads.found clean on)) may.moment) may.ruled));
       new = λ t. absurd (not_new z is t);
       unknown = λ t. absurd (not_new z is t);
     })
@@ -413,13 +417,14 @@ pub change_found : {E : Type 0} (names : Names) (change : Change) (o : Option He
     AreWritable names change.rows.sessions change.rows.groups →
     AreNumbered (first_number o) change.rows.next_charge change.charges.items →
     IsTrue (are_buckets_numbered (first_bucket o) change.rows) →
+    IsTrue (nat_le (first_moment o) change.rows.as_of) →
     IsTrue (is_ruled_change names change) →
     Gathers {A = NamedSessions} {E = E}
     (λ trees w. AreFound xs ys (rows_in trees change.number) w) mid new (Ok y) →
     Gathers {A = NamedSessions} {E = E}
     (λ trees w. IsChangeFound names change (rows_in trees change.number) w) old new (Ok z)
 change_found {E} names change o xs ys y z old mid new same_xs same_ys is one writable numbered
-    below ruled two =
+    below by ruled two =
     gathers_from {A = NamedSessions} {E = E}
     (λ trees w. IsChangeFound names change (rows_in trees change.number) w) old new (Ok z)
     (have_read_then old mid new
@@ -441,6 +446,8 @@ change_found {E} names change o xs ys y z old mid new same_xs same_ys is one wri
             (one.found (two.only.cleanness clean) (two.only.still clean on).was_open) numbered;
         buckets = subst (λ h. IsTrue (are_buckets_numbered (first_bucket h) change.rows))
             (one.found (two.only.cleanness clean) (two.only.still clean on).was_open) below;
+        moment = subst (λ h. IsTrue (nat_le (first_moment h) change.rows.as_of))
+            (one.found (two.only.cleanness clean) (two.only.still clean on).was_open) by;
         settled = subst (EachIn (IsSettled change.rows.groups rows)) same_xs
             (subst (λ zs. EachIn (IsSettled zs rows) xs) same_ys
             (found.settled (sym (ap (λ (w : NamedSessions). w.are_settled) is) ∙ t)));

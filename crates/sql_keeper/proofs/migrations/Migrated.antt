@@ -181,6 +181,7 @@ tidy_first names trees t = record {
         beside = record {
           numbers = own.beside.numbers;
           buckets = own.beside.buckets;
+          touched = own.beside.touched;
           live = own.beside.live;
         };
         terms = λ s g. granted_terms names (((content_at 1 trees).rows a).grant_books s g)

@@ -124,6 +124,8 @@ module _ (shelf : Shelf) (old mid : Trees) where
         (subst (λ rows. Has rows s) charges k);
     buckets = λ r s h k. right.buckets r s (subst (λ rows. Has rows r) accounts h)
         (subst (λ rows. Has rows s) buckets k);
+    moments = λ r s h k. right.moments r s (subst (λ rows. Has rows r) accounts h)
+        (subst (λ rows. Has rows s) sessions k);
     reservations = λ r s h k. right.reservations r s (subst (λ rows. Has rows r) groups h)
         (subst (λ rows. Has rows s) sessions k);
   }
@@ -242,6 +244,7 @@ granted_beside false c beside a =
     record {
       numbers = (beside a).numbers;
       buckets = (beside a).buckets;
+      touched = (beside a).touched;
       live = (beside a).live;
     }
 
@@ -262,7 +265,7 @@ module _ (shelf : Shelf) (v : ℕ) (mid new : Trees) (m : Meta)
       let fits : Fits our_schema mid =
       record { rules = λ rule other. obeys.rules rule; indexed = obeys.indexed } in
       let each = content_ruled shelf mid fits all in
-      let beside = rows_beside shelf mid all (obeys.rules ForeignKey) in
+      let beside = rows_beside shelf mid all (obeys.rules ForeignKey) fits in
       let given = with_granted v (tables_content mid) in
       let same = granted_meta (nat_le 2 v) (tables_content mid) ∙ is in
       let by_row : IsInRulesBy shelf m.last (tables_content mid) =

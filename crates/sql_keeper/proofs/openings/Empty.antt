@@ -113,6 +113,7 @@ beside_nothing : AreBeside nothing
 beside_nothing = record {
   numbers = λ n k. not_both (sym k);
   buckets = λ n k. not_both (sym k);
+  touched = λ s x e on. absurd (cc e);
   live = λ s g k. not_both (sym k);
 }
 

@@ -31,6 +31,7 @@ use Rattle.sql_rules.specs.Rules.{has_period, is_period_name}
 use Rattle.sql_rules.proofs.Decoded.{are_named, periods_are}
 use Rattle.sql_keeper.specs.Content.{is_reserved, names_numbered, shelf_names}
 use Rattle.sql_keeper.specs.Migrates.{granted_in, with_granted}
+use Rattle.sql_keeper.specs.RuledRows.{is_ruled_sweep}
 use Rattle.sql_keeper.specs.Sweeps.{AreAllSwept, IsSweptOf, with_sweep}
 use Rattle.sql_keeper.specs.Tests.{MayBeMade}
 use Rattle.sql_keeper.specs.Writes.{AreTexts, columns_of, names_held, with_change}
@@ -42,7 +43,8 @@ use Rattle.sql_keeper.proofs.puts.CountedPuts.{over_paid}
 use Rattle.sql_keeper.proofs.puts.Groups.{book_over, book_put}
 use Rattle.sql_keeper.proofs.puts.Overlays.{opened}
 use Rattle.sql_keeper.proofs.rules.Tidy.{MayBeOver, each_at, may_be_over, written_is}
-use Rattle.sql_keeper.proofs.rules.TidySweeps.{over}
+use Rattle.sql_keeper.proofs.rules.TidyChanges.{timely_named}
+use Rattle.sql_keeper.proofs.rules.TidySweeps.{over, timely_found}
 use Rattle.sql_keeper.proofs.sweeps.Swept.{found_one, row_after, rows_are, swept_at}
 
 -- each reservation of each account has its book
@@ -126,7 +128,8 @@ books_change shelf m change texts c named may told t =
     let cs = change.charges.items in
     let keyed = keyed_named w named in
     let over' = may_be_over names a w cs change.kept texts change.redeemed m c w.sessions keyed
-    may.reservations may.numbers told (open_named w.sessions (c.rows a)) in
+    may.reservations may.numbers told may.buckets may.moment
+    (timely_named names change may.ruled) (open_named w.sessions (c.rows a)) in
     let rows : TablesContent = opened a (over_stored names w) (with_meta m c) in
     let stored : AreAllOfBooks shelf rows =
     each_at (λ x. AreOfBooks shelf) a (over_stored names w) (with_meta m c)
@@ -142,8 +145,8 @@ books_change shelf m change texts c named may told t =
 -- rule: rows-ruled.granted
 pub books_sweep : (own : Shelf) (text : List ℕ) (shelf : Shelf) (t : ℕ) (c : TablesContent)
     (xs : List SweptAccount) → IsShelf shelf → AreAllSwept (shelf_names own) shelf t c xs
-    → AreAllOfBooks own c → AreAllOfBooks own (with_sweep (shelf_names own) text t xs c)
-books_sweep own text shelf t c xs ranges all books a =
+    → is_ruled_sweep (shelf_names own) t xs ≡ true → AreAllOfBooks own c → AreAllOfBooks own (with_sweep (shelf_names own) text t xs c)
+books_sweep own text shelf t c xs ranges all ruled books a =
     let names = shelf_names own in
     subst (AreOfBooks own) (sym (rows_are names text shelf t c xs ranges all a))
     (at (swept_at a xs) refl)
@@ -154,8 +157,8 @@ books_sweep own text shelf t c xs ranges all books a =
     at (Some x) e =
         let one = found_one (IsSweptOf (shelf_names own) shelf t c) a xs x all.each e in
         books_stored own x.rows (c.rows a) (over (shelf_names own) shelf t (c.rows a) x.rows
-        (subst (λ n. AreSweptRows (shelf_names own) shelf t (c.rows n) x.rows) one.1 one.0))
-        (books a)
+        (subst (λ n. AreSweptRows (shelf_names own) shelf t (c.rows n) x.rows) one.1 one.0)
+        (timely_found (shelf_names own) t xs a x ruled e)) (books a)
 
 -- ---- a book more
 

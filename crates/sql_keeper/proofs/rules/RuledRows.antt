@@ -86,6 +86,18 @@ names_count shelf =
 by_from : (n t : ℕ) → nat_le n t ≡ true → n ≤ t
 by_from n t e = grind (arith, nat_tests, e)
 
+at_most : (m n last : ℕ) → nat_le m n ≡ true → nat_le n last ≡ true → nat_le m last ≡ true
+at_most m n last e f = grind (arith, nat_tests, e, f)
+
+-- what is by one moment is by a later one
+sooner : {A : Type 0} (of : A → ℕ) (n last : ℕ) (xs : List A) → nat_le n last ≡ true
+    → list_all (λ x. nat_le (of x) n) xs ≡ true → list_all (λ x. nat_le (of x) last) xs ≡ true
+sooner of n last [] by all = refl
+sooner of n last (x ∷ xs) by all =
+    let parts = and_parts (nat_le (of x) n) (list_all (λ y. nat_le (of y) n) xs) all in
+    and_from (nat_le (of x) last) (list_all (λ y. nat_le (of y) last) xs)
+    (at_most (of x) n last parts.0 by) (sooner of n last xs by parts.1)
+
 each_of : {A : Type 0} (test : A → Bool) (xs : List A) → list_all test xs ≡ true
     → EachIn (λ x. test x ≡ true) xs
 each_of test [] e = tt
@@ -228,7 +240,9 @@ module _ (shelf : Shelf) (last : ℕ) where
         → AreWritable (shelf_names shelf) among w.groups → IsInRulesBy shelf last c
         → IsInRulesBy shelf last (with_stored a (shelf_names shelf) w c)
     stored_kept among w c rule early may in' =
-        let times = and_parts (nat_le w.as_of last) (are_timely_sessions last w.sessions) early in
+        let own = and_parts (nat_le w.as_of last) (are_timely_sessions w.as_of w.sessions) early in
+        let touched : are_timely_sessions last w.sessions ≡ true =
+        sooner (λ (x : Session). x.touched) w.as_of last w.sessions own.0 own.1 in
         let groups = and_parts _ (list_all (is_ruled_group (shelf_names shelf)) w.groups) rule in
         let sessions = and_parts _ (list_all is_session w.sessions) groups.0 in
         let counters = and_parts _ (list_all is_counter w.counters) sessions.0 in
@@ -240,12 +254,12 @@ module _ (shelf : Shelf) (last : ℕ) where
         (each_kept (λ x. with_rows a (with_session_row x)) is_session IsTouchedBy
         (λ x d some early so. rows_kept shelf d so a (with_session_row x)
         (session_kept shelf a (d.rows a) (so.rows a) x some (by_from x.touched last early)))
-        w.sessions _ sessions.1 (each_of (λ (x : Session). nat_le x.touched last) w.sessions times.1)
+        w.sessions _ sessions.1 (each_of (λ (x : Session). nat_le x.touched last) w.sessions touched)
         (all_kept (λ x. with_rows a (with_counter_row x)) is_counter
         (λ x d some so. rows_kept shelf d so a (with_counter_row x)
         (counter_kept shelf a (d.rows a) (so.rows a) x some)) w.counters _ counters.1
         (all_kept (with_counted a) is_bucket counted_kept w.buckets _ buckets.1
-        (account_kept shelf c in' a (head_columns_of w) buckets.0 (by_from w.as_of last times.0)))))
+        (account_kept shelf c in' a (head_columns_of w) buckets.0 (by_from w.as_of last own.0)))))
 
     -- the same with the head put last
     swept_kept : (among : List Session) (w : StoredRows) (c : TablesContent)
@@ -256,7 +270,9 @@ module _ (shelf : Shelf) (last : ℕ) where
         (with_sessions a w.sessions (with_counters a w.counters
         (with_all_counted a w.buckets c)))))
     swept_kept among w c rule early may in' =
-        let times = and_parts (nat_le w.as_of last) (are_timely_sessions last w.sessions) early in
+        let own = and_parts (nat_le w.as_of last) (are_timely_sessions w.as_of w.sessions) early in
+        let touched : are_timely_sessions last w.sessions ≡ true =
+        sooner (λ (x : Session). x.touched) w.as_of last w.sessions own.0 own.1 in
         let groups = and_parts _ (list_all (is_ruled_group (shelf_names shelf)) w.groups) rule in
         let sessions = and_parts _ (list_all is_session w.sessions) groups.0 in
         let counters = and_parts _ (list_all is_counter w.counters) sessions.0 in
@@ -269,12 +285,12 @@ module _ (shelf : Shelf) (last : ℕ) where
         (each_kept (λ x. with_rows a (with_session_row x)) is_session IsTouchedBy
         (λ x d some early so. rows_kept shelf d so a (with_session_row x)
         (session_kept shelf a (d.rows a) (so.rows a) x some (by_from x.touched last early)))
-        w.sessions _ sessions.1 (each_of (λ (x : Session). nat_le x.touched last) w.sessions times.1)
+        w.sessions _ sessions.1 (each_of (λ (x : Session). nat_le x.touched last) w.sessions touched)
         (all_kept (λ x. with_rows a (with_counter_row x)) is_counter
         (λ x d some so. rows_kept shelf d so a (with_counter_row x)
         (counter_kept shelf a (d.rows a) (so.rows a) x some)) w.counters _ counters.1
         (all_kept (with_counted a) is_bucket counted_kept w.buckets c buckets.1 in'))))
-        a (head_columns_of w) buckets.0 (by_from w.as_of last times.0)
+        a (head_columns_of w) buckets.0 (by_from w.as_of last own.0)
 
     -- ---- charges, texts, vouchers
 
@@ -356,7 +372,9 @@ module _ (shelf : Shelf) (last : ℕ) where
   change_kept m change texts c now kept_last rule told may there in' =
       let all = and_parts _ (is_timely_change change) rule in
       let times = and_parts (are_timely_rows change.moment change.rows)
-      (are_timely_charges change.moment change.charges.items) all.1 in
+      (are_timely_charges change.rows.as_of change.charges.items) all.1 in
+      let early = and_parts (nat_le change.rows.as_of change.moment)
+      (are_timely_sessions change.rows.as_of change.rows.sessions) times.0 in
       let kept = and_parts _ (is_ruled_kept change.kept) all.0 in
       let redeemed = and_parts _ (is_ruled_redeemed change.redeemed) kept.0 in
       let charges = and_parts _ (list_all is_ruled_charge change.charges.items) redeemed.0 in
@@ -365,7 +383,8 @@ module _ (shelf : Shelf) (last : ℕ) where
       redeemed_kept change.redeemed _ redeemed.1
       (kept_kept change.number change.kept texts _ kept.1 told
       (all_paid_kept change.number change.charges.items _ charges.1
-      (subst (λ n. are_timely_charges n change.charges.items ≡ true) now times.1)
+      (sooner (λ (x : ChargeRow). x.moment) change.rows.as_of last change.charges.items
+      (subst (λ n. nat_le change.rows.as_of n ≡ true) now early.0) times.1)
       (stored_kept change.number change.rows.sessions change.rows (with_meta m c) rows.1
       (subst (λ n. are_timely_rows n change.rows ≡ true) now times.0) may
       (meta_kept shelf c in' m (subst (λ n. is_moment n ≡ true) (sym kept_last) rows.0)

@@ -12,7 +12,7 @@ use Rattle.reserving.specs.declared.session.Reservation.{Reservation}
 use Rattle.reserving.specs.declared.session.Session.{Session}
 use Rattle.reserving.specs.declared.session.SessionGroup.{SessionGroup}
 use Rattle.reserving.specs.Left.{bucket_in, first_of, is_open_row}
-use Rattle.reserving.specs.Sessions.{group_in, holds_in, session_in}
+use Rattle.reserving.specs.Sessions.{group_in, holds_in, is_open, is_session, session_in}
 use Rattle.reserving.specs.Stored.{StoredRows}
 use Rattle.ledger.proofs.Holds.{same_itself as name_itself}
 use Rattle.commands.specs.declared.key.Key.{Key}
@@ -24,11 +24,12 @@ use Rattle.keepers.specs.Tables.{charge_in}
 use Rattle.sql_rows.specs.Values.{Kept, Meta, reference_kind, request_kind}
 use Rattle.sql_rows.specs.Content.{TablesContent, TableRows, with_answer, with_meta, with_rows}
 use Rattle.sql_rows.specs.declared.head.HeadColumns.{HeadColumns}
-use Rattle.sql_rules.specs.Ruled.{AreBeside, is_bucket_numbered}
+use Rattle.sql_rules.specs.Ruled.{AreBeside, is_bucket_numbered, is_reached}
 use Rattle.sql_keeper.specs.Content.{Names, is_numbered, is_reserved, kept_in, names_numbered}
 use Rattle.sql_keeper.specs.Numbers.{first_bucket}
 use Rattle.sql_keeper.specs.Tests.{AreNumbered, AreWritable, IsPeriodNamed, IsWritable, MayStand}
-use Rattle.sql_keeper.specs.Tests.{are_buckets_numbered, first_number}
+use Rattle.sql_keeper.specs.Tests.{are_buckets_numbered, first_moment, first_number}
+use Rattle.sql_keeper.specs.RuledRows.{are_timely_sessions}
 use Rattle.sql_keeper.specs.Tidy.{AreTidyRows, EndsTidy, IsTidy, are_terms, has_terms, is_key}
 use Rattle.sql_keeper.specs.Writes.{AreTexts, columns_of, head_columns_of, names_held, with_kept}
 use Rattle.sql_keeper.specs.Writes.{with_all_paid, with_redeemed, with_stored, with_texts}
@@ -60,6 +61,10 @@ pub record MayBeOver (names : Names) (w : StoredRows) (r : TableRows) : Type 0 w
   pub lower : (n : ℕ) → is_bucket_numbered n r.head ≡ true → nat_lt n w.next_bucket ≡ true
   pub named : (n : ℕ) (x : BucketRow) → bucket_in n w.buckets ≡ Some x →
       nat_lt n w.next_bucket ≡ true
+  -- a moment that isn't after the account's stays so, and that of a session that is named isn't
+  pub later : (t : ℕ) → is_reached t r.head ≡ true → nat_le t w.as_of ≡ true
+  pub touched : (s : List ℕ) (x : Session) → session_in s w.sessions ≡ Some x →
+      nat_le x.touched w.as_of ≡ true
 
 -- a reservation stays in an open session, and a charge stays numbered
 module _ (names : Names) (w : StoredRows) (r : TableRows) (b : AreBeside r)
@@ -91,11 +96,23 @@ module _ (names : Names) (w : StoredRows) (r : TableRows) (b : AreBeside r)
       at None e k = may.lower n (b.buckets n k)
       at (Some x) e k = may.named n x e
 
+  touched_after : (s : List ℕ) (x : Session)
+      → first_of (session_in s w.sessions) (r.sessions s) ≡ Some x → is_open x.state ≡ true
+      → nat_le x.touched w.as_of ≡ true
+  touched_after s x = at (session_in s w.sessions) refl
+    where
+      at : (o : Option Session) → session_in s w.sessions ≡ o →
+          first_of o (r.sessions s) ≡ Some x → is_open x.state ≡ true →
+          nat_le x.touched w.as_of ≡ true
+      at None e k on = may.later x.touched (b.touched s x k on)
+      at (Some y) e k on = may.touched s x (e ∙ k)
+
   -- rule: rows-ruled.beside
   pub beside_stored : AreBeside (over_stored names w r)
   beside_stored = record {
     numbers = λ n k. may.numbers n (b.numbers n k);
     buckets = buckets_after;
+    touched = touched_after;
     live = live_after;
   }
 
@@ -185,7 +202,12 @@ module _ (cs : List ChargeRow) (r : TableRows)
 
       -- rule: rows-ruled.beside
       pub beside_paid : AreBeside (over_paid cs r)
-      beside_paid = record { numbers = charges_after; buckets = b.buckets; live = b.live }
+      beside_paid = record {
+        numbers = charges_after;
+        buckets = b.buckets;
+        touched = b.touched;
+        live = b.live;
+      }
 
     module _ (names : Names) (a : List ℕ) (t : AreTidyRows names a r) where
       covered_after : (n : ℕ) → is_some (blocks_in (charge_in n cs) (r.covered n)) ≡ true →
@@ -217,6 +239,7 @@ tidy_answer names a kind name number k r key told t = record {
   beside = record {
     numbers = t.beside.numbers;
     buckets = t.beside.buckets;
+    touched = t.beside.touched;
     live = t.beside.live;
   };
   terms = t.terms;
@@ -262,10 +285,20 @@ beside_texts : (a : List ℕ) (key : Key) (k : Kept) (c : TablesContent) → Are
     → AreAllBeside (with_texts a key k c)
 beside_texts a (Request s n) k c t =
     each_at (λ x. AreBeside) a (with_answer request_kind s n k) c
-    (λ own. record { numbers = own.numbers; buckets = own.buckets; live = own.live }) t
+    (λ own. record {
+      numbers = own.numbers;
+      buckets = own.buckets;
+      touched = own.touched;
+      live = own.live;
+    }) t
 beside_texts a (Reference x) k c t =
     each_at (λ x. AreBeside) a (with_answer reference_kind x 0 k) c
-    (λ own. record { numbers = own.numbers; buckets = own.buckets; live = own.live }) t
+    (λ own. record {
+      numbers = own.numbers;
+      buckets = own.buckets;
+      touched = own.touched;
+      live = own.live;
+    }) t
 
 beside_kept : (a : List ℕ) (kept : Option KeptAnswer) (texts : Option Kept) (c : TablesContent)
     → AreAllBeside c → AreAllBeside (with_kept a kept texts c)
@@ -342,7 +375,7 @@ lower_on : (n : ℕ) (o : Option HeadColumns) (next : ℕ) → nat_le (first_buc
 lower_on n None next e k = not_both (sym k)
 lower_on n (Some h) next e k = grind (arith, nat_tests, e, k)
 
-all_found : {A : Type 0} (test is : A → Bool) (xs : List A) (x : A) → list_all test xs ≡ true
+pub all_found : {A : Type 0} (test is : A → Bool) (xs : List A) (x : A) → list_all test xs ≡ true
     → find is xs ≡ Some x → (test x ≡ true) × (is x ≡ true)
 all_found test is [] x all e = absurd (cc e)
 all_found test is (y ∷ ys) x all e =
@@ -367,6 +400,13 @@ below_named n next xs x all e =
     (λ (b : BucketRow). nat_eq b.number n) xs x all e in
     subst (λ m. nat_lt m next ≡ true) (number_from x.number n found.1) found.0
 
+-- ---- moments
+
+later_on : (t : ℕ) (o : Option HeadColumns) (as_of : ℕ) → nat_le (first_moment o) as_of ≡ true
+    → is_reached t o ≡ true → nat_le t as_of ≡ true
+later_on t None as_of e k = not_both (sym k)
+later_on t (Some h) as_of e k = grind (arith, nat_tests, e, k)
+
 -- ---- all that is written of an account
 
 module _ (names : Names) (a : List ℕ) (w : StoredRows) (cs : List ChargeRow)
@@ -375,12 +415,15 @@ module _ (names : Names) (a : List ℕ) (w : StoredRows) (cs : List ChargeRow)
     (may : AreWritable names sessions w.groups)
     (numbers : AreNumbered (first_number (c.rows a).head) w.next_charge cs)
     (told : AreTexts a kept texts) where
-  -- where sessions that are open stay so, and the buckets are numbered below the next number
+  -- where sessions that are open stay so, the buckets are numbered below the next number, and no
+  -- session was touched after the account's moment, which doesn't fall
   pub may_be_over : are_buckets_numbered (first_bucket (c.rows a).head) w ≡ true
+      → nat_le (first_moment (c.rows a).head) w.as_of ≡ true
+      → are_timely_sessions w.as_of w.sessions ≡ true
       → ((s : List ℕ) → is_open_row (session_in s sessions) ≡ true
       → is_open_row (first_of (session_in s w.sessions) ((c.rows a).sessions s)) ≡ true)
       → MayBeOver names w (c.rows a)
-  may_be_over below stays = record {
+  may_be_over below by timely stays = record {
     live = λ s g x y is has. stays s (stands s g x y is has).live;
     before = λ s g x y is has. (stands s g x y is has).before;
     after = λ s g x y is has. (stands s g x y is has).after;
@@ -389,6 +432,9 @@ module _ (names : Names) (a : List ℕ) (w : StoredRows) (cs : List ChargeRow)
         (rises (first_number (c.rows a).head) w.next_charge cs numbers) is;
     lower = λ n is. lower_on n (c.rows a).head w.next_bucket parts.0 is;
     named = λ n x is. below_named n w.next_bucket w.buckets x parts.1 is;
+    later = λ t is. later_on t (c.rows a).head w.as_of by is;
+    touched = λ s x is. (all_found (λ (y : Session). nat_le y.touched w.as_of) (is_session s)
+        w.sessions x timely is).0;
   }
     where
       parts : (nat_le (first_bucket (c.rows a).head) w.next_bucket ≡ true)

@@ -1,7 +1,7 @@
 -- What a change, a voucher and a book more leave of tables in which no row is without a meaning.
 use Rattle.std.proofs.Common.{◌≡◌, inl, inr, ◌∙◌, ◌++◌, ℕ, zero, suc, Bool, true, false, List, []}
 use Rattle.std.proofs.Common.{◌∷◌, Option, Some, None, refl, sym, ap}
-use Rattle.std.specs.Prelude.{is_some, slice_get, unwrap_or}
+use Rattle.std.specs.Prelude.{is_some, nat_le, slice_get, unwrap_or}
 use Rattle.std.proofs.lemmas.Bool.{and_parts}
 use Rattle.tariffs.specs.Names.{period_named}
 use Rattle.voucher_rules.specs.declared.terms.VoucherTerms.{VoucherTerms}
@@ -15,6 +15,8 @@ use Rattle.sql_rows.specs.Content.{TablesContent, TableRows}
 use Rattle.sql_keeper.specs.AddsBook.{with_dated}
 use Rattle.sql_keeper.specs.Additions.{with_addition}
 use Rattle.sql_keeper.specs.Content.{Names, book_in, is_reserved, names_numbered}
+use Rattle.sql_keeper.specs.RuledRows.{are_timely_charges, are_timely_rows, are_timely_sessions}
+use Rattle.sql_keeper.specs.RuledRows.{is_ruled_change, is_timely_change}
 use Rattle.sql_keeper.specs.Tests.{AreSettled, MayBeMade}
 use Rattle.sql_keeper.specs.Tidy.{AreTidyRows, EndsTidy, IsTidy, are_terms}
 use Rattle.sql_keeper.specs.Tidy.{has_terms}
@@ -40,6 +42,16 @@ ends_settled w r settled s g none = at (r.groups s g) refl
       | inr free ↦ not_both (sym reserved ∙ ap is_some free)
     ]
 
+-- no session that is named was touched after the account's moment
+pub timely_named : (names : Names) (change : Change) → is_ruled_change names change ≡ true →
+    are_timely_sessions change.rows.as_of change.rows.sessions ≡ true
+timely_named names change rule =
+    let times = and_parts (are_timely_rows change.moment change.rows)
+    (are_timely_charges change.rows.as_of change.charges.items)
+    (and_parts _ (is_timely_change change) rule).1 in
+    (and_parts (nat_le change.rows.as_of change.moment)
+    (are_timely_sessions change.rows.as_of change.rows.sessions) times.0).1
+
 -- rule: tidy-rows
 pub tidy_change : (names : Names) (m : Meta) (change : Change) (texts : Option Kept)
     (c : TablesContent)
@@ -54,7 +66,8 @@ tidy_change names m change texts c named may told t =
     (settled_each change.rows.sessions change.rows.groups (c.rows change.number) may.settled))
     (may_be_over names change.number change.rows change.charges.items change.kept texts
     change.redeemed m c change.rows.sessions (keyed_named change.rows named) may.reservations
-    may.numbers told may.buckets (open_named change.rows.sessions (c.rows change.number))) t
+    may.numbers told may.buckets may.moment (timely_named names change may.ruled)
+    (open_named change.rows.sessions (c.rows change.number))) t
 
 -- rule: rows-ruled.beside
 pub beside_change : (names : Names) (m : Meta) (change : Change) (texts : Option Kept)
@@ -70,7 +83,8 @@ beside_change names m change texts c named may told t =
     (settled_each change.rows.sessions change.rows.groups (c.rows change.number) may.settled))
     (may_be_over names change.number change.rows change.charges.items change.kept texts
     change.redeemed m c change.rows.sessions (keyed_named change.rows named) may.reservations
-    may.numbers told may.buckets (open_named change.rows.sessions (c.rows change.number))) t
+    may.numbers told may.buckets may.moment (timely_named names change may.ruled)
+    (open_named change.rows.sessions (c.rows change.number))) t
 
 -- ---- a voucher
 

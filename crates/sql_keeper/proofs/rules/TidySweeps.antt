@@ -1,20 +1,26 @@
 -- What a sweep leaves of tables in which no row is without a meaning.
 use Rattle.std.proofs.Common.{◌≡◌, ◌∙◌, ◌<◌, ℕ, Bool, true, false, cond, List, [], ◌∷◌, lt-ltb}
-use Rattle.std.proofs.Common.{Option, Some, None, refl, sym, ap, subst}
+use Rattle.std.proofs.Common.{Option, Some, None, arith, refl, sym, ap, subst}
 use Rattle.std.specs.Prelude.{filter, if◌then◌else◌, is_some, nat_eq, nat_le, nat_lt, not}
-use Rattle.std.specs.List.{list_any}
+use Rattle.std.specs.List.{list_all, list_any}
+use Rattle.std.proofs.lemmas.Bool.{and_parts}
+use Rattle.std.proofs.lemmas.Bool.Decides.{nat_tests}
+use Rattle.identifiers.specs.Texts.{same_name}
 use Rattle.buckets.specs.Row.{BucketRow}
 use Rattle.buckets.specs.Spend.{IsBelow}
 use Rattle.shelves.specs.Shelves.{Shelf, IsShelf}
 use Rattle.reserving.specs.declared.session.Reservation.{Reservation}
 use Rattle.reserving.specs.declared.session.Session.{Session}
 use Rattle.reserving.specs.declared.session.SessionGroup.{SessionGroup}
-use Rattle.reserving.specs.Sessions.{group_in}
+use Rattle.reserving.specs.Sessions.{group_in, is_session}
 use Rattle.reserving.specs.Stored.{StoredRows, advanced_stored}
 use Rattle.reserving.specs.Left.{bucket_in}
 use Rattle.keepers.specs.Differing.{equal_bucket}
 use Rattle.sql_rows.specs.Content.{TablesContent, TableRows}
-use Rattle.sql_rules.specs.Ruled.{AreBeside, is_bucket_numbered}
+use Rattle.sql_rules.specs.Columns.{is_moment}
+use Rattle.sql_rules.specs.Ruled.{AreBeside, is_bucket_numbered, is_reached}
+use Rattle.sql_keeper.specs.RuledRows.{are_ruled_rows, are_timely_rows, are_timely_sessions}
+use Rattle.sql_keeper.specs.RuledRows.{is_ruled_sweep, is_ruled_swept}
 use Rattle.sql_keeper.specs.Content.{Names, is_numbered}
 use Rattle.sql_keeper.specs.Sweeps.{AreAllSwept, AreSweptRows, IsSweptOf, rows_at, with_sweep}
 use Rattle.sql_keeper.specs.Tests.{IsWritable, MayStand}
@@ -26,7 +32,8 @@ use Rattle.sql_keeper.proofs.sweeps.Swept.{found_one, next_is, row_after, rows_a
 use Rattle.sql_keeper.proofs.sweeps.Swept.{swept_kept, swept_meta}
 use Rattle.sql_keeper.proofs.sweeps.SweptNamed.{after, may_swept, opens_swept, settled_swept}
 use Rattle.sql_keeper.proofs.puts.Overlays.{number_from}
-use Rattle.sql_keeper.proofs.rules.Tidy.{AreAllBeside, MayBeOver, beside_stored, tidy_meta}
+use Rattle.sql_keeper.proofs.rules.Tidy.{AreAllBeside, MayBeOver, all_found, beside_stored}
+use Rattle.sql_keeper.proofs.rules.Tidy.{tidy_meta}
 use Rattle.sql_keeper.proofs.rules.Tidy.{tidy_stored}
 use Rattle.sql_keeper.proofs.rules.TidyChanges.{ends_settled}
 
@@ -59,10 +66,37 @@ number_below n next (y ∷ ys) x h e =
     at true f low rest e = subst (λ m. m < next) (number_from y.number n f) low
     at false f low rest e = rest e
 
+-- ---- moments
+
+later_still : (shelf : Shelf) (t u : ℕ) (w : StoredRows) → nat_le u w.as_of ≡ true →
+    nat_le u (rows_at shelf t w).as_of ≡ true
+later_still shelf t u w e = at (nat_le w.as_of t) refl
+  where
+    at : (b : Bool) → nat_le w.as_of t ≡ b →
+        nat_le u (if b then advanced_stored shelf t w else w).as_of ≡ true
+    at true f = grind (arith, nat_tests, e, f)
+    at false f = e
+
+-- what is tested of each account
+swept_timely : (names : Names) (t : ℕ) (x : SweptAccount) → is_ruled_swept names t x ≡ true →
+    are_timely_sessions x.rows.as_of x.rows.sessions ≡ true
+swept_timely names t x rule =
+    (and_parts (nat_le x.rows.as_of t) (are_timely_sessions x.rows.as_of x.rows.sessions)
+    (and_parts (are_ruled_rows names x.number x.rows) (are_timely_rows t x.rows) rule).1).1
+
+-- and so of one that is found among those that are swept
+pub timely_found : (names : Names) (t : ℕ) (xs : List SweptAccount) (a : List ℕ) (x : SweptAccount)
+    → is_ruled_sweep names t xs ≡ true → swept_at a xs ≡ Some x
+    → are_timely_sessions x.rows.as_of x.rows.sessions ≡ true
+timely_found names t xs a x ruled e =
+    swept_timely names t x (all_found (is_ruled_swept names t) (λ y. same_name y.number a) xs x
+    (and_parts (is_moment t) (list_all (is_ruled_swept names t) xs) ruled).1 e).0
+
 -- ---- what is written of an account
 
 module _ (names : Names) (shelf : Shelf) (t : ℕ) (r : TableRows) (w : StoredRows)
-    (swept : AreSweptRows names shelf t r w) where
+    (swept : AreSweptRows names shelf t r w)
+    (timely : are_timely_sessions w.as_of w.sessions ≡ true) where
   abbrev among : List Session
   among = (after names shelf t r w swept).sessions
 
@@ -76,6 +110,11 @@ module _ (names : Names) (shelf : Shelf) (t : ℕ) (r : TableRows) (w : StoredRo
     lower = λ n is. subst (λ m. nat_lt n m ≡ true) (sym bucket_same)
         (subst (λ o. is_bucket_numbered n o ≡ true) (swept.live shelf t).0 is);
     named = λ n x is. lt-ltb n w.next_bucket (below_each n x is);
+    later = λ u is. subst (λ (y : StoredRows). nat_le u y.as_of ≡ true) (sym swept.is)
+        (later_still shelf t u swept.before
+        (subst (λ o. is_reached u o ≡ true) (swept.live shelf t).0 is));
+    touched = λ s x is. (all_found (λ (y : Session). nat_le y.touched w.as_of) (is_session s)
+        w.sessions x timely is).0;
   }
     where
       bucket_same : w.next_bucket ≡ swept.before.next_bucket
@@ -111,9 +150,10 @@ module _ (names : Names) (shelf : Shelf) (t : ℕ) (r : TableRows) (w : StoredRo
 
 -- rule: tidy-rows
 pub tidy_sweep : (names : Names) (text : List ℕ) (shelf : Shelf) (t : ℕ) (c : TablesContent)
-    (xs : List SweptAccount) → IsShelf shelf → AreAllSwept names shelf t c xs → IsTidy names c
+    (xs : List SweptAccount) → IsShelf shelf → AreAllSwept names shelf t c xs
+    → is_ruled_sweep names t xs ≡ true → IsTidy names c
     → IsTidy names (with_sweep names text t xs c)
-tidy_sweep names text shelf t c xs ranges all tidy =
+tidy_sweep names text shelf t c xs ranges all ruled tidy =
     let m = tidy_meta names (meta_at text t) c tidy in
     record {
       there = ap is_some (swept_meta names text shelf t c xs ranges all);
@@ -128,13 +168,16 @@ tidy_sweep names text shelf t c xs ranges all tidy =
     at a (Some x) e =
         let one = found_one (IsSweptOf names shelf t c) a xs x all.each e in
         tidy_swept names shelf t (c.rows a) x.rows
-        (subst (λ n. AreSweptRows names shelf t (c.rows n) x.rows) one.1 one.0) a (tidy.rows a)
+        (subst (λ n. AreSweptRows names shelf t (c.rows n) x.rows) one.1 one.0)
+        (timely_found names t xs a x ruled e)
+        a (tidy.rows a)
 
 -- rule: rows-ruled.beside
 pub beside_sweep : (names : Names) (text : List ℕ) (shelf : Shelf) (t : ℕ) (c : TablesContent)
-    (xs : List SweptAccount) → IsShelf shelf → AreAllSwept names shelf t c xs → AreAllBeside c
+    (xs : List SweptAccount) → IsShelf shelf → AreAllSwept names shelf t c xs
+    → is_ruled_sweep names t xs ≡ true → AreAllBeside c
     → AreAllBeside (with_sweep names text t xs c)
-beside_sweep names text shelf t c xs ranges all beside a =
+beside_sweep names text shelf t c xs ranges all ruled beside a =
     subst AreBeside (sym (rows_are names text shelf t c xs ranges all a)) (at (swept_at a xs) refl)
   where
     at : (o : Option SweptAccount) → swept_at a xs ≡ o → AreBeside (row_after names o (c.rows a))
@@ -142,4 +185,5 @@ beside_sweep names text shelf t c xs ranges all beside a =
     at (Some x) e =
         let one = found_one (IsSweptOf names shelf t c) a xs x all.each e in
         beside_swept names shelf t (c.rows a) x.rows
-        (subst (λ n. AreSweptRows names shelf t (c.rows n) x.rows) one.1 one.0) (beside a)
+        (subst (λ n. AreSweptRows names shelf t (c.rows n) x.rows) one.1 one.0)
+        (timely_found names t xs a x ruled e) (beside a)

@@ -311,7 +311,7 @@ become names text shelf t xs ranges last old new later all ruled turns =
           (tables_of names c))
           (sym turns.content) (sweeps_read names text shelf t (tables_content old) xs ranges all);
       tidy = λ tidy. subst (IsTidy names) (sym turns.content)
-          (tidy_sweep names text shelf t (tables_content old) xs ranges all tidy);
+          (tidy_sweep names text shelf t (tables_content old) xs ranges all ruled tidy);
       rules = λ own is there in'. record {
         each = subst (λ n. IsInRulesBy own n (tables_content new)) (sym (ap last_in kept))
             (subst (IsInRulesBy own t) (sym turns.content)
@@ -321,11 +321,12 @@ become names text shelf t xs ranges last old new later all ruled turns =
             (subst (λ n. EachIn (MayBePut n) xs) is
             (may names text shelf t (tables_content old) xs ranges all)))));
         beside = subst AreAllBeside (sym turns.content)
-            (beside_sweep names text shelf t (tables_content old) xs ranges all in'.beside);
+            (beside_sweep names text shelf t (tables_content old) xs ranges all ruled in'.beside);
         granted = subst (AreAllOfBooks own) (sym turns.content)
             (subst (λ n. AreAllOfBooks own (with_sweep n text t xs (tables_content old))) (sym is)
             (books_sweep own text shelf t (tables_content old) xs ranges
-            (subst (λ n. AreAllSwept n shelf t (tables_content old) xs) is all) in'.granted));
+            (subst (λ n. AreAllSwept n shelf t (tables_content old) xs) is all)
+            (subst (λ n. is_ruled_sweep n t xs ≡ true) is ruled) in'.granted));
       };
       stands = record {
         tabled = record { catalog = turns.catalog; stored = turns.stored; plain = turns.plain };

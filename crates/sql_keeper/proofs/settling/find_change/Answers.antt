@@ -25,5 +25,5 @@ returns g c =
     c.found_with.ensures c.in_ok-head.ensures
     (c.if-not-may_be_written.ensures.reservations refl)
     (c.if-not-may_be_written.ensures.numbers refl) (c.if-not-may_be_written.ensures.buckets refl)
-    (c.if-not-may_be_written.ensures.rules refl)
+    (c.if-not-may_be_written.ensures.moment refl) (c.if-not-may_be_written.ensures.rules refl)
     c.in_ok-found.ensures
