@@ -7,7 +7,7 @@ from collections.abc import Iterator
 
 import pytest
 
-from month.machine import wait_until
+from month.machine import DEPLOY, wait_until
 from month.stand import Stand, request, stand
 
 CODES = "code,amount,days,scope\n" + "".join(f"{at:012},5000000,30,\n" for at in range(1, 9))
@@ -146,6 +146,21 @@ def test_a_copy_is_started_and_no_voucher_spent_twice(office: Stand) -> None:
     assert "Bucket" in office.run(f"office redeem 000000000004 {other[1]}")
     assert office.available(other[1]) == had[other[1]]
     assert office.is_up("02")
+
+
+def test_nobody_else_asks_on_the_spare_port(office: Stand) -> None:
+    page = (DEPLOY / "README.md").read_text().partition("## The shards' own ports")[2]
+    listener = office.started("python3 -m http.server 8199 --bind 127.0.0.1")
+    asked = "bash -c 'exec 3<>/dev/tcp/127.0.0.1/8199'"
+    wait_until(lambda: office.machine.run(asked, None).returncode == 0, "a port")
+    stranger = f"runuser -u nobody -- {asked}"
+    office.run(stranger)
+    office.run(page.split("```")[1])
+    office.run(stranger, 1)
+    office.run(asked)
+    office.kill(listener)
+    assert "02 could start" in office.run("office restore 02 --drill")
+    assert office.ask("POST", "/sweep", shard="02")["Result-Code"] == 2001
 
 
 def test_a_shard_whose_file_is_gone_starts_from_its_copy(office: Stand) -> None:
