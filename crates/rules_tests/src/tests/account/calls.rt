@@ -1,5 +1,5 @@
 //! The calls of an account as lines of scenarios have them: each by its words, and what it gives as
-//! a text.
+//! a text. A new call is a function here and an arm of the `match` that it belongs to.
 
 ghost use Rattle.std.specs.Prelude.{◌≡◌, ◌≤◌, true, None};
 ghost use Rattle.ledger.specs.Pricing.{validity_of};
@@ -7,12 +7,36 @@ ghost use Rattle.reserving.specs.Sessions.{session_in, is_live_in};
 ghost use Rattle.reserving.specs.Prepared.{reservation_in};
 
 use crate::tests::tables::Words;
-use crate::tests::values::{end, money, session_id};
+use crate::tests::values::{end, moment, money, session_id};
 use identifiers::SessionId;
 use reserving::{Account, Granted, Session, SessionGroup, Settled};
 use std::alloc::Global;
 use std::process::Abort;
 use units::{Blocks, Moment, TariffChangeUsage, Units, UsedPart};
+
+/// A call at a moment: its name, and the text that its words are read of.
+#[derive(Clone, Copy)]
+pub(crate) struct Call<'c> {
+    at: Moment,
+    name: &'c str,
+    text: &'c str,
+}
+
+impl<'c> Call<'c> {
+    /// The call of a line, `MOMENT NAME TEXT`.
+    pub(crate) fn of(rt: &impl Abort, line: &'c str) -> Call<'c> {
+        let mut words = Words::of(line);
+        Call {
+            at: moment(rt, words.number(rt)),
+            name: words.word(),
+            text: words.rest(),
+        }
+    }
+
+    fn words(&self) -> Words<'c> {
+        Words::of(self.text)
+    }
+}
 
 /// Whether no request of the session is recorded.
 fn is_new(sessions: &[Session], id: &SessionId) -> bool
@@ -104,92 +128,56 @@ fn answer(rt: &impl Abort, alloc: Global, text: &str) -> String {
 }
 
 /// `UNTIL AMOUNT`: the bucket's number.
-pub(crate) fn credit(
-    rt: &impl Abort,
-    alloc: Global,
-    account: &mut Account,
-    text: &str,
-    at: Moment,
-) -> String {
-    let mut words = Words::of(text);
+fn credit(rt: &impl Abort, alloc: Global, account: &mut Account, call: &Call) -> String {
+    let mut words = call.words();
     let (until, amount) = (end(rt, words.number(rt)), money(rt, words.number(rt)));
-    must_be_later(rt, account, at);
-    let number = account.credit(at, until, None, amount, at);
+    must_be_later(rt, account, call.at);
+    let number = account.credit(call.at, until, None, amount, call.at);
     format!(in alloc; "{}", number.expect(rt, "a bucket")).expect(rt, "memory")
 }
 
 /// `UNTIL GROUP BLOCKS`: the bucket's number.
-pub(crate) fn allow(
-    rt: &impl Abort,
-    alloc: Global,
-    account: &mut Account,
-    text: &str,
-    at: Moment,
-) -> String {
-    let mut words = Words::of(text);
+fn allow(rt: &impl Abort, alloc: Global, account: &mut Account, call: &Call) -> String {
+    let mut words = call.words();
     let (until, group) = (end(rt, words.number(rt)), words.number(rt));
     let blocks: u64 = words.number(rt);
-    must_be_later(rt, account, at);
+    must_be_later(rt, account, call.at);
     assert!(rt; 1 <= blocks && blocks <= 1_000_000_000);
-    let number = account.allow(at, until, group, Blocks(blocks), at);
+    let number = account.allow(call.at, until, group, Blocks(blocks), call.at);
     format!(in alloc; "{}", number.expect(rt, "a bucket")).expect(rt, "memory")
 }
 
 /// `SESSION`.
-pub(crate) fn open(
-    rt: &impl Abort,
-    alloc: Global,
-    account: &mut Account,
-    text: &str,
-    at: Moment,
-) -> String {
-    let id = session_id(rt, alloc, text);
-    must_be_new(rt, account, &id, at);
-    account.open(&id, 0, at).expect(rt, "a session");
+fn open(rt: &impl Abort, alloc: Global, account: &mut Account, call: &Call) -> String {
+    let id = session_id(rt, alloc, call.text);
+    must_be_new(rt, account, &id, call.at);
+    account.open(&id, 0, call.at).expect(rt, "a session");
     answer(rt, alloc, "opened")
 }
 
 /// `SESSION`.
-pub(crate) fn deny(
-    rt: &impl Abort,
-    alloc: Global,
-    account: &mut Account,
-    text: &str,
-    at: Moment,
-) -> String {
-    let id = session_id(rt, alloc, text);
-    must_be_new(rt, account, &id, at);
-    account.deny(&id, 0, at).expect(rt, "a session");
+fn deny(rt: &impl Abort, alloc: Global, account: &mut Account, call: &Call) -> String {
+    let id = session_id(rt, alloc, call.text);
+    must_be_new(rt, account, &id, call.at);
+    account.deny(&id, 0, call.at).expect(rt, "a session");
     answer(rt, alloc, "denied")
 }
 
 /// `SESSION NUMBER`.
-pub(crate) fn touch(
-    rt: &impl Abort,
-    alloc: Global,
-    account: &mut Account,
-    text: &str,
-    at: Moment,
-) -> String {
-    let mut words = Words::of(text);
+fn touch(rt: &impl Abort, alloc: Global, account: &mut Account, call: &Call) -> String {
+    let mut words = call.words();
     let (session, number) = (words.word(), words.number(rt));
     let id = session_id(rt, alloc, session);
-    must_be_live(rt, account, &id, at);
-    account.touch(&id, number, at);
+    must_be_live(rt, account, &id, call.at);
+    account.touch(&id, number, call.at);
     answer(rt, alloc, "touched")
 }
 
 /// `SESSION`.
-pub(crate) fn close(
-    rt: &impl Abort,
-    alloc: Global,
-    account: &mut Account,
-    text: &str,
-    at: Moment,
-) -> String {
-    let id = session_id(rt, alloc, text);
-    must_be_live(rt, account, &id, at);
-    account.close(&id, at);
+fn close(rt: &impl Abort, alloc: Global, account: &mut Account, call: &Call) -> String {
+    let id = session_id(rt, alloc, call.text);
+    must_be_live(rt, account, &id, call.at);
+    account.close(&id, call.at);
     answer(rt, alloc, "closed")
 }
 
@@ -212,20 +200,14 @@ fn described(rt: &impl Abort, alloc: Global, granted: Granted) -> String {
 
 /// `SESSION GROUP UNITS`: the units granted, the switch, the validity, and whether they are fewer
 /// than wanted.
-pub(crate) fn reserve(
-    rt: &impl Abort,
-    alloc: Global,
-    account: &mut Account,
-    text: &str,
-    at: Moment,
-) -> String {
-    let mut words = Words::of(text);
+fn reserve(rt: &impl Abort, alloc: Global, account: &mut Account, call: &Call) -> String {
+    let mut words = call.words();
     let (session, group) = (words.word(), words.number(rt));
     let units = Some(Units(words.number(rt)));
     let id = session_id(rt, alloc, session);
-    must_be_live(rt, account, &id, at);
+    must_be_live(rt, account, &id, call.at);
     must_be_free(rt, account, &id, group);
-    let granted = account.reserve(&id, group, units, at);
+    let granted = account.reserve(&id, group, units, call.at);
     described(rt, alloc, granted.expect(rt, "a grant"))
 }
 
@@ -239,112 +221,75 @@ fn charged(rt: &impl Abort, alloc: Global, settled: Settled) -> String {
 }
 
 /// `SESSION GROUP PARTS`: what is charged.
-pub(crate) fn settle(
-    rt: &impl Abort,
-    alloc: Global,
-    account: &mut Account,
-    text: &str,
-    at: Moment,
-) -> String {
-    let mut words = Words::of(text);
+fn settle(rt: &impl Abort, alloc: Global, account: &mut Account, call: &Call) -> String {
+    let mut words = call.words();
     let (session, group) = (words.word(), words.number(rt));
     let id = session_id(rt, alloc, session);
     let parts = report(rt, alloc, words.rest());
-    must_be_live(rt, account, &id, at);
-    let settled = account.settle(&id, group, &parts, at);
+    must_be_live(rt, account, &id, call.at);
+    let settled = account.settle(&id, group, &parts, call.at);
     charged(rt, alloc, settled.expect(rt, "a settlement"))
 }
 
 /// `SESSION GROUP CHARGES PARTS`: whether a report would pass a limit after so many charges.
-pub(crate) fn limit(
-    rt: &impl Abort,
-    alloc: Global,
-    account: &Account,
-    text: &str,
-    at: Moment,
-) -> String {
-    let mut words = Words::of(text);
+fn limit(rt: &impl Abort, alloc: Global, account: &Account, call: &Call) -> String {
+    let mut words = call.words();
     let (session, group, charges) = (words.word(), words.number(rt), words.number(rt));
     let id = session_id(rt, alloc, session);
     let parts = report(rt, alloc, words.rest());
-    must_be_live(rt, account, &id, at);
-    let passes = account.count_use(&id, group, &parts, charges, at).is_err();
+    must_be_live(rt, account, &id, call.at);
+    let passes = account
+        .count_use(&id, group, &parts, charges, call.at)
+        .is_err();
     format!(in alloc; "{passes}").expect(rt, "memory")
 }
 
 /// `SESSION GROUP UNITS`: what is charged, if the funds cover it.
-pub(crate) fn debit(
-    rt: &impl Abort,
-    alloc: Global,
-    account: &mut Account,
-    text: &str,
-    at: Moment,
-) -> String {
-    let mut words = Words::of(text);
+fn debit(rt: &impl Abort, alloc: Global, account: &mut Account, call: &Call) -> String {
+    let mut words = call.words();
     let (session, group) = (words.word(), words.number(rt));
     let units = Units(words.number(rt));
     let id = session_id(rt, alloc, session);
-    must_be_later(rt, account, at);
-    match account.debit(&id, group, units, at).expect(rt, "a debit") {
+    must_be_later(rt, account, call.at);
+    match account
+        .debit(&id, group, units, call.at)
+        .expect(rt, "a debit")
+    {
         Some(settled) => charged(rt, alloc, settled),
         None => answer(rt, alloc, "not covered"),
     }
 }
 
 /// `GROUP UNITS`: what they would cost as an event.
-pub(crate) fn quote(
-    rt: &impl Abort,
-    alloc: Global,
-    account: &Account,
-    text: &str,
-    at: Moment,
-) -> String {
-    let mut words = Words::of(text);
+fn quote(rt: &impl Abort, alloc: Global, account: &Account, call: &Call) -> String {
+    let mut words = call.words();
     let (group, units) = (words.number(rt), Units(words.number(rt)));
-    let price = account.quote(group, units, at);
+    let price = account.quote(group, units, call.at);
     format!(in alloc; "{}", price.0).expect(rt, "memory")
 }
 
 /// `GROUP UNITS`: what those of their blocks would cost as an event that no allowance covers.
-pub(crate) fn rest(
-    rt: &impl Abort,
-    alloc: Global,
-    account: &Account,
-    text: &str,
-    at: Moment,
-) -> String {
-    let mut words = Words::of(text);
+fn rest(rt: &impl Abort, alloc: Global, account: &Account, call: &Call) -> String {
+    let mut words = call.words();
     let (group, units) = (words.number(rt), Units(words.number(rt)));
-    must_be_later(rt, account, at);
-    let price = account.quote_rest(group, units, at);
+    must_be_later(rt, account, call.at);
+    let price = account.quote_rest(group, units, call.at);
     format!(in alloc; "{}", price.0).expect(rt, "memory")
 }
 
 /// `GROUP`: the funds for it, and whether 600 units of it would be granted.
-pub(crate) fn funds(
-    rt: &impl Abort,
-    alloc: Global,
-    account: &Account,
-    text: &str,
-    at: Moment,
-) -> String {
-    let group = Words::of(text).number(rt);
-    must_be_later(rt, account, at);
-    let grants = account.would_grant(group, Some(Units(600)), at);
-    let funds = account.funds(group, at);
+fn funds(rt: &impl Abort, alloc: Global, account: &Account, call: &Call) -> String {
+    let group = call.words().number(rt);
+    must_be_later(rt, account, call.at);
+    let grants = account.would_grant(group, Some(Units(600)), call.at);
+    let funds = account.funds(group, call.at);
     format!(in alloc; "{} {grants}", funds.0).expect(rt, "memory")
 }
 
 /// `SESSION`: its last number, its state, and whether it is live at the moment.
-pub(crate) fn session(
-    rt: &impl Abort,
-    alloc: Global,
-    account: &Account,
-    text: &str,
-    at: Moment,
-) -> String {
-    let id = session_id(rt, alloc, text);
-    let live = account.is_live(&id, at);
+fn session(rt: &impl Abort, alloc: Global, account: &Account, call: &Call) -> String {
+    let id = session_id(rt, alloc, call.text);
+    let live = account.is_live(&id, call.at);
     match account.session(&id) {
         Some(row) => {
             let text = format!(in alloc; "{} {:?} {live}", row.last_number, row.state);
@@ -355,7 +300,7 @@ pub(crate) fn session(
 }
 
 /// Each counter's group, cycle and blocks.
-pub(crate) fn counters(rt: &impl Abort, alloc: Global, account: &Account) -> String {
+fn counters(rt: &impl Abort, alloc: Global, account: &Account) -> String {
     let mut text = String::new(alloc);
     for counter in account.counters() {
         let line = format!(in alloc; "{} {} {};", counter.group, counter.cycle, counter.blocks);
@@ -365,21 +310,57 @@ pub(crate) fn counters(rt: &impl Abort, alloc: Global, account: &Account) -> Str
     text
 }
 
-pub(crate) fn advance(rt: &impl Abort, alloc: Global, account: &mut Account, at: Moment) -> String {
-    must_be_later(rt, account, at);
-    account.advance(at);
+fn advance(rt: &impl Abort, alloc: Global, account: &mut Account, call: &Call) -> String {
+    must_be_later(rt, account, call.at);
+    account.advance(call.at);
     answer(rt, alloc, "advanced")
 }
 
 /// `on` or `off`: whether the account is barred then.
-pub(crate) fn bar(
+fn bar(rt: &impl Abort, alloc: Global, account: &mut Account, call: &Call) -> String {
+    must_be_later(rt, account, call.at);
+    account.set_barred(call.text == "on", call.at);
+    format!(in alloc; "{}", account.is_barred()).expect(rt, "memory")
+}
+
+/// What a call gives that changes nothing.
+fn read(rt: &impl Abort, alloc: Global, account: &Account, call: &Call) -> String {
+    match call.name {
+        "limit" => limit(rt, alloc, account, call),
+        "quote" => quote(rt, alloc, account, call),
+        "rest" => rest(rt, alloc, account, call),
+        "funds" => funds(rt, alloc, account, call),
+        "session" => session(rt, alloc, account, call),
+        _ => counters(rt, alloc, account),
+    }
+}
+
+/// What a call gives, first of those that change a session or the account alone.
+fn step(rt: &impl Abort, alloc: Global, account: &mut Account, call: &Call) -> String {
+    match call.name {
+        "open" => open(rt, alloc, account, call),
+        "deny" => deny(rt, alloc, account, call),
+        "touch" => touch(rt, alloc, account, call),
+        "close" => close(rt, alloc, account, call),
+        "bar" => bar(rt, alloc, account, call),
+        "advance" => advance(rt, alloc, account, call),
+        _ => read(rt, alloc, account, call),
+    }
+}
+
+/// What a call gives, first of those that change money.
+pub(crate) fn outcome(
     rt: &impl Abort,
     alloc: Global,
     account: &mut Account,
-    text: &str,
-    at: Moment,
+    call: &Call,
 ) -> String {
-    must_be_later(rt, account, at);
-    account.set_barred(text == "on", at);
-    format!(in alloc; "{}", account.is_barred()).expect(rt, "memory")
+    match call.name {
+        "credit" => credit(rt, alloc, account, call),
+        "allow" => allow(rt, alloc, account, call),
+        "reserve" => reserve(rt, alloc, account, call),
+        "settle" => settle(rt, alloc, account, call),
+        "debit" => debit(rt, alloc, account, call),
+        _ => step(rt, alloc, account, call),
+    }
 }
