@@ -1,6 +1,6 @@
 //! Tests of `tariffs` and `shelves`.
 
-mod documents;
+pub(crate) mod documents;
 mod faults;
 mod limits;
 mod lookups;

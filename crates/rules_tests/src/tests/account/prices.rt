@@ -4,6 +4,7 @@
 //! 90000. What tiers give is compared with a sum over blocks.
 
 use crate::tests::tables::{Teller, Words, try_table};
+use crate::tests::tariff::documents::{group, price};
 use crate::tests::values::book;
 use calendar::Period;
 use rating::{Grant, Means, Part, greatest_grant, rate, rate_report};
@@ -17,76 +18,47 @@ const OFF: Period = Period(0);
 
 const PEAK: Period = Period(1);
 
-/// Two periods of half a day each, and groups in blocks of one. Group 40: the first 400000000 at 2
-/// and the others at 3, or in the dearer period the first 600000000 at 1 and the others at 7.
-/// Groups 1 to 3: up to eight tiers with low bounds.
-const TIERS: &str = r#"zone = "+00:00"
+/// Two periods, each of half of every day.
+const HALF_DAYS: &str = r#"zone = "+00:00"
 currency = 978
 validity = 3600
 periods = ["off", "peak"]
-[[week]]
-period = "off"
-days = [1, 2, 3, 4, 5, 6, 7]
-from = "00:00"
-to = "12:00"
-[[week]]
-period = "peak"
-days = [1, 2, 3, 4, 5, 6, 7]
-from = "12:00"
-to = "24:00"
-[[group]]
-id = 40
-unit = "octets"
-block = 1
-slice = 1
-max_grant = 999999999
-cycle = "none"
-final = "terminate"
-price = [
-  {period = "off", tiers = [{upto = 400000000, price = 2}, {price = 3}]},
-  {period = "peak", tiers = [{upto = 600000000, price = 1}, {price = 7}]},
-]
-[[group]]
-id = 1
-unit = "events"
-block = 1
-slice = 1
-max_grant = 100
-cycle = "none"
-final = "terminate"
-price = [
-  {period = "off", tiers = [{upto = 1, price = 5}, {price = 3}]},
-  {period = "peak", tiers = [{upto = 2, price = 4}, {upto = 3, price = 9}, {price = 0}]},
-]
-[[group]]
-id = 2
-unit = "events"
-block = 1
-slice = 1
-max_grant = 100
-cycle = "none"
-final = "terminate"
-price = [
-  {period = "off", tiers = [{upto = 1, price = 1}, {upto = 2, price = 9}, {upto = 3, price = 2},
-    {upto = 4, price = 8}, {upto = 5, price = 3}, {upto = 6, price = 7}, {upto = 7, price = 4},
-    {price = 6}]},
-  {period = "peak", tiers = [{upto = 2, price = 6}, {upto = 3, price = 0}, {upto = 5, price = 5},
-    {upto = 7, price = 10}, {upto = 11, price = 1}, {upto = 13, price = 2},
-    {upto = 17, price = 3}, {price = 4}]},
-]
-[[group]]
-id = 3
-unit = "events"
-block = 1
-slice = 1
-max_grant = 100
-cycle = "none"
-final = "terminate"
-price = [
-  {period = "off", tiers = [{price = 7}]},
-  {period = "peak", tiers = [{upto = 10, price = 0}, {price = 20}]},
-]
+week = [{period = "off", days = [1, 2, 3, 4, 5, 6, 7], from = "00:00", to = "12:00"},
+  {period = "peak", days = [1, 2, 3, 4, 5, 6, 7], from = "12:00", to = "24:00"}]
 "#;
+
+/// Groups by their tiers in the first period and in the dearer one. Group 40: the first 400000000 at
+/// 2 and the others at 3, or in the dearer period the first 600000000 at 1 and the others at 7.
+/// Groups 1 to 3: up to eight tiers with low bounds.
+const TIERS: &str = "\
+40 {upto = 400000000, price = 2}, {price = 3}; {upto = 600000000, price = 1}, {price = 7}
+1 {upto = 1, price = 5}, {price = 3}; {upto = 2, price = 4}, {upto = 3, price = 9}, {price = 0}
+2 {upto = 1, price = 1}, {upto = 2, price = 9}, {upto = 3, price = 2}, {upto = 4, price = 8},
+   {upto = 5, price = 3}, {upto = 6, price = 7}, {upto = 7, price = 4}, {price = 6};
+   {upto = 2, price = 6}, {upto = 3, price = 0}, {upto = 5, price = 5}, {upto = 7, price = 10},
+   {upto = 11, price = 1}, {upto = 13, price = 2}, {upto = 17, price = 3}, {price = 4}
+3 {price = 7}; {upto = 10, price = 0}, {price = 20}";
+
+/// The group of a line, `NUMBER TIERS; TIERS`.
+fn group_of_tiers(rt: &impl Abort, alloc: Global, line: &str) -> String {
+    let mut words = Words::of(line);
+    let number = words.number(rt);
+    let (off, peak) = words.rest().split_once("; ").expect(rt, "two periods");
+    let (off, peak) = (price(rt, alloc, "off", off), price(rt, alloc, "peak", peak));
+    let prices = format!(in alloc; "{off}{peak}").expect(rt, "memory");
+    group(rt, alloc, number, prices.as_str())
+}
+
+/// The book of two half days with a group for each line of `TIERS`.
+fn book_of_tiers(rt: &impl Abort, alloc: Global) -> TariffBook {
+    let mut text = String::from_str(alloc, HALF_DAYS).expect(rt, "memory");
+    let lines = TIERS.replace(alloc, "\n  ", "").expect(rt, "memory");
+    for line in lines.as_str().lines() {
+        let group = group_of_tiers(rt, alloc, line);
+        text.push_str(group.as_str()).expect(rt, "memory");
+    }
+    book(rt, alloc, text.as_str())
+}
 
 /// The prices of a group before a switch and after it.
 fn prices_of<'b>(
@@ -285,7 +257,7 @@ covered 40 0 0 700000000 before 600000000 after 400000000 => 2100000000 10000000
 // rule: grant-greatest, rating-steps
 #[test]
 fn a_billion_blocks(rt: HostRuntime) {
-    let book = book(&rt, rt.alloc(), TIERS);
+    let book = book_of_tiers(&rt, rt.alloc());
     try_table(&rt, rt.alloc(), &mut Rater { book: &book }, MANY_BLOCKS);
 }
 
@@ -391,6 +363,6 @@ otherwise 3 1 0 => 0";
 // rule: rated-amount
 #[test]
 fn tiers_tell_what_blocks_do(rt: HostRuntime) {
-    let book = book(&rt, rt.alloc(), TIERS);
+    let book = book_of_tiers(&rt, rt.alloc());
     try_table(&rt, rt.alloc(), &mut Rater { book: &book }, OTHERWISE);
 }

@@ -83,25 +83,35 @@ pub(crate) fn sliced(
     book_of(rt, alloc, zone, week.as_str())
 }
 
-/// The book of a week's entries, with one group.
+/// The book of a week's entries, with one group: an event costs 1, 2 or 3 by its period.
 fn book_of(rt: &impl Abort, alloc: Global, zone: &str, week: &str) -> String {
     let head = format!(in alloc; "zone = \"{zone}\"\ncurrency = 978\nvalidity = 43200\n");
     let head = head.expect(rt, "memory");
-    let text = format!(in alloc; "{head}periods = [\"a\", \"b\", \"c\"]\n{week}{GROUP_OF_THREE}");
+    let group = group(rt, alloc, 1, ONE_TWO_THREE);
+    let text = format!(in alloc; "{head}periods = [\"a\", \"b\", \"c\"]\n{week}{group}");
     text.expect(rt, "memory")
 }
 
-const GROUP_OF_THREE: &str = "[[group]]
-id = 1
-unit = \"events\"
+const ONE_TWO_THREE: &str = "{period = \"a\", tiers = [{price = 1}]},
+  {period = \"b\", tiers = [{price = 2}]}, {period = \"c\", tiers = [{price = 3}]}";
+
+/// A group of single events but for its number and its prices.
+const EVENTS: &str = "unit = \"events\"
 block = 1
 slice = 1
 max_grant = 1
 cycle = \"none\"
 final = \"terminate\"
-price = [
-  {period = \"a\", tiers = [{price = 1}]},
-  {period = \"b\", tiers = [{price = 2}]},
-  {period = \"c\", tiers = [{price = 3}]},
-]
 ";
+
+/// A group of single events by its number and the prices of its periods.
+pub(crate) fn group(rt: &impl Abort, alloc: Global, number: u32, prices: &str) -> String {
+    let text = format!(in alloc; "[[group]]\nid = {number}\n{EVENTS}price = [{prices}]\n");
+    text.expect(rt, "memory")
+}
+
+/// The prices of a period by its tiers, before those of another.
+pub(crate) fn price(rt: &impl Abort, alloc: Global, period: &str, tiers: &str) -> String {
+    let text = format!(in alloc; "{{period = \"{period}\", tiers = [{tiers}]}}, ");
+    text.expect(rt, "memory")
+}

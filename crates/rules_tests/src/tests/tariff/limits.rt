@@ -1,7 +1,7 @@
 //! Books with as many entries, groups, periods and tiers as there may be, and with one more.
 
 use crate::tests::tables::{Teller, Words, try_table};
-use crate::tests::tariff::documents::entry;
+use crate::tests::tariff::documents::{entry, group, price};
 use crate::tests::tariff::faults::outcome;
 use std::alloc::Global;
 use std::process::Abort;
@@ -10,14 +10,6 @@ const HEAD: &str = "zone = \"+00:00\"
 currency = 978
 validity = 3600
 periods = [\"a\", \"b\", \"c\", \"d\", \"e\", \"f\", \"g\", \"h\"]
-";
-
-const GROUP: &str = "unit = \"events\"
-block = 1
-slice = 1
-max_grant = 1
-cycle = \"none\"
-final = \"terminate\"
 ";
 
 /// So many entries: each of a minute of each day, and the last of what is left of the days.
@@ -51,8 +43,7 @@ fn prices(rt: &impl Abort, alloc: Global, count: u32) -> String {
     let tiers = tiers(rt, alloc, count);
     let mut text = String::new(alloc);
     for period in "a b c d e f g h".split(" ") {
-        let price = format!(in alloc; "{{period = \"{period}\", tiers = [{tiers}]}}, ");
-        let price = price.expect(rt, "memory");
+        let price = price(rt, alloc, period, tiers.as_str());
         text.push_str(price.as_str()).expect(rt, "memory");
     }
     text
@@ -61,9 +52,8 @@ fn prices(rt: &impl Abort, alloc: Global, count: u32) -> String {
 /// So many groups of the same prices.
 fn groups(rt: &impl Abort, alloc: Global, count: u32, prices: &str) -> String {
     let mut text = String::new(alloc);
-    for id in 0..count {
-        let group = format!(in alloc; "[[group]]\nid = {id}\n{GROUP}price = [{prices}]\n");
-        let group = group.expect(rt, "memory");
+    for number in 0..count {
+        let group = group(rt, alloc, number, prices);
         text.push_str(group.as_str()).expect(rt, "memory");
     }
     text
