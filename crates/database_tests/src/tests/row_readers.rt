@@ -25,19 +25,11 @@ pub(crate) struct Given {
 
 /// `NUMBER FROM UNTIL SCOPE CREDITED AVAILABLE RESERVED CHARGED EXPIRED`.
 fn bucket(rt: &impl Abort, words: &[&str]) -> Bucket {
-    let [
-        number,
-        from,
-        until,
-        scope,
-        credited,
-        available,
-        reserved,
-        charged,
-        expired,
-    ] = words
-    else {
+    let [number, from, until, scope, amounts @ ..] = words else {
         panic!(rt; "a bucket")
+    };
+    let [credited, available, reserved, charged, expired] = amounts else {
+        panic!(rt; "five amounts")
     };
     let columns = Columns {
         number: small(rt, number),
@@ -140,18 +132,11 @@ fn group(rt: &impl Abort, alloc: Global, words: &[&str]) -> SessionGroup {
 
 /// `NUMBER MOMENT SESSION GROUP BLOCKS RATED COLLECTED UNCOLLECTED`.
 fn charge(rt: &impl Abort, alloc: Global, words: &[&str]) -> ChargeRow {
-    let [
-        number,
-        moment,
-        name,
-        of_group,
-        blocks,
-        rated,
-        collected,
-        uncollected,
-    ] = words
-    else {
+    let [number, moment, name, of_group, blocks, amounts @ ..] = words else {
         panic!(rt; "a charge")
+    };
+    let [rated, collected, uncollected] = amounts else {
+        panic!(rt; "three amounts")
     };
     let collected = large(rt, collected) as u128;
     let uncollected = large(rt, uncollected) as u128;
