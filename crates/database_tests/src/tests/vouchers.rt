@@ -1,16 +1,12 @@
 //! A voucher that is added, redeemed by a change, and added once more.
 
-use crate::tests::new_keepers::{change_of, new_keeper};
+use crate::tests::new_keepers::{Trial, change_of, new_trial};
 use crate::tests::row_writers::{push, push_voucher};
 use crate::tests::values::{account, code, moment, money};
 use keepers::Redeemed;
 use reserving::Account;
 use shelves::TariffShelf;
-use sql_keeper::SqlKeeper;
-use sqlite::MemStore;
-use std::alloc::Global;
 use std::process::Abort;
-use units::Moment;
 use voucher_rules::{Voucher, VoucherTerms};
 
 /// Monday, 2026-01-05, 10:00.
@@ -33,51 +29,32 @@ fn other_terms(rt: &impl Abort) -> VoucherTerms {
 }
 
 /// What is under a code.
-fn tell_voucher(
-    rt: &impl Abort,
-    alloc: Global,
-    keeper: &mut SqlKeeper<MemStore>,
-    digits: &str,
-    text: &mut String,
-) {
-    let found = keeper
-        .find_voucher(&code(rt, alloc, digits))
-        .expect(rt, "a look");
+fn tell_voucher(rt: &impl Abort, trial: &mut Trial, digits: &str) {
+    let code = code(rt, trial.alloc, digits);
+    let found = trial.keeper.find_voucher(&code).expect(rt, "a look");
     match &found {
-        Some(voucher) => push_voucher(rt, text, voucher),
-        None => push(rt, text, "no voucher\n"),
+        Some(voucher) => push_voucher(rt, &mut trial.told, voucher),
+        None => push(rt, &mut trial.told, "no voucher\n"),
     }
 }
 
 /// What is under two codes, and the moment of the last change.
-fn tell_vouchers(
-    rt: &impl Abort,
-    alloc: Global,
-    keeper: &mut SqlKeeper<MemStore>,
-    text: &mut String,
-) {
-    tell_voucher(rt, alloc, keeper, "000000000001", text);
-    tell_voucher(rt, alloc, keeper, "000000000002", text);
-    let last = keeper.last().expect(rt, "a moment").seconds();
-    write!(text, "last {last}\n").expect(rt, "room");
+fn tell_vouchers(rt: &impl Abort, trial: &mut Trial) {
+    tell_voucher(rt, trial, "000000000001");
+    tell_voucher(rt, trial, "000000000002");
+    trial.tell_last(rt);
 }
 
 /// Adds the first voucher.
-fn add(
-    rt: &impl Abort,
-    alloc: Global,
-    keeper: &mut SqlKeeper<MemStore>,
-    terms: VoucherTerms,
-    at: Moment,
-) {
-    let code = code(rt, alloc, "000000000001");
-    keeper
-        .add_voucher(code, terms, at)
-        .expect(rt, "an addition");
+fn add(rt: &impl Abort, trial: &mut Trial, terms: VoucherTerms, at: u64) {
+    let code = code(rt, trial.alloc, "000000000001");
+    let added = trial.keeper.add_voucher(code, terms, moment(rt, at));
+    added.expect(rt, "an addition");
 }
 
 /// An account redeems the first voucher.
-fn redeem(rt: &impl Abort, alloc: Global, keeper: &mut SqlKeeper<MemStore>, shelf: &TariffShelf) {
+fn redeem(rt: &impl Abort, trial: &mut Trial, shelf: &TariffShelf) {
+    let alloc = trial.alloc;
     let before = Account::new(alloc, shelf).into_stored();
     let after = Account::new(alloc, shelf).into_stored();
     let mut change = change_of(rt, alloc, moment(rt, REDEEMED), "49151", (before, after));
@@ -88,7 +65,7 @@ fn redeem(rt: &impl Abort, alloc: Global, keeper: &mut SqlKeeper<MemStore>, shel
             redeemer: Some(account(rt, alloc, "49151")),
         },
     });
-    keeper.commit(change).expect(rt, "a commit");
+    trial.keeper.commit(change).expect(rt, "a commit");
 }
 
 /// What is there before the voucher is added, after it is, after it is redeemed, and after
@@ -107,28 +84,20 @@ no voucher
 last 1767614400
 ";
 
-fn try_vouchers(
-    rt: &impl Abort,
-    alloc: Global,
-    keeper: &mut SqlKeeper<MemStore>,
-    shelf: &TariffShelf,
-    text: &mut String,
-) {
-    tell_vouchers(rt, alloc, keeper, text);
-    add(rt, alloc, keeper, terms(rt), moment(rt, ADDED));
-    tell_vouchers(rt, alloc, keeper, text);
-    redeem(rt, alloc, keeper, shelf);
-    tell_vouchers(rt, alloc, keeper, text);
-    add(rt, alloc, keeper, other_terms(rt), moment(rt, ADDED_AGAIN));
-    tell_vouchers(rt, alloc, keeper, text);
+fn try_vouchers(rt: &impl Abort, trial: &mut Trial, shelf: &TariffShelf) {
+    tell_vouchers(rt, trial);
+    add(rt, trial, terms(rt), ADDED);
+    tell_vouchers(rt, trial);
+    redeem(rt, trial, shelf);
+    tell_vouchers(rt, trial);
+    add(rt, trial, other_terms(rt), ADDED_AGAIN);
+    tell_vouchers(rt, trial);
 }
 
 // rule: voucher-add.with-voucher, database-reads.find-answer, answer-rows
 #[test]
 fn a_voucher_is_added_and_redeemed(rt: HostRuntime) {
-    let alloc = rt.alloc();
-    let (mut keeper, shelf) = new_keeper(&rt, alloc);
-    let mut text = String::new(alloc);
-    try_vouchers(&rt, alloc, &mut keeper, &shelf, &mut text);
-    assert_eq!(rt; text.as_str(), VOUCHERS);
+    let (mut trial, shelf) = new_trial(&rt, rt.alloc());
+    try_vouchers(&rt, &mut trial, &shelf);
+    assert_eq!(rt; trial.told.as_str(), VOUCHERS);
 }
