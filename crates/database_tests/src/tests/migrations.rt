@@ -104,8 +104,8 @@ fn is_told(rt: &impl Abort, alloc: Global, tables: u32, version: u32, wanted: &s
     );
 }
 
-const OF_AN_OLDER: &str = "open: fault 6
-migrate: books 1
+/// What is told of a database that is brought to the latest version, after the first opening.
+const BROUGHT: &str = "migrate: books 1
 book fault 1
 shelf fault 3
 added
@@ -113,21 +113,17 @@ shelf fault 3
 open: books 2
 ";
 
-const OF_THE_LATEST: &str = "open: books 1
-migrate: books 1
-book fault 1
-shelf fault 3
-added
-shelf fault 3
-open: books 2
-";
+fn is_brought(rt: &impl Abort, alloc: Global, version: u32, opened: &str) {
+    let wanted = format!(in alloc; "{opened}{BROUGHT}").expect(rt, "room");
+    is_told(rt, alloc, version, version, wanted.as_str());
+}
 
 #[test]
 fn each_version_is_brought_to_the_latest(rt: HostRuntime) {
     let alloc = rt.alloc();
-    is_told(&rt, alloc, 1, 1, OF_AN_OLDER);
-    is_told(&rt, alloc, 2, 2, OF_AN_OLDER);
-    is_told(&rt, alloc, 3, 3, OF_THE_LATEST);
+    is_brought(&rt, alloc, 1, "open: fault 6\n");
+    is_brought(&rt, alloc, 2, "open: fault 6\n");
+    is_brought(&rt, alloc, 3, "open: books 1\n");
 }
 
 // rule: database-migrated.ruled-version
